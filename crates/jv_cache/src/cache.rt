@@ -31,7 +31,8 @@ impl BlockCache {
     ghost use Rattle.jv_cache.specs.Loans.{EndsNoted};
     ghost use Rattle.jv_cache.specs.Cached.{found_in, promoted_in, noted_in, kept_in, IsFirst};
 
-    /// An empty cache of at most `entries` blocks. It takes memory for a block only when that is kept.
+    /// An empty cache of at most `entries` blocks. It takes memory for a block only when that is kept. The only error
+    /// is out of memory.
     pub fn new(alloc: Global, entries: usize) -> Result<BlockCache, AllocError>
         ensures { IfOk result (λ cache. cache ≡ record {
           blocks = [];

@@ -10,14 +10,14 @@ use Rattle.jv_model.specs.declared.limits.TheConstants.{ROOT, TRASH_ROOT}
 use Rattle.jv_model.specs.declared.row.Row.{Row}
 use Rattle.jv_model.specs.declared.row.RowKey.{RowKey}
 use Rattle.jv_model.specs.FiniteMap.{get, alter}
-use Rattle.jv_model.specs.rows.RowKeys.{RowMap, row_key}
+use Rattle.jv_model.specs.rows.RowKeys.{RowMap, row_key, is_key_of}
 use Rattle.jv_model.specs.rows.RowPlaces.{node_key}
 use Rattle.jv_model.specs.tree.Tree.{Tree}
 use Rattle.jv_outside.specs.declared.batch.Change.{Change}
 use Rattle.jv_outside.specs.Store.{Store}
 use Rattle.jv_rows.specs.Drafts.{drafted, cell, Drafts, Sees, RefusesCell, Needs, IsNoRow, RefusesNeeded}
 use Rattle.jv_rows.specs.Readings.{RowCause}
-use Rattle.jv_rows.specs.Transactions.{FaultCause, is_key_of, is_needed, IsBad, Malformed, Lacks, BadFault}
+use Rattle.jv_rows.specs.Transactions.{FaultCause, is_needed, IsBad, Malformed, Lacks, BadFault}
 use Rattle.jv_volume.specs.Shape.{is_top}
 use Rattle.jv_rows.proofs.TransactionLaws.{of_known, if_known}
 use Rattle.jv_volume.specs.TypedRows.{Cell, Rows, typed}

@@ -22,6 +22,7 @@ use Rattle.jv_volume.specs.Shape.{WholeShape, shape_of}
 use Rattle.jv_volume.specs.Whole.{Whole, no_bytes}
 use Rattle.jv_volume.proofs.QuietLaws.{quiet-none, quiet-slices}
 use Rattle.jv_volume.proofs.StoredLaws.{same_shape, stored-again, whole-stored}
+use Rattle.jv_volume.proofs.WalkShapeLaws.{same_Ok}
 use Rattle.jv_changes.specs.Drafting.{Minds, AreRows, Led, LeadsTo, Drafting}
 
 -- ---- what is in mind
@@ -110,11 +111,8 @@ module _ (ready : Tree → Type 0) (before middle after : Store) (was changes : 
 
   led_tree : (known : RowMap) (bytes : ℕ → ℕ → ℕ) (model : Result Tree Fault) (t : Tree) → model ≡ Ok t
       → Led known changes bytes model → Minds known changes bytes t
-  led_tree known bytes model t is led = subst (Minds known changes bytes) (same_tree led.left t (sym led.is ∙ is))
+  led_tree known bytes model t is led = subst (Minds known changes bytes) (same_Ok led.left t (sym led.is ∙ is))
       led.minds
-    where
-      same_tree : (u v : Tree) → ◌≡◌ {A = Result Tree Fault} (Ok u) (Ok v) → u ≡ v
-      same_tree u v e = cc
 
   -- one more step, which the model makes
   pub steps-on : {A : Type 0} (x : A) (step_ready : Tree → Type 0) (step : Tree → Result Tree Fault) (next : Tree

@@ -17,19 +17,20 @@ use Rattle.jv_model.specs.rows.RowPlaces.{node_key, edge_key}
 use Rattle.jv_model.specs.tree.Attempt.{◌>>=◌, require}
 use Rattle.jv_model.specs.tree.Tree.{Tree, Node, EntryKey, parent_of, is_directory, link_count, links_fit, node_at}
 use Rattle.jv_model.specs.tree.Changes.{put_entry, take_entry}
+use Rattle.jv_model.proofs.TestLaws.{some_same}
 use Rattle.jv_outside.specs.declared.batch.Change.{Change}
 use Rattle.jv_outside.specs.Store.{Store}
 use Rattle.jv_rows.specs.Drafts.{drafted}
 use Rattle.jv_volume.specs.TypedRows.{Cell, Rows, is_entry_name, typed}
 use Rattle.jv_volume.specs.Views.{row_in, node_in, node_row_at}
 use Rattle.jv_volume.specs.TreeOf.{tree_of}
-use Rattle.jv_volume.specs.Stored.{Stored, links_by}
+use Rattle.jv_volume.specs.Stored.{Stored, links_by, directory_touched}
 use Rattle.jv_volume.specs.Whole.{IsRowAt}
 use Rattle.jv_volume.proofs.StoredLaws.{HasNode, found_node}
 use Rattle.jv_volume.proofs.StoredStepLaws.{alter_kept, node_apart, node_here}
 use Rattle.jv_volume.proofs.EntryStepLaws.{rows_with_entry, tree_of-entry_in, stored-entry_in, rows_without_entry, tree_of-entry_out, stored-entry_out}
 use Rattle.jv_changes.specs.Drafting.{Minds, Drafting}
-use Rattle.jv_changes.specs.Present.{Presents, to_node, directory_touched, linked_row}
+use Rattle.jv_changes.specs.Present.{Presents, to_node, linked_row}
 use Rattle.jv_changes.specs.Ready.{StandsAt, MayStandAt, entry_put, IsThere}
 use Rattle.jv_changes.proofs.DraftedLaws.{Drafted, are_rows-put, are_rows-drop, Stays, stays-then, drafting-made, drafting-refused}
 use Rattle.jv_changes.proofs.PresentLaws.{stays-present, present-stands, drafting-absent, Sound, sound-minds, minds-sound, sound-node, sound-edge}
@@ -169,13 +170,10 @@ module _ (known : RowMap) (was : List Change) (bytes : ℕ → ℕ → ℕ) (t :
     minds-entry_in name changes is = minds-sound known changes bytes (put_entry t now at inode) rows_in
         (sound-three rows at inode row dir here there apart (Some edge_cell) (typed known)
         (sound-minds known was bytes t m)
-        (λ x e. subst (IsRowAt (edge_key at.dir at.name)) (same_cell edge_cell x e)
+        (λ x e. subst (IsRowAt (edge_key at.dir at.name)) (some_same edge_cell x e)
         (record { key_is = name; cell_is = refl })) now
         (dir.nlink + links_by row.kind) (row.nlink + to_node row.kind))
         is tree_in stored_in
-      where
-        same_cell : (x y : Cell) → Some x ≡ Some y → x ≡ y
-        same_cell x y e = cc
 
 -- ---- whether links can be stored
 

@@ -12,7 +12,7 @@ use Rattle.jv_model.specs.declared.fault.TxFault.{TxFault}
 use Rattle.jv_model.specs.rows.RowGrammar.{is_counters}
 use Rattle.jv_model.specs.rows.RowKeys.{row_key, RowMap}
 use Rattle.jv_model.specs.rows.RowPlaces.{counters_key, node_key, sustained_key, dropped_key}
-use Rattle.jv_model.specs.tree.Changes.{drop_node}
+use Rattle.jv_model.specs.tree.Changes.{drop_node, content_of}
 use Rattle.jv_model.specs.tree.Tree.{Tree, File, Directory, Symlink, paged, kind_space, node_space, node_count, is_counted}
 use Rattle.jv_outside.specs.declared.batch.Change.{Change}
 use Rattle.jv_outside.specs.Store.{Store}
@@ -22,7 +22,7 @@ use Rattle.jv_rows.proofs.TransactionLaws.{of_known}
 use Rattle.jv_rows.proofs.WalkLaws.{of_top}
 use Rattle.jv_volume.specs.TypedRows.{Cell, Rows, typed}
 use Rattle.jv_volume.specs.Views.{row_in, counters_in, counters_at, node_row_at}
-use Rattle.jv_volume.specs.TreeOf.{counters_of, node_of, kind_of, content_of, tree_of}
+use Rattle.jv_volume.specs.TreeOf.{counters_of, node_of, kind_of, tree_of}
 use Rattle.jv_volume.specs.Shape.{is_top}
 use Rattle.jv_volume.specs.Stored.{Stored}
 use Rattle.jv_volume.specs.Whole.{IsRowAt, Quiet}

@@ -4,7 +4,7 @@ use Rattle.std.specs.Prelude.{◌==◌, ◌&&◌, ◌||◌, not, if◌then◌els
 use Rattle.std.specs.Option.{option_map}
 use Rattle.std.proofs.lemmas.Bool.{le-ltb, le-leb}
 use Rattle.jv_model.specs.declared.fault.Fault.TheVariants.{NoSpace}
-use Rattle.jv_model.specs.declared.limits.TheConstants.{MAX_LINKS}
+use Rattle.jv_model.specs.declared.limits.TheConstants.{MAX_LINKS, READ_ONLY_MODE}
 use Rattle.jv_model.specs.declared.row.Counters.{Counters}
 use Rattle.jv_model.specs.declared.row.Node.{Node as NodeRow}
 use Rattle.jv_model.specs.FiniteMap.{number_key, insert}
@@ -14,7 +14,8 @@ use Rattle.jv_model.specs.tree.Attempt.{◌>>=◌, require}
 use Rattle.jv_model.specs.tree.Changes.{put_node, put_entry, with_node}
 use Rattle.jv_model.specs.tree.HourNames.{Date, date_of, date_text, day_hours, hour_name, two_digits}
 use Rattle.jv_model.specs.tree.Trash.{hour_inode, hour_place, with_hour}
-use Rattle.jv_model.specs.tree.Tree.{Tree, Node, Directory, trash_root, root, read_only_mode, new_node, node_at, is_directory, is_counted, node_space, node_count, link_count, links_fit}
+use Rattle.jv_model.specs.tree.Tree.{Tree, Node, Directory, trash_root, root, new_node, node_at, is_directory, is_counted, node_space, node_count, link_count, links_fit}
+use Rattle.jv_model.proofs.TestLaws.{and_false}
 use Rattle.jv_volume.specs.TypedRows.{Cell, Rows, is_entry_name}
 use Rattle.jv_volume.specs.Views.{counters_at, node_row_at, dropped_at}
 use Rattle.jv_volume.specs.TreeOf.{node_of, tree_of}
@@ -39,7 +40,7 @@ use Rattle.jv_changes.proofs.HourLinkLaws.{trash_links}
 
 -- the directory of an hour, as it comes
 abbrev pub hour_dir : ℕ → Node
-hour_dir now = new_node (Directory trash_root) read_only_mode now
+hour_dir now = new_node (Directory trash_root) READ_ONLY_MODE now
 
 pub with_hour-there : (t : Tree) (now hour : ℕ) (node : Node) → node_at t (hour_inode hour) ≡ Some node
     → with_hour t now hour ≡ t
@@ -60,11 +61,7 @@ with_hour-comes t now hour none = ap (λ (o : Option Node). elim o as (λ _. Tre
 
 uncounted : (inode : ℕ) → trash_root < inode → is_counted inode ≡ false
 uncounted inode high = ap (λ b. not (inode == root) && b) (le-ltb inode trash_root (omega arith))
-    ∙ neither (not (inode == root))
-  where
-    neither : (b : Bool) → (b && false) ≡ false
-    neither true = refl
-    neither false = refl
+    ∙ and_false (not (inode == root))
 
 -- names of hours are those of entries
 digit_is_text : (n : ℕ) → not ((48 + n == 47) || (48 + n == 0)) ≡ true

@@ -4,12 +4,13 @@ use Rattle.std.specs.Prelude.{◌==◌, ◌&&◌, if◌then◌else◌, nat_lt, n
 use Rattle.std.proofs.lemmas.Bool.{cases_eq, cond-false, ne_eqb, leb-true, and_parts}
 use Rattle.jv_model.specs.declared.lifetimes.TheConstants.{FIRST_HOUR}
 use Rattle.jv_model.specs.FiniteMap.{Map, get, remove, sum_over}
-use Rattle.jv_model.specs.tree.Tree.{Tree, EntryKey, entry_key, trash_root, link_count}
+use Rattle.jv_model.specs.tree.Tree.{Tree, EntryKey, entry_key, trash_root, link_count, name_count}
 use Rattle.jv_model.specs.tree.Trash.{hour_of, hour_place}
+use Rattle.jv_model.proofs.TestLaws.{at_most_one}
 use Rattle.jv_volume.specs.Shape.{NamesHour, shape_of}
 use Rattle.jv_volume.proofs.LinkLaws.{within_of, dirs_of, link_count-shape}
 use Rattle.jv_volume.proofs.MapLaws.{sum-gone, sum-nothing, remove-absent}
-use Rattle.jv_volume.proofs.ShapeMapLaws.{count_of, get-removed, get-remove_apart, same_or_apart}
+use Rattle.jv_volume.proofs.ShapeMapLaws.{get-removed, get-remove_apart, same_or_apart}
 
 -- an entry adds nothing to a sum, or is that of an hour below a bound
 data AddsFew (n : ℕ) (at : EntryKey) (adds : ℕ) : Type 0 where
@@ -88,14 +89,10 @@ adds_few : (dirs : ℕ → Bool) (at : EntryKey) (inode : ℕ) → (at.dir ≡ t
 adds_few dirs at inode hours = elim (cases_eq at.dir trash_root) [
   | inl same ↦
       let n = hours same in
-      AddsOne (at_most (at.dir == trash_root && dirs inode)) (hour_of inode) (hour_small at inode n)
+      AddsOne (at_most_one (at.dir == trash_root && dirs inode)) (hour_of inode) (hour_small at inode n)
       (λ i. record { dir = same i; name = n.name i })
   | inr apart ↦ AddsNone (ap (λ b. if b && dirs inode then 1 else 0) (ne_eqb at.dir trash_root apart))
 ]
-  where
-    at_most : (b : Bool) → (if b then 1 else 0) ≤ 1
-    at_most true = omega arith
-    at_most false = omega arith
 
 -- the trash has links to spare
 pub trash_links : (t : Tree) → ((at : EntryKey) (inode : ℕ) → get t.entries at ≡ Some inode → at.dir ≡ trash_root
@@ -106,5 +103,5 @@ trash_links t hours trash =
     let few = sum-few (within_of dirs trash_root) hours_end t.entries
     (λ at inode there. adds_few dirs at inode (hours at inode there)) in
     let counted = link_count-shape t trash_root
-    ∙ ap (λ b. if b then 2 + sum_over (within_of dirs trash_root) t.entries else count_of t.entries trash_root) trash in
+    ∙ ap (λ b. if b then 2 + sum_over (within_of dirs trash_root) t.entries else name_count t.entries trash_root) trash in
     omega (arith, few, counted)

@@ -2,7 +2,7 @@
 pub mod CivilDateLaws
 pub mod DraftingLaws
 pub mod StepLaws
-pub mod DraftSteps
+pub mod DraftStepLaws
 pub mod DraftedLaws
 pub mod PresentLaws
 pub mod NodeChangeLaws

@@ -11,6 +11,7 @@ use Rattle.jv_model.specs.FiniteMap.{get, insert, alter}
 use Rattle.jv_model.specs.rows.RowKeys.{RowMap}
 use Rattle.jv_model.specs.rows.RowPlaces.{node_key, edge_key}
 use Rattle.jv_model.specs.tree.Tree.{Tree, node_at}
+use Rattle.jv_model.proofs.TestLaws.{some_same}
 use Rattle.jv_outside.specs.declared.batch.Change.{Change}
 use Rattle.jv_outside.specs.Store.{Store}
 use Rattle.jv_rows.specs.Drafts.{drafted, Drafts}
@@ -120,9 +121,6 @@ minds-sound known changes bytes t rows sound is tree stored = record {
   quiet = subst (Quiet (typed known)) (sym is) sound.quiet;
 }
 
-same_cell : (x y : Cell) → Some x ≡ Some y → x ≡ y
-same_cell x y e = cc
-
 module _ (start rows : Rows) (sound : Sound start rows) where
   -- a node's row that keeps its kind and its length
   pub sound-node : (inode : ℕ) (was row : NodeRow) → node_row_at rows inode ≡ Some was → row.kind ≡ was.kind
@@ -130,7 +128,7 @@ module _ (start rows : Rows) (sound : Sound start rows) where
       → Sound start (insert rows (node_key inode) (Ok (OfNode row)))
   sound-node inode was row there kind length = record {
     cells = rows-alter rows (node_key inode) (Some (Ok (OfNode row))) sound.cells
-        (λ x e. subst (IsRowAt (node_key inode)) (same_cell (Ok (OfNode row)) x e)
+        (λ x e. subst (IsRowAt (node_key inode)) (some_same (Ok (OfNode row)) x e)
         (record { key_is = refl; cell_is = refl }));
     files = files-same_length rows inode was row sound.files there kind length;
     quiet = quiet-then start rows (insert rows (node_key inode) (Ok (OfNode row))) sound.quiet

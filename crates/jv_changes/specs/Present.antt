@@ -39,10 +39,6 @@ pub record Presents (inode : ℕ) (changes : List Change) (before after : Store)
 abbrev pub to_node : ℕ → ℕ
 to_node kind = (if kind == 2 then 0 else 1)
 
--- a directory whose entries changed at a moment, with its links since then
-abbrev pub directory_touched : ℕ → ℕ → Node → Node
-directory_touched now links row = record row { mtime = now; ctime = now; nlink = links }
-
 -- a node with its links since then
 abbrev pub linked_row : ℕ → Node → Node
 linked_row links row = record row { nlink = links }

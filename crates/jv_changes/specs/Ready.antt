@@ -2,11 +2,11 @@
 use Rattle.std.specs.Prelude.{◌≡◌, ◌≢◌, ℕ, ◌<◌, true, ◌&&◌, is_some, None, Some, Result, Ok, IsTrue, ◌≤◌, []}
 use Rattle.jv_model.specs.declared.fault.Fault.{Fault}
 use Rattle.jv_model.specs.declared.fault.Fault.TheVariants.{NoSpace}
-use Rattle.jv_model.specs.declared.limits.TheConstants.{DIRECTORY_LENGTH}
+use Rattle.jv_model.specs.declared.limits.TheConstants.{DIRECTORY_LENGTH, READ_ONLY_MODE}
 use Rattle.jv_model.specs.declared.row.Node.{Node as NodeRow}
 use Rattle.jv_model.specs.FiniteMap.{get, insert}
 use Rattle.jv_model.specs.tree.Attempt.{◌>>=◌, require}
-use Rattle.jv_model.specs.tree.Tree.{Tree, EntryKey, trash_root, read_only_mode, is_directory, is_counted, links_fit, node_at}
+use Rattle.jv_model.specs.tree.Tree.{Tree, EntryKey, trash_root, is_directory, is_counted, links_fit, node_at}
 use Rattle.jv_model.specs.tree.Changes.{put_entry}
 use Rattle.jv_model.specs.tree.Trash.{hour_inode, hour_place}
 use Rattle.jv_volume.specs.Shape.{NamesHour}
@@ -65,7 +65,7 @@ pub record MayHaveHour (t : Tree) (hour : ℕ) : Type 0 where
 abbrev pub hour_row : ℕ → NodeRow
 hour_row now = record {
   kind = 2;
-  mode = read_only_mode;
+  mode = READ_ONLY_MODE;
   uid = 0;
   gid = 0;
   nlink = 2;

@@ -1,8 +1,8 @@
 //! Entries that come and go, with the times and the link counts of their directories and their nodes.
 ghost use Rattle.std.specs.Prelude.{◌≡◌, ◌-◌, IsTrue, Ok};
 ghost use Rattle.jv_changes.specs.Drafting.{Drafting};
-ghost use Rattle.jv_changes.specs.Present.{to_node, directory_touched, linked_row, Rises};
-ghost use Rattle.jv_volume.specs.Stored.{links_by};
+ghost use Rattle.jv_changes.specs.Present.{to_node, linked_row, Rises};
+ghost use Rattle.jv_volume.specs.Stored.{links_by, directory_touched};
 ghost use Rattle.jv_changes.specs.Ready.{StandsAt, MayStandAt, entry_put};
 ghost use Rattle.jv_model.specs.tree.Changes as model;
 

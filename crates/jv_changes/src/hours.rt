@@ -14,14 +14,16 @@ use jiff::civil::DateTime;
 use jiff::tz::Offset;
 use jv_model::lifetimes::{FIRST_HOUR, HOUR};
 use jv_model::{
-    DIRECTORY_LENGTH, MAX_NAME, Moment, Name, Node, Sequence, TRASH_ROOT, TxFault, copied,
+    DIRECTORY_LENGTH, MAX_NAME, Moment, Name, Node, READ_ONLY_MODE, Sequence, TRASH_ROOT, TxFault,
+    copied,
 };
 use jv_outside::Keeper;
 use jv_rows::{Draft, needed_node};
 use std::alloc::{AllocError, Global};
 use std::marker::Model;
 
-/// The name in the trash of an inode that loses its last entry: `PARENT-INODE-NAME`, cut to 255 bytes.
+/// The name in the trash of an inode that loses its last entry: `PARENT-INODE-NAME`, cut to 255 bytes. The only error
+/// is out of memory. JuiceFS, Trash.
 pub fn trash_name(alloc: Global, dir: u64, name: &Name, inode: u64) -> Result<Name, AllocError>
     ensures { IfOk result (λ text. text ≡ model.trash_name
         (record { dir = dir; name = name.now }) inode) }
@@ -141,7 +143,7 @@ fn hour_node(alloc: Global, now: Moment) -> Node
 {
     Node {
         kind: 2,
-        mode: 0o555,
+        mode: READ_ONLY_MODE,
         uid: 0,
         gid: 0,
         nlink: 2,

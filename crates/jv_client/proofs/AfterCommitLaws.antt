@@ -1,7 +1,7 @@
 -- What a commit leaves of its client where the operation goes on: it goes on well, and fewer requests are left.
 use Rattle.std.proofs.Common.{◌≡◌, ℕ, ◌+◌, ◌*◌, ◌-◌, ◌≤◌, ◌<◌, true, false, ◌||◌, length}
 use Rattle.std.proofs.Common.{Option, None, Some, refl, sym, ap, ◌∙◌, arith}
-use Rattle.std.specs.Prelude.{is_some, IfSome}
+use Rattle.std.specs.Prelude.{is_some}
 use Rattle.std.proofs.lemmas.Bool.{not-false}
 use Rattle.jv_model.specs.declared.op.Op.{Op}
 use Rattle.jv_model.specs.declared.op.Op.TheVariants as op
@@ -22,11 +22,12 @@ use Rattle.jv_client.specs.Held.{is_last_here, segment_left}
 use Rattle.jv_client.specs.UnderWay.{FlushesFor, Closes, Syncs, Describes, ReadsNothing, Reads}
 use Rattle.jv_client.specs.UnderWay.{Truncates as FlushTruncates}
 use Rattle.jv_client.specs.UnderWay.{IsForm, Mounts, Transacts, Leaves, Writes, Flushes, Copies}
-use Rattle.jv_client.specs.UnderWay.{TellsStats, IsUnderWay, ClosesOpen, asks_more, ends_itself}
+use Rattle.jv_client.specs.UnderWay.{SaysStats, IsUnderWay, ClosesOpen, asks_more, ends_itself}
 use Rattle.jv_client.specs.UnderWay.{has_not_seen, has_segment, moved_to, reading_steps, steps_in, steps_left}
 use Rattle.jv_client.specs.Flushing.{without_segment}
 use Rattle.jv_client.proofs.GoesOnLaws.{Continues, form-on}
 use Rattle.jv_client.proofs.NextSegmentLaws.{own_file}
+use Rattle.jv_client.proofs.ReadyLaws.{few-none}
 
 -- ---- what is open
 
@@ -96,7 +97,7 @@ module _ (h : ClientValue) (d : Doing) where
       by_form (Flushes handle file for first opened session) = by_reason handle for
       by_form (Copies source from target to len file other o e first opened there session) =
           asking does.Copies e refl
-      by_form (TellsStats o e first session) = absurd (cc (ending (does.Answers answer.CacheStats) e))
+      by_form (SaysStats o e first session) = absurd (cc (ending (does.Answers answer.CacheStats) e))
 
 -- ---- it goes on well
 
@@ -130,7 +131,7 @@ module _ (h : ClientValue) (d : Doing) (segment : Segment) (form : IsForm h d)
       by_form (Flushes handle file for first opened session) = unseen-file handle file opened first for offset
       by_form (Copies source from target to n file other o e first opened there session) =
           other_does does.Copies e (λ same. cc same)
-      by_form (TellsStats o e first session) = other_does (does.Answers answer.CacheStats) e (λ same. cc same)
+      by_form (SaysStats o e first session) = other_does (does.Answers answer.CacheStats) e (λ same. cc same)
 
   abbrev asking : Doing
   asking = moved_to (progress.Working 0 0 0) d
@@ -140,10 +141,6 @@ module _ (h : ClientValue) (d : Doing) (segment : Segment) (form : IsForm h d)
 
   module _ (fewer : length without_it.pending + segment.len ≡ length h.pending)
       (goes : segment_left d.flush without_it.pending ≡ None → ends_itself without_it d ≡ false) where
-    few-here : (o : Option Segment) → IfSome o (λ (segment : Segment). 0 ≤ 1 + segment.len)
-    few-here None = tt
-    few-here (Some segment) = omega arith
-
     asks-here : (o : Option Segment) → segment_left d.flush without_it.pending ≡ o
         → (has_segment after_request asking || asks_more after_request asking) ≡ true
     asks-here (Some other) e = ap (λ (o : Option Segment). is_some o || asks_more after_request asking) e
@@ -156,7 +153,7 @@ module _ (h : ClientValue) (d : Doing) (segment : Segment) (form : IsForm h d)
       form = form-on h after_request (continues h segment (omega (arith, fewer)) (Some asking)) d
           (progress.Working 0 0 0) form;
       at = record {
-        few = few-here (segment_left d.flush without_it.pending);
+        few = few-none (segment_left d.flush without_it.pending);
         segment = λ less. absurd (omega (arith, less));
         numbered = λ less. absurd (omega (arith, less));
       };

@@ -3,7 +3,7 @@ use Rattle.std.proofs.Common.{◌≡◌, ℕ, ◌+◌, true, false, List, [], �
 use Rattle.std.specs.Prelude.{if◌then◌else◌}
 use Rattle.std.proofs.lemmas.Bool.Decides.{nat_tests}
 use Rattle.jv_model.specs.client.Pending.{PendingByte, byte_set, comes_before, stands_at, written}
-use Rattle.jv_pending.proofs.Order.{length-placed}
+use Rattle.jv_pending.proofs.OrderLaws.{length-placed}
 
 abbrev placed : (inode from : ℕ) → List ℕ → List PendingByte
 placed inode from [] = []

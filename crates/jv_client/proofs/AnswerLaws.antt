@@ -38,7 +38,7 @@ use Rattle.jv_client.specs.CacheUse.{CacheUse}
 use Rattle.jv_client.specs.ClientValue.{ClientValue}
 use Rattle.jv_client.specs.Ending.{ended, finished_here, refused_here, told_here}
 use Rattle.jv_client.specs.Held.{Holds, IsClient, flight_in, in_flight, number_of, stage_of}
-use Rattle.jv_client.specs.Makes.{FailsAlone, Falls, Makes, StepsTo, TellsBad, UsesDevices, faults_of, kinds_of, step_of, tells_failure}
+use Rattle.jv_client.specs.Makes.{FailsAlone, Falls, Makes, StepsTo, SaysBad, UsesDevices, faults_of, kinds_of, step_of, says_failure}
 use Rattle.jv_client.specs.Transacting.{Fails}
 use Rattle.jv_client.specs.UnderWay.{IsReady, IsUnderWay}
 use Rattle.jv_client.specs.YardUse.{PutsNone, YardUse}
@@ -114,8 +114,8 @@ module _ (s : State) (g learned : Known) (before v : Shared) (client now mine af
 -- ---- devices
 
 -- a step that used none: they are as they were
-pub uses-none : (done : Made) (v : Shared) → ((device : Device) → tells_failure device done ≡ false)
-    → TellsBad v (step_of done) → UsesDevices done v v
+pub uses-none : (done : Made) (v : Shared) → ((device : Device) → says_failure device done ≡ false)
+    → SaysBad v (step_of done) → UsesDevices done v v
 uses-none done v calm bad = record {
   keeper_at = refl;
   carrier_at = refl;

@@ -3,6 +3,7 @@ use Rattle.std.proofs.Common.{◌≡◌, ℕ, ◌≤◌, true, false, List, Opti
 use Rattle.std.proofs.Common.{subst, ◌∙◌}
 use Rattle.std.specs.Prelude.{IfSome, IsSome, IsSomeAnd, IsTrue, OnErr, OnOk, is_err, is_some}
 use Rattle.std.specs.Option.{option_map}
+use Rattle.jv_model.specs.declared.limits.TheConstants.{LAST_CLIENT}
 use Rattle.jv_model.specs.declared.act.ActKind.TheVariants.{Look, Quiet}
 use Rattle.jv_model.specs.declared.fault.Fault.{Fault}
 use Rattle.jv_model.specs.declared.fault.Fault.TheVariants.{NoMemory}
@@ -10,6 +11,7 @@ use Rattle.jv_model.specs.declared.fault.TxFault.{TxFault}
 use Rattle.jv_model.specs.declared.slice.BlockId.{BlockId}
 use Rattle.jv_model.specs.client.ModelClient.{file_of, with_file}
 use Rattle.jv_model.specs.client.Profile.{handle_of}
+use Rattle.jv_model.specs.blocks.BlockNames.{name_in}
 use Rattle.jv_outside.specs.Store.{Store}
 use Rattle.jv_cache.specs.Cached.{Cached}
 use Rattle.jv_data.specs.declared.looking.View.{View as Looked}
@@ -20,7 +22,6 @@ use Rattle.jv_handles.proofs.TableLaws.{the_some}
 use Rattle.jv_handles.specs.Handles.{inode_here, inode_of_handle, seen_by, unseen_by}
 use Rattle.jv_shared.specs.Shared.{Shared}
 use Rattle.jv_yard.specs.BlockCalls.{GetsBlock}
-use Rattle.jv_yard.specs.Contents.{name_in}
 use Rattle.jv_yard.specs.YardValue.{YardValue}
 use Rattle.jv_fetching.specs.declared.need.Need.{Need}
 use Rattle.jv_fetching.specs.declared.need.Need.TheVariants.{Block as NeedsBlock, Look as NeedsLook}
@@ -175,7 +176,7 @@ module _ (now entry : ℕ) (h c : ClientValue) (window : ℕ) (before : Shared)
 
 module _ (now entry : ℕ) (h c : ClientValue) (b : BlockId) (before : Shared)
     (a : IsAhead before.yard.setting.block h c) (ready_before : IsReady h) (ready : IsReady c) (flushed : left c ≡ None)
-    (need : need_in c.doing ≡ Some (NeedsBlock b)) (v : ClientValue) (same_v : v ≡ c) (low : v.id ≤ 7)
+    (need : need_in c.doing ≡ Some (NeedsBlock b)) (v : ClientValue) (same_v : v ≡ c) (low : v.id ≤ LAST_CLIENT)
     (yard : YardValue) where
   abbrev length_of : ℕ
   length_of = before.yard.setting.block
@@ -189,8 +190,8 @@ module _ (now entry : ℕ) (h c : ClientValue) (b : BlockId) (before : Shared)
   same_id : v.id ≡ h.id
   same_id = ap (λ (x : ClientValue). x.id) (same_v ∙ wanted.is)
 
-  id_low : h.id ≤ 7
-  id_low = subst (λ n. n ≤ 7) same_id low
+  id_low : h.id ≤ LAST_CLIENT
+  id_low = subst (λ n. n ≤ LAST_CLIENT) same_id low
 
   -- it didn't come
   pub gets-none : (fault : Fault) (after : ClientValue) (done : Made)

@@ -19,6 +19,7 @@ use Rattle.jv_model.specs.client.Submission.{is_flushed}
 use Rattle.jv_model.specs.client.ModelClient.{ModelClient, Working as AtWork, inode_at, with_file}
 use Rattle.jv_model.specs.journal.State.{State, after_told}
 use Rattle.jv_model.specs.journal.Steps.{Start}
+use Rattle.jv_model.specs.client.OpForms.{is_umount}
 use Rattle.jv_steps.specs.IsStep.{IsStep}
 use Rattle.jv_steps.proofs.AnswerStepLaws.{closed-at_once, flushed-at_once, read-at_once, stats-answered}
 use Rattle.jv_shared.specs.Shared.{HasStore, Known, Shared}
@@ -32,14 +33,14 @@ use Rattle.jv_client.specs.ClientValue.{ClientValue}
 use Rattle.jv_client.specs.Ending.{ended, told_here}
 use Rattle.jv_client.specs.Held.{Holds, IsClient, in_flight, is_last_here, stage_of}
 use Rattle.jv_client.specs.Makes.{Makes, is_failure_of}
-use Rattle.jv_client.specs.UnderWay.{Answered, Closes, Copies, Describes, Ends, Flushes, FlushesFor, GoesOn, IsForm, IsReady, IsUnderWay, Leaves, Mounts, Reads, ReadsNothing, Syncs, TellsStats, Transacts, Truncates, Writes, answer_here, ends_itself, has_segment, keeps, left, tells_stats}
+use Rattle.jv_client.specs.UnderWay.{Answered, Closes, Copies, Describes, Ends, Flushes, FlushesFor, GoesOn, IsForm, IsReady, IsUnderWay, Leaves, Mounts, Reads, ReadsNothing, Syncs, SaysStats, Transacts, Truncates, Writes, answer_here, ends_itself, has_segment, keeps, left, says_stats}
 use Rattle.jv_client.proofs.HeldLaws.{client-doing, doing_of, holds-doing}
 use Rattle.jv_client.proofs.LastLaws.{is_last-same}
 use Rattle.jv_client.proofs.EndingLaws.{holds-told, keeps_bytes}
 use Rattle.jv_client.proofs.KeptLaws.{client-ended, client-told}
 use Rattle.jv_client.proofs.AnswerLaws.{Rests, ended-rests, makes-as, makes-ended, request-lands, rests-flight, same-yard}
 use Rattle.jv_client.proofs.AnswerLaws.{told-rests, uses-none}
-use Rattle.jv_client.specs.CacheUse.{CacheUse, is_umount}
+use Rattle.jv_client.specs.CacheUse.{CacheUse}
 use Rattle.jv_client.specs.Stats.{IsStatsOf, AnswersNumbers}
 use Rattle.jv_client.proofs.CacheUseLaws.{cache-ended, cache-stays}
 use Rattle.jv_client.proofs.FormLaws.{flushed-same, none_left, nothing_asked, under_way}
@@ -241,7 +242,7 @@ module _ (now entry : ℕ) (h : ClientValue) (v : Shared) (d : Doing) (busy : h.
       not_ends (does.Reads offset len) of_does refl ends
   flushed-answered handle (Truncates len of_op of_does) ends = not_ends does.Truncates of_does refl ends
 
-  form-answered : IsForm h d → ends_itself h d ≡ true → keeps d.does ≡ false → tells_stats d.does ≡ false
+  form-answered : IsForm h d → ends_itself h d ≡ true → keeps d.does ≡ false → says_stats d.does ≡ false
       → IsAnsweredHere
   form-answered (Mounts of_op of_does first) ends kept told = not_ends (does.Mounts false) of_does refl ends
   form-answered (Transacts one spelled of_does first session) ends kept told = not_ends does.Transacts of_does refl ends
@@ -251,10 +252,10 @@ module _ (now entry : ℕ) (h : ClientValue) (v : Shared) (d : Doing) (busy : h.
   form-answered (Flushes handle file for first opened session) ends kept told = flushed-answered handle for ends
   form-answered (Copies source from target to len file other of_op of_does first opened there session) ends kept told =
       not_ends does.Copies of_does refl ends
-  form-answered (TellsStats of_op of_does first session) ends kept told =
-      absurd (let same = ap tells_stats of_does in cc (sym same ∙ told))
+  form-answered (SaysStats of_op of_does first session) ends kept told =
+      absurd (let same = ap says_stats of_does in cc (sym same ∙ told))
 
-  pub ends_alone : IsForm h d → ends_itself h d ≡ true → keeps d.does ≡ false → tells_stats d.does ≡ false
+  pub ends_alone : IsForm h d → ends_itself h d ≡ true → keeps d.does ≡ false → says_stats d.does ≡ false
       → (after : ClientValue) (told : Told) (said : Reply) → Ends d h after (Some (told, said))
       → Makes now entry h after v v (made.Answer told said)
   ends_alone form ends kept stats after told said (Answered itself of_answer of_after) =
@@ -267,7 +268,7 @@ module _ (now entry : ℕ) (h : ClientValue) (v : Shared) (d : Doing) (busy : h.
 -- as the function has it
 pub end_at_once : (now entry : ℕ) (h after : ClientValue) (v : Shared) (told : Told) (said : Reply) (o : Option Doing)
     → h.doing ≡ o → is_some o ≡ true → IsReady h → left h ≡ None → IfSome o (λ d. keeps d.does ≡ false)
-    → IfSome o (λ d. tells_stats d.does ≡ false) → IfSome o (λ d. ends_itself h d ≡ true)
+    → IfSome o (λ d. says_stats d.does ≡ false) → IfSome o (λ d. ends_itself h d ≡ true)
     → IfSome o (λ d. Ends d h after (Some (told, said)))
     → Makes now entry h after v v (made.Answer told said)
 end_at_once now entry h after v told said None busy some ready none kept stats itself ends = absurd (cc some)
@@ -277,20 +278,20 @@ end_at_once now entry h after v told said (Some d) busy some ready none kept sta
     stats after told said ends
 
 pub stats_told : (now entry : ℕ) (h : ClientValue) (v : Shared) (d : Doing) → h.doing ≡ Some d → IsReady h
-    → left h ≡ None → tells_stats d.does ≡ true → (hits misses cached : ℕ)
+    → left h ≡ None → says_stats d.does ≡ true → (hits misses cached : ℕ)
     → IsStatsOf h (made.Answer (Fine hits misses cached (length h.pending))
     (reply.CacheStats hits misses cached (length h.pending)))
     → Makes now entry h (ended h) v v (made.Answer (Fine hits misses cached (length h.pending))
     (reply.CacheStats hits misses cached (length h.pending)))
-stats_told now entry h v d busy ready none tells hits misses cached numbers = by_form under.form
+stats_told now entry h v d busy ready none says hits misses cached numbers = by_form under.form
   where
     under : IsUnderWay h d
     under = under_way h d busy ready
 
-    other : (does : Does) → d.does ≡ does → tells_stats does ≡ false
+    other : (does : Does) → d.does ≡ does → says_stats does ≡ false
         → Makes now entry h (ended h) v v (made.Answer (Fine hits misses cached (length h.pending))
         (reply.CacheStats hits misses cached (length h.pending)))
-    other does of_does not = absurd (cc (sym tells ∙ ap tells_stats of_does ∙ not))
+    other does of_does not = absurd (cc (sym says ∙ ap says_stats of_does ∙ not))
 
     by_flush : (handle : ℕ) → FlushesFor d handle
         → Makes now entry h (ended h) v v (made.Answer (Fine hits misses cached (length h.pending))
@@ -312,7 +313,7 @@ stats_told now entry h v d busy ready none tells hits misses cached numbers = by
     by_form (Flushes handle file for first opened session) = by_flush handle for
     by_form (Copies source from target to len file there of_op of_does first opened open_too session) =
         other does.Copies of_does refl
-    by_form (TellsStats of_op of_does first session) =
+    by_form (SaysStats of_op of_does first session) =
         stats-told now entry h v d busy ready
         (is_done h d under (none_left h d busy none) (ap (λ does. ends_itself h (record d { does = does })) of_does))
         of_op of_does hits misses cached numbers

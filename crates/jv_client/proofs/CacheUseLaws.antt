@@ -9,11 +9,12 @@ use Rattle.jv_model.specs.declared.fault.Gone.TheVariants.{Session, Node}
 use Rattle.jv_model.specs.declared.op.Op.{Op}
 use Rattle.jv_model.specs.declared.op.Op.TheVariants as op
 use Rattle.jv_model.specs.journal.Steps.{is_failure}
+use Rattle.jv_model.specs.client.OpForms.{is_read, is_umount}
 use Rattle.jv_yard.specs.YardValue.{YardValue}
 use Rattle.jv_client.specs.declared.doing.Doing.{Doing}
 use Rattle.jv_client.specs.declared.made.Made.{Made}
 use Rattle.jv_client.specs.CacheUse.{CacheUse, LooksOnly, MovesCache, MovesInRead}
-use Rattle.jv_client.specs.CacheUse.{ends_mount, is_gone, is_read, is_umount, leaves}
+use Rattle.jv_client.specs.CacheUse.{ends_mount, is_gone, leaves}
 use Rattle.jv_client.specs.ClientValue.{ClientValue}
 use Rattle.jv_client.specs.Ending.{finished_here, refused_here, told_here}
 use Rattle.jv_client.specs.Reading.{Untouched}

@@ -13,9 +13,10 @@ use Rattle.jv_model.specs.declared.op.Reply.TheVariants as reply
 use Rattle.jv_model.specs.declared.profile.Does.TheVariants as does
 use Rattle.jv_model.specs.tree.FileBytes.{copy, truncate}
 use Rattle.jv_model.specs.journal.Steps.{told_of}
+use Rattle.jv_model.specs.client.OpForms.{changes_bytes}
+use Rattle.jv_model.specs.tree.Trash.{due_after}
 use Rattle.jv_outside.specs.Store.{Store}
-use Rattle.jv_data.specs.Changing.{AnyTold, Changes, IsCrowded, Never, count_in}
-use Rattle.jv_data.specs.Truncating.{due_after}
+use Rattle.jv_data.specs.Changing.{AnyBytes, Changes, IsCrowded, Never, count_in}
 use Rattle.jv_metadata.specs.Attempts.{mapped}
 use Rattle.jv_shared.specs.Shared.{Shared}
 use Rattle.jv_handles.specs.Handles.{inode_here}
@@ -25,9 +26,10 @@ use Rattle.jv_client.specs.declared.doing.Doing.{Doing}
 use Rattle.jv_client.specs.declared.made.Made.{Made}
 use Rattle.jv_client.specs.declared.made.Made.TheVariants.{Both}
 use Rattle.jv_client.specs.ClientValue.{ClientValue, session_here}
-use Rattle.jv_client.specs.Changing.{TriesChange, TriesCopy, TriesTruncate, copied_to, cut_to, is_change}
+use Rattle.jv_client.specs.Changing.{TriesChange, TriesCopy, TriesTruncate, copied_to, cut_to}
 use Rattle.jv_client.specs.Ending.{ended, told_here}
-use Rattle.jv_client.specs.UnderWay.{ClosesOpen, IsReady, changes_files, left}
+use Rattle.jv_steps.specs.Stages.{changes_files}
+use Rattle.jv_client.specs.UnderWay.{ClosesOpen, IsReady, left}
 use Rattle.jv_client.specs.Makes.{Makes}
 use Rattle.jv_client.specs.Transacting.{EndsUnmade}
 use Rattle.jv_client.proofs.AnswerLaws.{makes-as}
@@ -49,16 +51,16 @@ mapped-err f (Ok x) fault e = absurd (cc e)
 mapped-err {A} f (Err other) fault e =
     let same : other ≡ fault = cc e in ap (λ (fault : TxFault). let result : Result A TxFault = Err fault in result) same
 
--- ---- what is wanted before it
+-- ---- what is needed before it
 
 -- it may be tried
 pub may-try : (h : ClientValue) (d : Doing) → h.doing ≡ Some d → IsReady h → IsTrue (changes_files d.does)
-    → IsTrue (is_change d.op)
+    → IsTrue (changes_bytes d.op)
 may-try h d busy ready changes = by_form (changes-one h d changes busy ready)
   where
-    by_form : ChangesOne h d → IsTrue (is_change d.op)
-    by_form (OfTruncate handle len file of_op of_does opened) = ap is_change of_op
-    by_form (OfCopy source from target to len file other of_op of_does opened there) = ap is_change of_op
+    by_form : ChangesOne h d → IsTrue (changes_bytes d.op)
+    by_form (OfTruncate handle len file of_op of_does opened) = ap changes_bytes of_op
+    by_form (OfCopy source from target to len file other of_op of_does opened there) = ap changes_bytes of_op
 
 -- the handle of a close is open once views of a file are dropped
 pub closes-blind : (h : ClientValue) (inode : ℕ) → IsTrue (is_some h.doing) → IsReady h
@@ -107,7 +109,7 @@ module _ (now entry : ℕ) (h : ClientValue) (d : Doing) (busy : h.doing ≡ Som
         (named (op.Truncate handle len) of_op (cut_to inode len) came.2) refl (answered (cut_to inode len) came.2)
         (truncated-makes now h d busy ready flushed changes v keeper entry handle len of_op
         (λ caller for own. subst (λ (made : Result (Unit {0}) TxFault). Changes {A = Unit {0}}
-        (record { own = 0; size = 0; more = 1; due = due_after now }) AnyTold Never v.keeper keeper made
+        (record { own = 0; size = 0; more = 1; due = due_after now }) AnyBytes Never v.keeper keeper made
         (λ unit. reply.Done) (λ t. truncate t caller len)) came.1 (tried.changes caller for own)))
 
     made-copy : (source from target to len : ℕ) → d.op ≡ op.Copy source from target to len
@@ -124,7 +126,7 @@ module _ (now entry : ℕ) (h : ClientValue) (d : Doing) (busy : h.doing ≡ Som
         (named (op.Copy source from target to len) of_op copied came.2) refl (answered copied came.2)
         (copied-makes now h d busy ready flushed changes v keeper entry source from target to len of_op came.0
         (λ caller for own other. subst (λ (made : Result ℕ TxFault). Changes {A = ℕ}
-        (record { own = 0; size = 0; more = count_in made; due = due_after now }) AnyTold (IsCrowded FILE_END) v.keeper
+        (record { own = 0; size = 0; more = count_in made; due = due_after now }) AnyBytes (IsCrowded FILE_END) v.keeper
         keeper made (λ n. reply.Count n) (λ t. copy t caller from to len)) came.1 (tried.changes caller for own other)))
 
     pub change-made : TriesChange h.handles d.op asks_as v.keeper keeper (Ok changed)
@@ -152,7 +154,7 @@ module _ (now entry : ℕ) (h : ClientValue) (d : Doing) (busy : h.doing ≡ Som
           tried.result_is in
           truncate-unmade now h d busy ready flushed changes v keeper entry after done handle len of_op of_does fault
           (λ caller for own. subst (λ (made : Result (Unit {0}) TxFault). Changes {A = Unit {0}}
-          (record { own = 0; size = 0; more = 1; due = due_after now }) AnyTold Never v.keeper keeper made
+          (record { own = 0; size = 0; more = 1; due = due_after now }) AnyBytes Never v.keeper keeper made
           (λ unit. reply.Done) (λ t. truncate t caller len)) none (tried.changes caller for own)) ends
 
       by_copy : (source from target to len : ℕ) → d.op ≡ op.Copy source from target to len → d.does ≡ does.Copies
@@ -165,7 +167,7 @@ module _ (now entry : ℕ) (h : ClientValue) (d : Doing) (busy : h.doing ≡ Som
           copy-unmade now h d busy ready flushed changes v keeper entry after done source from target to len of_op
           of_does fault
           (λ caller for own other. subst (λ (made : Result ℕ TxFault). Changes {A = ℕ}
-          (record { own = 0; size = 0; more = count_in made; due = due_after now }) AnyTold (IsCrowded FILE_END) v.keeper
+          (record { own = 0; size = 0; more = count_in made; due = due_after now }) AnyBytes (IsCrowded FILE_END) v.keeper
           keeper made (λ n. reply.Count n) (λ t. copy t caller from to len)) none (tried.changes caller for own other))
           ends
 

@@ -24,18 +24,19 @@ use Rattle.jv_model.specs.tree.FileBytes.{copy, truncate}
 use Rattle.jv_model.specs.client.ModelClient.{ModelClient, inode_at}
 use Rattle.jv_model.specs.client.Profile.{handle_of}
 use Rattle.jv_model.specs.client.Submission.{is_flushed}
-use Rattle.jv_model.specs.journal.State.{State, after_told, caller}
+use Rattle.jv_model.specs.journal.State.{State, after_told, caller, without_views}
+use Rattle.jv_model.specs.client.OpForms.{is_umount}
+use Rattle.jv_model.specs.tree.Trash.{due_after}
 use Rattle.jv_outside.specs.Store.{Store}
 use Rattle.jv_rows.specs.Transactions.{IsFor}
-use Rattle.jv_data.specs.Changing.{AnyTold, Changes, IsCrowded, Never, count_in}
-use Rattle.jv_data.specs.Truncating.{due_after}
+use Rattle.jv_data.specs.Changing.{AnyBytes, Changes, IsCrowded, Never, count_in}
 use Rattle.jv_volume.specs.Holding.{Stays}
 use Rattle.jv_shared.specs.Keeping.{KeepsShared}
 use Rattle.jv_shared.specs.Shared.{HasStore, Known, Shared}
 use Rattle.jv_handles.specs.Handles.{inode_here, unseen}
 use Rattle.jv_handles.proofs.HandleLaws.{handles-forgotten}
 use Rattle.jv_handles.proofs.SeenLaws.{views-left}
-use Rattle.jv_steps.specs.Stages.{without_views}
+use Rattle.jv_steps.specs.Stages.{changes_files}
 use Rattle.jv_requests.specs.Request.{Request}
 use Rattle.jv_requests.proofs.ChangeLaws.{change-never_bad, change-never_moved, copy-not_made, copy-not_made_calm}
 use Rattle.jv_requests.proofs.ChangeLaws.{copy-request, truncate-not_made, truncate-not_made_calm, truncate-request}
@@ -45,10 +46,9 @@ use Rattle.jv_client.specs.declared.made.Made.TheVariants.{Both}
 use Rattle.jv_client.specs.ClientValue.{ClientValue, session_here}
 use Rattle.jv_client.specs.Ending.{ended}
 use Rattle.jv_client.specs.Held.{IsClient, IsHeld, Holds, in_flight}
-use Rattle.jv_client.specs.UnderWay.{IsReady, changes_files, left}
+use Rattle.jv_client.specs.UnderWay.{IsReady, left}
 use Rattle.jv_client.specs.Makes.{Makes, StepsTo}
 use Rattle.jv_client.specs.Transacting.{EndsUnmade}
-use Rattle.jv_client.specs.CacheUse.{is_umount}
 use Rattle.jv_client.proofs.CacheUseLaws.{cache-stays}
 use Rattle.jv_client.proofs.AnswerLaws.{request-lands}
 use Rattle.jv_client.proofs.HeldLaws.{client-doing, doing_of, holds-doing, holds-later}
@@ -160,18 +160,18 @@ module _ (now : ℕ) (h : ClientValue) (d : Doing) (busy : h.doing ≡ Some d) (
       pub model-truncates : (made : Result (Unit {0}) TxFault)
           → ((who : Caller) → IsFor who_is who
           → who.inode ≡ inode_here h.handles handle
-          → Changes {A = Unit {0}} (record { own = 0; size = 0; more = 1; due = due }) AnyTold Never v.keeper keeper made
+          → Changes {A = Unit {0}} (record { own = 0; size = 0; more = 1; due = due }) AnyBytes Never v.keeper keeper made
           (λ unit. reply.Done) (λ t. truncate t who len))
-          → Changes {A = Unit {0}} (record { own = 0; size = 0; more = 1; due = due }) AnyTold Never v.keeper keeper made
+          → Changes {A = Unit {0}} (record { own = 0; size = 0; more = 1; due = due }) AnyBytes Never v.keeper keeper made
           (λ unit. reply.Done) (λ t. truncate t who len)
       model-truncates made tried =
           subst (λ (act : Tree → Result Outcome Fault). Changes {A = Unit {0}}
-          (record { own = 0; size = 0; more = 1; due = due }) AnyTold Never v.keeper keeper made (λ unit. reply.Done) act)
+          (record { own = 0; size = 0; more = 1; due = due }) AnyBytes Never v.keeper keeper made (λ unit. reply.Done) act)
           (λ i t. truncate-held t who len [] i)
           (tried alone alone-is
           (inode-same g v mine s.count h is.held (handle_of d.op) ∙ ap (λ o. inode_here h.handles (handle_of o)) of_op))
 
-      truncate-leads : Changes {A = Unit {0}} (record { own = 0; size = 0; more = 1; due = due }) AnyTold Never v.keeper
+      truncate-leads : Changes {A = Unit {0}} (record { own = 0; size = 0; more = 1; due = due }) AnyBytes Never v.keeper
           keeper (Ok tt) (λ unit. reply.Done) (λ t. truncate t who len)
           → StepsTo s g v h now (Truncated (inode_here h.handles handle) len ∷ Answered (Fine 0 0 0 0) ∷ [])
           (Done reply.Done) (ended (blind (inode_here h.handles handle) h)) used
@@ -189,20 +189,20 @@ module _ (now : ℕ) (h : ClientValue) (d : Doing) (busy : h.doing ≡ Some d) (
         pub model-copies : (made : Result ℕ TxFault)
             → ((who : Caller) → IsFor who_is who
             → who.inode ≡ inode_here h.handles source → who.other ≡ inode_here h.handles target
-            → Changes {A = ℕ} (record { own = 0; size = 0; more = count_in made; due = due }) AnyTold
+            → Changes {A = ℕ} (record { own = 0; size = 0; more = count_in made; due = due }) AnyBytes
             (IsCrowded FILE_END) v.keeper keeper made (λ n. reply.Count n) (λ t. copy t who from to len))
-            → Changes {A = ℕ} (record { own = 0; size = 0; more = count_in made; due = due }) AnyTold
+            → Changes {A = ℕ} (record { own = 0; size = 0; more = count_in made; due = due }) AnyBytes
             (IsCrowded FILE_END) v.keeper keeper made (λ n. reply.Count n) (λ t. copy t who from to len)
         model-copies made tried =
             subst (λ (act : Tree → Result Outcome Fault). Changes {A = ℕ}
-            (record { own = 0; size = 0; more = count_in made; due = due }) AnyTold (IsCrowded FILE_END) v.keeper keeper
+            (record { own = 0; size = 0; more = count_in made; due = due }) AnyBytes (IsCrowded FILE_END) v.keeper keeper
             made (λ n. reply.Count n) act)
             (λ i t. copy-held t who from to len [] i)
             (tried alone alone-is
             (inode-same g v mine s.count h is.held (handle_of d.op) ∙ ap (λ o. inode_here h.handles (handle_of o)) of_op)
             (ap (λ o. (caller mine h.id now o).other) of_op ∙ inode-same g v mine s.count h is.held target))
 
-        copy-leads : (count : ℕ) → Changes {A = ℕ} (record { own = 0; size = 0; more = count; due = due }) AnyTold
+        copy-leads : (count : ℕ) → Changes {A = ℕ} (record { own = 0; size = 0; more = count; due = due }) AnyBytes
             (IsCrowded FILE_END) v.keeper keeper (Ok count) (λ n. reply.Count n) (λ t. copy t who from to len)
             → StepsTo s g v h now (Copied (inode_here h.handles source) from (inode_here h.handles target) to count
             ∷ Answered (Fine count 0 0 0) ∷ []) (Done (reply.Count count))
@@ -240,7 +240,7 @@ module _ (now : ℕ) (h : ClientValue) (d : Doing) (busy : h.doing ≡ Some d) (
     pub truncated-makes : (handle len : ℕ) → d.op ≡ op.Truncate handle len
         → ((caller : Caller) → IsFor who_is caller
         → caller.inode ≡ inode_here h.handles handle
-        → Changes {A = Unit {0}} (record { own = 0; size = 0; more = 1; due = due_after now }) AnyTold Never v.keeper
+        → Changes {A = Unit {0}} (record { own = 0; size = 0; more = 1; due = due_after now }) AnyBytes Never v.keeper
         keeper (Ok tt) (λ unit. reply.Done) (λ t. truncate t caller len))
         → Makes now entry h (ended (blind (inode_here h.handles handle) h)) v used
         (Both (Truncated (inode_here h.handles handle) len) (Fine 0 0 0 0) reply.Done)
@@ -258,7 +258,7 @@ module _ (now : ℕ) (h : ClientValue) (d : Doing) (busy : h.doing ≡ Some d) (
     pub copied-makes : (source from target to len : ℕ) → d.op ≡ op.Copy source from target to len → (count : ℕ)
         → ((caller : Caller) → IsFor who_is caller
         → caller.inode ≡ inode_here h.handles source → caller.other ≡ inode_here h.handles target
-        → Changes {A = ℕ} (record { own = 0; size = 0; more = count; due = due_after now }) AnyTold
+        → Changes {A = ℕ} (record { own = 0; size = 0; more = count; due = due_after now }) AnyBytes
         (IsCrowded FILE_END) v.keeper keeper (Ok count) (λ n. reply.Count n) (λ t. copy t caller from to len))
         → Makes now entry h (ended (blind (inode_here h.handles target) h)) v used
         (Both (Copied (inode_here h.handles source) from (inode_here h.handles target) to count) (Fine count 0 0 0)
@@ -284,7 +284,7 @@ module _ (now : ℕ) (h : ClientValue) (d : Doing) (busy : h.doing ≡ Some d) (
       → (s : State) (g : Known) → HasStore s.tree g v → Holds s.tree (s.clients h.id)
       → IsClient g v (s.clients h.id) s.count h → (fault : TxFault)
       → ((caller : Caller) → IsFor who_is caller → caller.inode ≡ inode_here h.handles handle
-      → Changes {A = Unit {0}} (record { own = 0; size = 0; more = 1; due = due_after now }) AnyTold Never v.keeper
+      → Changes {A = Unit {0}} (record { own = 0; size = 0; more = 1; due = due_after now }) AnyBytes Never v.keeper
       keeper (Err fault) (λ unit. reply.Done) (λ t. truncate t caller len))
       → UnmadeLeads now h d v used Quiet fault s g
   truncate-unmade_leads handle len of_op of_does s g has holds is (RefusedBy fault) tried =
@@ -317,7 +317,7 @@ module _ (now : ℕ) (h : ClientValue) (d : Doing) (busy : h.doing ≡ Some d) (
       → IsClient g v (s.clients h.id) s.count h → (fault : TxFault)
       → ((caller : Caller) → IsFor who_is caller → caller.inode ≡ inode_here h.handles source
       → caller.other ≡ inode_here h.handles target
-      → Changes {A = ℕ} (record { own = 0; size = 0; more = 0; due = due_after now }) AnyTold (IsCrowded FILE_END)
+      → Changes {A = ℕ} (record { own = 0; size = 0; more = 0; due = due_after now }) AnyBytes (IsCrowded FILE_END)
       v.keeper keeper (Err fault) (λ n. reply.Count n) (λ t. copy t caller from to len))
       → UnmadeLeads now h d v used Quiet fault s g
   copy-unmade_leads source from target to len of_op of_does s g has holds is (RefusedBy fault) tried =
@@ -349,7 +349,7 @@ module _ (now : ℕ) (h : ClientValue) (d : Doing) (busy : h.doing ≡ Some d) (
     pub truncate-unmade : (handle len : ℕ) → d.op ≡ op.Truncate handle len → d.does ≡ does.Truncates
         → (fault : TxFault)
         → ((caller : Caller) → IsFor who_is caller → caller.inode ≡ inode_here h.handles handle
-        → Changes {A = Unit {0}} (record { own = 0; size = 0; more = 1; due = due_after now }) AnyTold Never v.keeper
+        → Changes {A = Unit {0}} (record { own = 0; size = 0; more = 1; due = due_after now }) AnyBytes Never v.keeper
         keeper (Err fault) (λ unit. reply.Done) (λ t. truncate t caller len))
         → EndsUnmade Quiet fault h after done → Makes now entry h after v used done
     truncate-unmade handle len of_op of_does fault tried ends =
@@ -363,7 +363,7 @@ module _ (now : ℕ) (h : ClientValue) (d : Doing) (busy : h.doing ≡ Some d) (
         → d.does ≡ does.Copies → (fault : TxFault)
         → ((caller : Caller) → IsFor who_is caller → caller.inode ≡ inode_here h.handles source
         → caller.other ≡ inode_here h.handles target
-        → Changes {A = ℕ} (record { own = 0; size = 0; more = 0; due = due_after now }) AnyTold (IsCrowded FILE_END)
+        → Changes {A = ℕ} (record { own = 0; size = 0; more = 0; due = due_after now }) AnyBytes (IsCrowded FILE_END)
         v.keeper keeper (Err fault) (λ n. reply.Count n) (λ t. copy t caller from to len))
         → EndsUnmade Quiet fault h after done → Makes now entry h after v used done
     copy-unmade source from target to len of_op of_does fault tried ends =

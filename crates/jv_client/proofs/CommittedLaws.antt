@@ -21,6 +21,7 @@ use Rattle.jv_model.specs.client.Profile.{handle_of}
 use Rattle.jv_model.specs.client.ModelClient.{ModelClient, Working, is_last_of_removed}
 use Rattle.jv_model.specs.journal.State.{State, after_told, answer_then, finished}
 use Rattle.jv_model.specs.journal.Steps.{told_of}
+use Rattle.jv_model.specs.client.OpForms.{is_umount, is_write}
 use Rattle.jv_outside.specs.Causes.{RoseIf}
 use Rattle.jv_outside.specs.Store.{Store}
 use Rattle.jv_volume.proofs.HoldingLaws.{stays-committed}
@@ -39,16 +40,15 @@ use Rattle.jv_client.specs.ClientValue.{ClientValue, session_here}
 use Rattle.jv_client.specs.Ending.{told_here}
 use Rattle.jv_client.specs.Held.{IsHeld, IsClient, Holds, in_flight, is_last_here, segment_left}
 use Rattle.jv_client.specs.UnderWay.{IsReady, answer_here, ends_itself, left, left_of, moved_to}
-use Rattle.jv_client.specs.Makes.{IsCalm, Makes, StepsTo, TellsBad, UsesDevices, asks_nothing, faults_of}
-use Rattle.jv_client.specs.Makes.{step_of, tells_failure}
+use Rattle.jv_client.specs.Makes.{IsCalm, Makes, StepsTo, SaysBad, UsesDevices, asks_nothing, faults_of}
+use Rattle.jv_client.specs.Makes.{step_of, says_failure}
 use Rattle.jv_client.specs.Flushing.{Follows, Answers, Writes, GoesOn, written_alone}
-use Rattle.jv_client.specs.CacheUse.{is_umount}
 use Rattle.jv_client.proofs.CacheUseLaws.{cache-ended, cache-stays}
 use Rattle.jv_client.proofs.AfterCommitLaws.{falls-without, way-without}
 use Rattle.jv_client.proofs.AnswerLaws.{Rests, makes-as, makes-ended, rests-flight, same-yard, told-rests}
 use Rattle.jv_client.proofs.CommitLaws.{IsCommit, grown, leads-answered, leads-left, leads-then}
 use Rattle.jv_client.proofs.CommitLaws.{number-is, record_for, rest, segment, used, without}
-use Rattle.jv_client.proofs.EndingLaws.{holds-told, is_write, keeps_bytes}
+use Rattle.jv_client.proofs.EndingLaws.{holds-told, keeps_bytes}
 use Rattle.jv_client.proofs.EndsAfterLaws.{answered-so, goes-on, told-same, waits-to_write}
 use Rattle.jv_client.proofs.HeldLaws.{doing_of, holds-doing}
 use Rattle.jv_client.proofs.KeptLaws.{moved-client, told-client}
@@ -91,8 +91,8 @@ module _ (h : ClientValue) (d : Doing) (v : Shared) (keeper : Store) (at : Segme
   left-between o e = sym (ap (left_of between.pending) is_commit.busy) ∙ e
 
   -- what a step with a commit does to devices
-  uses : (outcome : Made) → ((failed : Device) → tells_failure failed outcome ≡ false) → asks_nothing outcome ≡ false
-      → TellsBad v (step_of outcome) → UsesDevices outcome v used_here
+  uses : (outcome : Made) → ((failed : Device) → says_failure failed outcome ≡ false) → asks_nothing outcome ≡ false
+      → SaysBad v (step_of outcome) → UsesDevices outcome v used_here
   uses outcome calm asks bad = record {
     keeper_at = (commits [] (λ setting. 0)).opened_at;
     carrier_at = refl;

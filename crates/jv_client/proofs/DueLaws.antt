@@ -15,7 +15,7 @@ use Rattle.jv_model.specs.client.Pending.{PendingByte}
 use Rattle.jv_model.specs.client.Profile.{handle_of}
 use Rattle.jv_model.specs.client.Submission.{is_flushed}
 use Rattle.jv_model.specs.journal.Steps.{transacts}
-use Rattle.jv_metadata.specs.Attempts.{is_metadata}
+use Rattle.jv_model.specs.client.OpForms.{is_tried, is_metadata, is_transaction}
 use Rattle.jv_steps.proofs.GiftLaws.{IsDirect}
 use Rattle.jv_handles.specs.declared.handle.Handle.{Handle}
 use Rattle.jv_client.specs.declared.doing.Doing.{Doing}
@@ -23,11 +23,11 @@ use Rattle.jv_client.specs.declared.doing.Progress.{Progress}
 use Rattle.jv_client.specs.declared.doing.Progress.TheVariants as progress
 use Rattle.jv_client.specs.ClientValue.{ClientValue}
 use Rattle.jv_client.specs.Held.{flush_of_code, is_last_here, stage_of}
+use Rattle.jv_steps.specs.Stages.{changes_files}
 use Rattle.jv_client.specs.UnderWay.{FlushesFor, Closes, Syncs, Describes, ReadsNothing, Reads, Truncates, IsForm}
-use Rattle.jv_client.specs.UnderWay.{Mounts, Transacts, Leaves, Writes, Flushes, Copies, TellsStats, IsAt}
-use Rattle.jv_client.specs.UnderWay.{IsReady, asks_more, changes_files, has_segment, is_transaction, left}
+use Rattle.jv_client.specs.UnderWay.{Mounts, Transacts, Leaves, Writes, Flushes, Copies, SaysStats, IsAt}
+use Rattle.jv_client.specs.UnderWay.{IsReady, asks_more, has_segment, left}
 use Rattle.jv_client.specs.UnderWay.{left_of, makes_transaction}
-use Rattle.jv_client.specs.Transacting.{is_tried}
 use Rattle.jv_client.proofs.FormLaws.{no_quiets, under_way}
 
 -- ---- it made no request yet
@@ -117,7 +117,7 @@ module _ (d : Doing) (makes : IsTrue (makes_transaction d.does)) where
   one_by h (Flushes handle file for first opened session) = one_for handle for
   one_by h (Copies source from target to len file other o e first opened there session) =
       absurd (not_of does.Copies e refl)
-  one_by h (TellsStats o e first session) = absurd (not_of (does.Answers answer.CacheStats) e refl)
+  one_by h (SaysStats o e first session) = absurd (not_of (does.Answers answer.CacheStats) e refl)
 
   pub makes-one : (h : ClientValue) → h.doing ≡ Some d → IsReady h → MakesOne d × IsDirect d.does
   makes-one h busy ready = one_by h (under_way h d busy ready).form
@@ -180,7 +180,7 @@ module _ (h : ClientValue) (d : Doing) (changes : IsTrue (changes_files d.does))
   change_by (Flushes handle file for first opened session) = change_for handle file opened for
   change_by (Copies source from target to len file other o e first opened there session) =
       OfCopy source from target to len file other o e opened there
-  change_by (TellsStats o e first session) = absurd (changes_not (does.Answers answer.CacheStats) e refl)
+  change_by (SaysStats o e first session) = absurd (changes_not (does.Answers answer.CacheStats) e refl)
 
   pub changes-one : h.doing ≡ Some d → IsReady h → ChangesOne h d
   changes-one busy ready = change_by (under_way h d busy ready).form

@@ -1,5 +1,5 @@
 -- What an answer leaves of a client in memory stands for what it leaves of the model's, and what is held of it is of files.
-use Rattle.std.proofs.Common.{◌≡◌, ℕ, zero, suc, ◌-◌, Bool, true, false, ◌&&◌, not, ◌⊎◌, inl, inr, List, [], ◌∷◌, ◌++◌, length, filter, slice_set, Option, None, Some, refl, sym, ap, ◌∙◌}
+use Rattle.std.proofs.Common.{◌≡◌, ℕ, zero, suc, ◌-◌, Bool, true, false, ◌&&◌, not, ◌⊎◌, inl, inr, List, [], ◌∷◌, ◌++◌, length, slice_set, Option, None, Some, refl, sym, ap, ◌∙◌}
 use Rattle.std.specs.Prelude.{◌==◌, nat_le, if◌then◌else◌}
 use Rattle.std.specs.List.{AllByRecursion}
 use Rattle.std.proofs.lemmas.Bool.{eqb-true, or_cases, or_left, or_right}
@@ -13,23 +13,21 @@ use Rattle.jv_model.specs.declared.op.Op.{Op}
 use Rattle.jv_model.specs.declared.op.Op.TheVariants as op
 use Rattle.jv_model.specs.tree.Tree.{Tree}
 use Rattle.jv_model.specs.client.Pending.{PendingByte, pending_of_others}
-use Rattle.jv_model.specs.client.ModelClient.{ModelClient, OpenFile, unmounted, with_file, inode_at, held_inodes, is_among}
+use Rattle.jv_model.specs.client.ModelClient.{ModelClient, OpenFile, unmounted, with_file, inode_at, held_inodes}
 use Rattle.jv_model.specs.journal.State.{after_told, finished, refused_as}
+use Rattle.jv_model.specs.Lists.{is_among}
+use Rattle.jv_model.specs.client.OpForms.{is_write}
 use Rattle.jv_volume.specs.Holding.{IsHoldable}
 use Rattle.jv_shared.specs.Shared.{Known, Shared}
 use Rattle.jv_handles.specs.Handles.{inode_here}
 use Rattle.jv_handles.proofs.HandleLaws.{handles-close}
 use Rattle.jv_client.specs.ClientValue.{ClientValue, crashed}
 use Rattle.jv_client.specs.Held.{IsHeld, Holds, is_last_here}
-use Rattle.jv_client.specs.Ending.{closed, ended, finished_here, refused_here, told_here}
+use Rattle.jv_client.specs.Ending.{closed, ended, finished_here, refused_here, told_here, without}
 use Rattle.jv_client.proofs.LastLaws.{inode-same, is_last-same}
 use Rattle.jv_client.proofs.HeldLaws.{held-doing, holds-doing, holds-unmounted}
 
 -- a write that is done keeps its bytes
-abbrev pub is_write : Op → Bool
-is_write (op.Write handle offset bytes) = true
-is_write _ = false
-
 abbrev pub keeps_bytes : Op → Told → Bool
 keeps_bytes o (Fine a b c d) = is_write o
 keeps_bytes o (Looks first second len) = is_write o
@@ -37,15 +35,12 @@ keeps_bytes o (ToldRefused fault) = false
 
 -- an operation that is done
 
-abbrev others_of : ℕ → List ℕ → List ℕ
-others_of gone inodes = filter (λ inode. not (inode == gone)) inodes
-
-among-others : (gone inode : ℕ) (inodes : List ℕ) → is_among inode (others_of gone inodes) ≡ (not (inode == gone) && is_among inode inodes)
+among-others : (gone inode : ℕ) (inodes : List ℕ) → is_among inode (without gone inodes) ≡ (not (inode == gone) && is_among inode inodes)
 among-others gone inode inodes =
     any-filter_same (λ i. i == inode) (λ i. not (i == gone)) (not (inode == gone)) (λ i same. ap (λ n. not (n == gone)) (eqb-true i inode same)) inodes
 
 among-unless : (b : Bool) (gone inode : ℕ) (xs ys : List ℕ) → is_among inode xs ≡ is_among inode ys
-    → is_among inode (if b then others_of gone xs else xs) ≡ is_among inode (if b then others_of gone ys else ys)
+    → is_among inode (if b then without gone xs else xs) ≡ is_among inode (if b then without gone ys else ys)
 among-unless true gone inode xs ys same =
     among-others gone inode xs ∙ ap (λ b. not (inode == gone) && b) same ∙ sym (among-others gone inode ys)
 among-unless false gone inode xs ys same = same
@@ -60,8 +55,8 @@ module _ (g : Known) (v : Shared) (count : ℕ) where
       session = held.session;
       direct = held.direct;
       removed = λ inode.
-          ap (λ b. is_among inode (if b then others_of (inode_at m handle) m.sustained else m.sustained)) (is_last-same g v m count h held handle)
-          ∙ ap (λ gone. is_among inode (if is_last_here h handle then others_of gone m.sustained else m.sustained)) (inode-same g v m count h held handle)
+          ap (λ b. is_among inode (if b then without (inode_at m handle) m.sustained else m.sustained)) (is_last-same g v m count h held handle)
+          ∙ ap (λ gone. is_among inode (if is_last_here h handle then without gone m.sustained else m.sustained)) (inode-same g v m count h held handle)
           ∙ among-unless (is_last_here h handle) (inode_here h.handles handle) inode m.sustained h.sustained (held.removed inode);
       handles = handles-close g v m.views count handle m.handles h.handles held.handles;
       views = held.views;

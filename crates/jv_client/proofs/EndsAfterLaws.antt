@@ -14,7 +14,9 @@ use Rattle.jv_model.specs.client.Profile.{handle_of}
 use Rattle.jv_model.specs.client.ModelClient.{ModelClient, file_of, is_last_of_removed}
 use Rattle.jv_model.specs.journal.State.{answer_then}
 use Rattle.jv_model.specs.journal.Steps.{told_of}
+use Rattle.jv_model.specs.client.OpForms.{is_write, is_transaction}
 use Rattle.jv_handles.specs.declared.handle.Handle.{Handle}
+use Rattle.jv_model.proofs.PendingLaws.{no_first_segment}
 use Rattle.jv_client.specs.declared.doing.Doing.{Doing}
 use Rattle.jv_client.specs.declared.doing.Flush.TheVariants as flush
 use Rattle.jv_client.specs.ClientValue.{ClientValue}
@@ -22,10 +24,9 @@ use Rattle.jv_client.specs.Held.{is_last_here, segment_left}
 use Rattle.jv_client.specs.UnderWay.{FlushesFor, Closes, Syncs, Describes, ReadsNothing, Reads}
 use Rattle.jv_client.specs.UnderWay.{Truncates as FlushTruncates}
 use Rattle.jv_client.specs.UnderWay.{HasRoom, Beside, Alone, IsForm, Mounts, Transacts, Leaves, Writes, Flushes, Copies}
-use Rattle.jv_client.specs.UnderWay.{TellsStats, answer_here, ends_itself, is_transaction}
+use Rattle.jv_client.specs.UnderWay.{SaysStats, answer_here, ends_itself}
 use Rattle.jv_client.specs.Flushing.{without_segment, written_alone}
 use Rattle.jv_client.proofs.AfterCommitLaws.{still-open}
-use Rattle.jv_client.proofs.EndingLaws.{is_write}
 use Rattle.jv_client.proofs.HeldLaws.{doing_of}
 
 -- an answer after a flush: the model's, of no write
@@ -111,7 +112,7 @@ module _ (m : ModelClient) (c : ClientValue) (d : Doing)
       answered-so (Flushes handle file for first opened session) = by_reason handle for
       answered-so (Copies source from target to len file other o e first opened there session) =
           never does.Copies e refl
-      answered-so (TellsStats o e first session) = no_segment first
+      answered-so (SaysStats o e first session) = no_segment first
 
 -- ---- a write that had to wait for room
 
@@ -125,15 +126,11 @@ pub record WaitsToWrite (h : ClientValue) (d : Doing) (segment : Segment) (handl
 module _ (h : ClientValue) (d : Doing) (segment : Segment) (next : segment_left d.flush h.pending ≡ Some segment)
     (over : segment_left d.flush (without_segment segment h).pending ≡ None) (handle offset : ℕ) (bytes : List ℕ)
     (of_op : d.op ≡ op.Write handle offset bytes) where
-  nothing-left : (pending : List PendingByte) → first_segment pending ≡ None → pending ≡ []
-  nothing-left [] none = refl
-  nothing-left (b ∷ pending) none = absurd (cc none)
-
   committed-all : HasRoom h d.flush (length bytes) → (without_segment segment h).pending ≡ []
   committed-all (Beside first few) =
       absurd (let none = ap (λ f. segment_left f h.pending) first in cc (sym next ∙ none))
   committed-all (Alone first few) =
-      nothing-left (without_segment segment h).pending
+      no_first_segment (without_segment segment h).pending
       (sym (ap (λ f. segment_left f (without_segment segment h).pending) first) ∙ over)
 
   other-op : {A : Type 0} (o : Op) → d.op ≡ o → is_write o ≡ false → A
@@ -169,4 +166,4 @@ module _ (h : ClientValue) (d : Doing) (segment : Segment) (next : segment_left 
   waits-to_write (Flushes other file for first opened session) = not-flushing other for
   waits-to_write (Copies source from target to len file other o e first opened there session) =
       other-op (op.Copy source from target to len) o refl
-  waits-to_write (TellsStats o e first session) = other-op op.Stats o refl
+  waits-to_write (SaysStats o e first session) = other-op op.Stats o refl

@@ -11,6 +11,7 @@ use Rattle.jv_model.specs.client.Pending.{PendingByte}
 use Rattle.jv_model.specs.client.ModelClient.{file_of}
 use Rattle.jv_model.specs.client.Profile.{handle_of}
 use Rattle.jv_model.specs.client.Submission.{is_flushed}
+use Rattle.jv_model.specs.client.OpForms.{is_transaction}
 use Rattle.jv_handles.specs.declared.handle.Handle.{Handle}
 use Rattle.jv_client.specs.declared.doing.Doing.{Doing}
 use Rattle.jv_client.specs.declared.doing.Flush.{Flush}
@@ -20,9 +21,9 @@ use Rattle.jv_client.specs.declared.doing.Progress.TheVariants.{Working, Reading
 use Rattle.jv_client.specs.ClientValue.{ClientValue}
 use Rattle.jv_client.specs.Held.{flush_of_code, is_last_here}
 use Rattle.jv_client.specs.UnderWay.{ClosesOpen, Closes, Copies, Describes, Flushes, FlushesFor, IsAt, IsForm, IsReady}
-use Rattle.jv_client.specs.UnderWay.{IsUnderWay, IsWorking, Leaves, Mounts, Reads, ReadsNothing, Syncs, TellsStats}
+use Rattle.jv_client.specs.UnderWay.{IsUnderWay, IsWorking, Leaves, Mounts, Reads, ReadsNothing, Syncs, SaysStats}
 use Rattle.jv_client.specs.UnderWay.{Transacts, Truncates, Writes, asks_more, does_of, ends_itself, has_more, has_segment}
-use Rattle.jv_client.specs.UnderWay.{is_transaction, left, left_of}
+use Rattle.jv_client.specs.UnderWay.{left, left_of}
 
 -- ---- the operation in progress
 
@@ -132,7 +133,7 @@ module _ (h : ClientValue) (d : Doing) where
   closes-open (Flushes handle file for first opened session) = flushed-open handle file opened for
   closes-open (Copies source from target to len file other of_op of_does first opened there session) =
       open-as (op.Copy source from target to len) of_op tt
-  closes-open (TellsStats of_op of_does first session) = open-as op.Stats of_op tt
+  closes-open (SaysStats of_op of_does first session) = open-as op.Stats of_op tt
 
 pub ready-closes : (h : ClientValue) (d : Doing) → h.doing ≡ Some d → IsReady h → ClosesOpen d.op h.handles
 ready-closes h d busy ready = closes-open h d (under_way h d busy ready).form

@@ -2,11 +2,12 @@
 use Rattle.std.proofs.Common.{◌≡◌, ℕ, List, Option, None, Some, Result, Ok, Err, subst}
 use Rattle.jv_model.specs.declared.fault.Fault.{Fault}
 use Rattle.jv_model.specs.declared.slice.BlockId.{BlockId}
+use Rattle.jv_model.specs.blocks.BlockNames.{name_in}
 use Rattle.jv_yard.specs.declared.faults.YardFault.{YardFault}
 use Rattle.jv_yard.specs.BlockCalls.{GetsBlock}
-use Rattle.jv_yard.specs.Contents.{name_in}
 use Rattle.jv_yard.specs.YardValue.{YardValue}
-use Rattle.jv_client.specs.Getting.{IsBlockIn, ReadsBlock, yard_fault}
+use Rattle.jv_yard.specs.Refusals.{yard_fault}
+use Rattle.jv_client.specs.Getting.{IsBlockIn, ReadsBlock}
 
 module _ (client : ℕ) (b : BlockId) (before after : YardValue) (name : List ℕ) (named : name ≡ name_in before.setting b)
   where

@@ -6,10 +6,11 @@ use Rattle.std.proofs.lemmas.Bool.{eqb-true, or_cases}
 use Rattle.std.proofs.lemmas.List.Folds.{list_any-append}
 use Rattle.jv_model.specs.declared.profile.Does.{Does}
 use Rattle.jv_model.specs.tree.Tree.{Tree}
-use Rattle.jv_model.specs.client.ModelClient.{ModelClient, OpenFile, free_handle, is_among, with_file}
+use Rattle.jv_model.specs.client.ModelClient.{ModelClient, OpenFile, free_handle, with_file}
 use Rattle.jv_model.specs.journal.State.{Gift, NewSession, NewHandle, Nothing, given}
+use Rattle.jv_model.specs.Lists.{is_among}
 use Rattle.jv_volume.specs.Holding.{IsHoldable}
-use Rattle.jv_metadata.specs.Attempts.{is_inode}
+use Rattle.jv_links.specs.Removals.{is_inode}
 use Rattle.jv_shared.specs.Shared.{Known, Shared}
 use Rattle.jv_handles.specs.Handles.{new_handle}
 use Rattle.jv_handles.specs.Held.{AreHandles}

@@ -20,7 +20,7 @@ use Rattle.jv_client.specs.ClientValue.{ClientValue}
 use Rattle.jv_client.specs.Held.{IsClient, Holds}
 use Rattle.jv_client.specs.UnderWay.{FlushesFor, Closes, Describes, Reads, ReadsNothing, Syncs}
 use Rattle.jv_client.specs.UnderWay.{Truncates as TruncatesIt, HasRoom, Alone, Beside, IsForm, Copies, Flushes, Leaves}
-use Rattle.jv_client.specs.UnderWay.{Mounts, TellsStats, Transacts, Writes, IsAt, IsReady, IsUnderWay, has_more, moved_to}
+use Rattle.jv_client.specs.UnderWay.{Mounts, SaysStats, Transacts, Writes, IsAt, IsReady, IsUnderWay, has_more, moved_to}
 use Rattle.jv_client.specs.UnderWay.{progress_of, steps_in, steps_left, steps_of}
 use Rattle.jv_client.specs.Makes.{Makes, StepsTo, UsesDevices}
 use Rattle.jv_client.specs.YardUse.{YardUse}
@@ -89,7 +89,7 @@ module _ (h after : ClientValue) (k : Continues h after) where
         ∙ ap (λ inode. flush.Files inode other.inode) (sym later.2)
         ∙ ap (flush.Files later.0.inode) (sym later_there.2))
         later.1 later_there.1 (ap is_some k.session ∙ session)
-    form-on (TellsStats o does first session) = TellsStats o does first (ap is_some k.session ∙ session)
+    form-on (SaysStats o does first session) = SaysStats o does first (ap is_some k.session ∙ session)
 
 -- ---- the step
 

@@ -11,7 +11,7 @@ use Rattle.jv_model.specs.journal.Reading.{Asked, asked_parts, reading}
 use Rattle.jv_model.specs.journal.State.{after_told}
 use Rattle.jv_model.specs.journal.Steps.{asked_of}
 use Rattle.jv_cache.specs.Cached.{Cached}
-use Rattle.jv_contents.specs.Blocks.{Blocks, told_by}
+use Rattle.jv_contents.specs.Blocks.{Blocks, known_by}
 use Rattle.jv_shared.specs.Shared.{Known, Shared}
 use Rattle.jv_handles.specs.declared.handle.Handle.{Handle}
 use Rattle.jv_handles.specs.Held.{IsHandle}
@@ -146,14 +146,14 @@ module _ (block : ℕ) (h : ClientValue) (d : Doing) (offset len : ℕ) (cache :
 
       pub reading-is : (found : Found)
           → ((blocks : Blocks) (all : List Asked) → HasCached blocks file.views own.block before
-          → IsFetching blocks file.views all own → IsReadBy (told_by own.block blocks) file.views all (read_of found))
+          → IsFetching blocks file.views all own → IsReadBy (known_by own.block blocks) file.views all (read_of found))
           → reading m.views (handle_of d.op) (file_by file) (asked_parts offset len) found.first found.second
           ≡ Some found.bytes
       reading-is found read =
           let reads = asks.reads in
           fetches_show.same g v m.views count (handle_of d.op) offset len (file_by file) file (read_of found) reads.some
           reads.low reads.short named
-          (subst (λ n. IsReadBy (told_by n g.blocks) file.views (asked_parts offset len) (read_of found)) own_block
+          (subst (λ n. IsReadBy (known_by n g.blocks) file.views (asked_parts offset len) (read_of found)) own_block
           (read g.blocks (asked_parts offset len) has_own fetching))
 
     pub client-over : (count' : ℕ) → count ≤ count' → (found : Found)

@@ -2,6 +2,7 @@
 use Rattle.std.proofs.Common.{◌≡◌, ◌≢◌, ℕ, ◌+◌, ◌≤◌, false, true, List, [], ◌∷◌, length, Option, Some, Ok, Err, refl}
 use Rattle.std.proofs.Common.{sym, ap}
 use Rattle.std.proofs.Common.{subst, ◌∙◌, arith}
+use Rattle.jv_model.specs.declared.limits.TheConstants.{LAST_CLIENT}
 use Rattle.jv_model.specs.declared.act.ActKind.TheVariants.{Answered, Miss, Quiet}
 use Rattle.jv_model.specs.declared.act.Told.TheVariants.{Refused as ToldRefused}
 use Rattle.jv_model.specs.declared.fault.Device.{Device}
@@ -18,14 +19,15 @@ use Rattle.jv_model.specs.client.ModelClient.{ModelClient, OpenFile, Doing as Mo
 use Rattle.jv_model.specs.client.Profile.{handle_of}
 use Rattle.jv_model.specs.journal.Reading.{Asked, asked_parts, fresh_view}
 use Rattle.jv_model.specs.journal.State.{State, after_told, sees_first}
-use Rattle.jv_model.specs.journal.Steps.{file_in_use, is_failure}
+use Rattle.jv_model.specs.journal.Steps.{file_in_use}
+use Rattle.jv_model.specs.blocks.BlockNames.{name_in}
+use Rattle.jv_model.specs.client.OpForms.{is_read, is_umount}
 use Rattle.jv_outside.specs.Causes.{RoseIf}
 use Rattle.jv_cache.specs.Cached.{Cached}
-use Rattle.jv_contents.specs.Blocks.{Blocks, told_by}
+use Rattle.jv_contents.specs.Blocks.{Blocks, known_by}
 use Rattle.jv_yard.specs.declared.faults.YardFault.{YardFault}
 use Rattle.jv_yard.specs.declared.faults.YardFault.TheVariants.{Depot, Shelf, Memory}
 use Rattle.jv_yard.specs.BlockCalls.{GetsBlock}
-use Rattle.jv_yard.specs.Contents.{name_in}
 use Rattle.jv_yard.specs.Refusals.{Refuses}
 use Rattle.jv_yard.specs.YardValue.{YardValue}
 use Rattle.jv_shared.specs.Keeping.{KeepsShared}
@@ -49,16 +51,17 @@ use Rattle.jv_fetching.proofs.SameLaws.{fetches_show}
 use Rattle.jv_steps.specs.IsStep.{at_stage}
 use Rattle.jv_steps.proofs.LookStepLaws.{sees_first-is}
 use Rattle.jv_requests.specs.Request.{Request}
-use Rattle.jv_requests.proofs.GetLaws.{GotBlock, MayGet, get-answered, get-request, got-block}
+use Rattle.jv_requests.proofs.GetLaws.{GotBlock, MayGet, get-answered, get-request, got-block, fails-yard}
 use Rattle.jv_client.specs.declared.doing.Doing.{Doing}
 use Rattle.jv_client.specs.declared.made.Made.{Made}
 use Rattle.jv_client.specs.declared.made.Made.TheVariants as made
 use Rattle.jv_client.specs.declared.reading.Found.{Found}
 use Rattle.jv_client.specs.ClientValue.{ClientValue}
-use Rattle.jv_client.specs.Getting.{Fills, IsMissed, IsUnread, yard_fault}
+use Rattle.jv_yard.specs.Refusals.{yard_fault}
+use Rattle.jv_client.specs.Getting.{Fills, IsMissed, IsUnread}
 use Rattle.jv_client.specs.Held.{Holds, IsClient, IsHeld, in_flight}
-use Rattle.jv_client.specs.Makes.{Makes, StepsTo, TellsBad, UsesDevices, faults_of, step_of, tells_failure}
-use Rattle.jv_client.specs.CacheUse.{KeepsOne, LooksOnly, MovesInRead, is_read, is_umount}
+use Rattle.jv_client.specs.Makes.{Makes, StepsTo, SaysBad, UsesDevices, faults_of, step_of, says_failure}
+use Rattle.jv_client.specs.CacheUse.{KeepsOne, LooksOnly, MovesInRead}
 use Rattle.jv_client.specs.Reading.{GoesAhead, LookedUp, read_of, told_read}
 use Rattle.jv_client.proofs.CacheUseLaws.{cache-read}
 use Rattle.jv_client.specs.YardUse.{PutsNone, YardUse}
@@ -74,8 +77,8 @@ use Rattle.jv_client.proofs.ReadFailedLaws.{failed}
 -- ---- devices
 
 -- a block was read, and nothing else was asked
-uses-got : (done : Made) (before : Shared) (yard : YardValue) → ((device : Device) → tells_failure device done ≡ false)
-    → yard ≡ before.yard → TellsBad before (step_of done) → UsesDevices done before (record before { yard = yard })
+uses-got : (done : Made) (before : Shared) (yard : YardValue) → ((device : Device) → says_failure device done ≡ false)
+    → yard ≡ before.yard → SaysBad before (step_of done) → UsesDevices done before (record before { yard = yard })
 uses-got done before yard fine same bad =
     subst (λ (yard : YardValue). UsesDevices done before (record before { yard = yard })) (sym same)
     (uses-none done before fine bad)
@@ -108,7 +111,7 @@ uses-unread Depot before yard refused =
       bad = tt;
     }
   where
-    by_device : (device : Device) → RoseIf (tells_failure device (unread_as Depot)) (faults_of device before)
+    by_device : (device : Device) → RoseIf (says_failure device (unread_as Depot)) (faults_of device before)
         (faults_of device (record before { yard = yard }))
     by_device TheKeeper = refl
     by_device TheDepot = refused.0.cause
@@ -130,7 +133,7 @@ uses-unread Shelf before yard refused =
       bad = tt;
     }
   where
-    by_device : (device : Device) → RoseIf (tells_failure device (unread_as Shelf)) (faults_of device before)
+    by_device : (device : Device) → RoseIf (says_failure device (unread_as Shelf)) (faults_of device before)
         (faults_of device (record before { yard = yard }))
     by_device TheKeeper = refl
     by_device TheDepot = ap (λ (y : YardValue). y.depot.faults) refused.1
@@ -150,11 +153,6 @@ yard-unread now h done Shelf before after refused = record {
 }
 yard-unread now h done Memory before after refused = yard-got now h done before after refused
 
-fails-unread : (why : YardFault) → is_failure (ToldRefused (yard_fault why)) ≡ true
-fails-unread Depot = refl
-fails-unread Shelf = refl
-fails-unread Memory = refl
-
 -- ---- the model asks for the block
 
 -- whether the model's reading has a view of its first window
@@ -170,7 +168,7 @@ sees_same g v m md count file handle opened named (asked ∷ others) first =
 
 module _ (now entry block : ℕ) (h : ClientValue) (d : Doing) (offset len : ℕ) (cache : Cached) (fetch : Fetching)
     (b : BlockId) (asks : IsAsking block h d offset len cache fetch (NeedsBlock b)) (before : Shared)
-    (length_is : before.yard.setting.block ≡ block) (low : h.id ≤ 7) (yard : YardValue) where
+    (length_is : before.yard.setting.block ≡ block) (low : h.id ≤ LAST_CLIENT) (yard : YardValue) where
   abbrev handle : ℕ
   handle = handle_of d.op
 
@@ -308,7 +306,7 @@ module _ (now entry block : ℕ) (h : ClientValue) (d : Doing) (offset len : ℕ
         leads-over : (found : Found)
             → ((blocks : Blocks) (all : List Asked) → HasCached blocks file.views filled.block kept
             → IsFetching blocks file.views all filled
-            → IsReadBy (told_by filled.block blocks) file.views all (read_of found))
+            → IsReadBy (known_by filled.block blocks) file.views all (read_of found))
             → StepsTo s g before h now (Quiet ∷ Answered (told_read found) ∷ []) (Done (Data found.bytes))
             (over h.handles later h) used
         leads-over found read = record {
@@ -365,7 +363,7 @@ module _ (now entry block : ℕ) (h : ClientValue) (d : Doing) (offset len : ℕ
       pub get-over : (found : Found)
           → ((blocks : Blocks) (all : List Asked) → HasCached blocks file.views filled.block kept
           → IsFetching blocks file.views all filled
-          → IsReadBy (told_by filled.block blocks) file.views all (read_of found))
+          → IsReadBy (known_by filled.block blocks) file.views all (read_of found))
           → Makes now entry h (over h.handles later h) before used (made.Both Quiet (told_read found) (Data found.bytes))
       get-over found read = record {
         id = refl;
@@ -398,7 +396,7 @@ module _ (now entry block : ℕ) (h : ClientValue) (d : Doing) (offset len : ℕ
       (made.Answer (ToldRefused fault) (RefusedReply fault))) (sym unread.is)
       (failed now entry block h d offset len cache fetch (NeedsBlock b) asks before used
       (same-gets before yard h.id name (Err unread.why) unread.gets) (yard_fault unread.why) cache cached-before
-      (fails-unread unread.why) (uses-unread unread.why before yard unread.gets)
+      (fails-yard unread.why) (uses-unread unread.why before yard unread.gets)
       (yard-unread now h (unread_as unread.why) unread.why before.yard yard unread.gets)
       (LooksOnly (LookedUp cache asks.looked refl)))
 

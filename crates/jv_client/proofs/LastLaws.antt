@@ -1,6 +1,7 @@
 -- A handle is the last one on a file in the model's client, if and only if it is in the one in memory.
 use Rattle.std.proofs.Common.{◌≡◌, ℕ, ◌&&◌, not, None, ap, ◌∙◌}
-use Rattle.jv_model.specs.client.ModelClient.{ModelClient, held_inodes, inode_at, is_among, is_last_of_removed, with_file}
+use Rattle.jv_model.specs.client.ModelClient.{ModelClient, held_inodes, inode_at, is_last_of_removed, with_file}
+use Rattle.jv_model.specs.Lists.{is_among}
 use Rattle.jv_shared.specs.Shared.{Known, Shared}
 use Rattle.jv_handles.specs.Handles.{inode_here}
 use Rattle.jv_handles.proofs.HandleLaws.{handles-elsewhere, handles-inode}

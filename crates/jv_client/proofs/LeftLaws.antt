@@ -2,8 +2,8 @@
 use Rattle.std.proofs.Common.{◌≡◌, ℕ, suc, ◌+◌, ◌≤◌, ◌<◌, Bool, true, false, List, [], ◌∷◌, length, filter}
 use Rattle.std.proofs.Common.{Option, None, Some, refl, sym, ap, subst, ◌∙◌, arith}
 use Rattle.std.specs.Prelude.{◌==◌, ◌%◌, if◌then◌else◌}
+use Rattle.jv_model.specs.declared.limits.TheConstants.{WINDOW}
 use Rattle.jv_model.specs.client.Pending.{PendingByte, Segment, first_segment, pending_of, run_length, stands_at}
-use Rattle.jv_model.specs.client.Pending.{window_size}
 use Rattle.jv_model.specs.client.ModelClient.{Flush as ModelFlush, OfFiles, OfAll}
 use Rattle.jv_model.specs.client.Submission.{next_segment, segment_of_files}
 use Rattle.jv_client.specs.declared.doing.Doing.{Doing}
@@ -29,7 +29,7 @@ fewer keep (b ∷ bytes) = by_test (keep b) (fewer keep bytes)
 run-short : (inode position : ℕ) (bytes : List PendingByte) → run_length inode position bytes ≤ length bytes
 run-short inode position [] = omega arith
 run-short inode position (b ∷ bytes) =
-    by_tests (stands_at inode position b) ((position + 1) % window_size == 0)
+    by_tests (stands_at inode position b) ((position + 1) % WINDOW == 0)
     (run-short inode (position + 1) bytes)
   where
     by_tests : (stands ends : Bool) → run_length inode (position + 1) bytes ≤ length bytes

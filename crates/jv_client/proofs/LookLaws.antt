@@ -15,10 +15,11 @@ use Rattle.jv_model.specs.client.Profile.{handle_of}
 use Rattle.jv_model.specs.journal.Reading.{Asked, asked_parts}
 use Rattle.jv_model.specs.journal.State.{State, after_told, view_now}
 use Rattle.jv_model.specs.journal.Steps.{file_in_use, window_to_look}
+use Rattle.jv_model.specs.client.OpForms.{is_read, is_umount}
 use Rattle.jv_outside.specs.Causes.{RoseIf}
 use Rattle.jv_outside.specs.Store.{Store}
 use Rattle.jv_cache.specs.Cached.{Cached}
-use Rattle.jv_contents.specs.Blocks.{Blocks, told_by}
+use Rattle.jv_contents.specs.Blocks.{Blocks, known_by}
 use Rattle.jv_data.specs.declared.looking.View.{View as Looked}
 use Rattle.jv_data.specs.Records.{LooksAt}
 use Rattle.jv_shared.specs.Keeping.{HoldsSame, KeepsShared}
@@ -52,8 +53,8 @@ use Rattle.jv_client.specs.declared.made.Made.TheVariants as made
 use Rattle.jv_client.specs.declared.reading.Found.{Found}
 use Rattle.jv_client.specs.ClientValue.{ClientValue, session_here}
 use Rattle.jv_client.specs.Held.{Holds, IsClient, IsHeld, in_flight}
-use Rattle.jv_client.specs.Makes.{Makes, StepsTo, TellsBad, UsesDevices, faults_of, step_of, tells_failure}
-use Rattle.jv_client.specs.CacheUse.{LooksOnly, MovesInRead, is_read, is_umount}
+use Rattle.jv_client.specs.Makes.{Makes, StepsTo, SaysBad, UsesDevices, faults_of, step_of, says_failure}
+use Rattle.jv_client.specs.CacheUse.{LooksOnly, MovesInRead}
 use Rattle.jv_client.specs.Reading.{GoesAhead, LookedUp, cache_in, read_of, told_read}
 use Rattle.jv_client.proofs.CacheUseLaws.{cache-read}
 use Rattle.jv_fetching.proofs.CacheLaws.{looks_then}
@@ -68,9 +69,9 @@ use Rattle.jv_client.proofs.GoneOnLaws.{ready-on}
 -- ---- devices
 
 -- the keeper was read, and nothing was asked of others
-pub uses-look : (done : Made) (before : Shared) (keeper : Store) → ((device : Device) → tells_failure device done ≡ false)
+pub uses-look : (done : Made) (before : Shared) (keeper : Store) → ((device : Device) → says_failure device done ≡ false)
     → keeper.rows ≡ before.keeper.rows → keeper.opened ≡ before.keeper.opened → keeper.faults ≡ before.keeper.faults
-    → TellsBad before (step_of done) → UsesDevices done before (record before { keeper = keeper })
+    → SaysBad before (step_of done) → UsesDevices done before (record before { keeper = keeper })
 uses-look done before keeper fine rows opened faults bad = record {
   keeper_at = opened;
   carrier_at = refl;
@@ -275,7 +276,7 @@ module _ (now entry block : ℕ) (h : ClientValue) (d : Doing) (offset len : ℕ
       leads-over : (found : Found)
           → ((blocks : Blocks) (all : List Asked) → HasCached blocks seen.views fetch.block cache
           → IsFetching blocks seen.views all fetch
-          → IsReadBy (told_by fetch.block blocks) seen.views all (read_of found))
+          → IsReadBy (known_by fetch.block blocks) seen.views all (read_of found))
           → StepsTo s g before h now (Look file.inode window ∷ Answered (told_read found) ∷ []) (Done (Data found.bytes))
           (over handles later h) used
       leads-over found read = record {
@@ -331,7 +332,7 @@ module _ (now entry block : ℕ) (h : ClientValue) (d : Doing) (offset len : ℕ
   -- or it is answered
   pub look-over : (later : Cached) → LooksUp cache later → (found : Found)
       → ((blocks : Blocks) (all : List Asked) → HasCached blocks seen.views fetch.block cache
-      → IsFetching blocks seen.views all fetch → IsReadBy (told_by fetch.block blocks) seen.views all (read_of found))
+      → IsFetching blocks seen.views all fetch → IsReadBy (known_by fetch.block blocks) seen.views all (read_of found))
       → Makes now entry h (over handles later h) before used
       (made.Both (Look file.inode window) (told_read found) (Data found.bytes))
   look-over later looks_up found read = record {

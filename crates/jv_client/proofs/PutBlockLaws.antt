@@ -40,7 +40,7 @@ use Rattle.jv_client.specs.ClientValue.{ClientValue}
 use Rattle.jv_client.specs.Flushing.{bytes_of}
 use Rattle.jv_client.specs.Held.{IsClient, IsOnWay, flight_of, flush_of_code, number_of, stage_of}
 use Rattle.jv_client.specs.UnderWay.{IsAt, IsReady, left, moved_to, progress_of}
-use Rattle.jv_client.specs.Makes.{Makes, UsesDevices, faults_of, tells_failure}
+use Rattle.jv_client.specs.Makes.{Makes, UsesDevices, faults_of, says_failure}
 use Rattle.jv_client.specs.Transacting.{Fails}
 use Rattle.jv_client.specs.YardUse.{PutsNext, PutsNone, YardUse}
 use Rattle.jv_client.proofs.HeldLaws.{client-doing, doing_of}
@@ -56,31 +56,31 @@ use Rattle.jv_client.proofs.FlushLaws.{Asked, asks}
 abbrev pub not_put : PutFault → Made
 not_put fault = Answer (ToldRefused (fault_of fault)) (RefusedReply (fault_of fault))
 
-told-carrier : (d : Device) → tells_failure d (not_put Carrier) ≡ put_fails d (Err Carrier)
+told-carrier : (d : Device) → says_failure d (not_put Carrier) ≡ put_fails d (Err Carrier)
 told-carrier device.Keeper = refl
 told-carrier device.Depot = refl
 told-carrier device.Shelf = refl
 told-carrier device.Carrier = refl
 
-told-depot : (d : Device) → tells_failure d (not_put Depot) ≡ put_fails d (Err Depot)
+told-depot : (d : Device) → says_failure d (not_put Depot) ≡ put_fails d (Err Depot)
 told-depot device.Keeper = refl
 told-depot device.Depot = refl
 told-depot device.Shelf = refl
 told-depot device.Carrier = refl
 
-told-memory : (d : Device) → tells_failure d (not_put Memory) ≡ put_fails d (Err Memory)
+told-memory : (d : Device) → says_failure d (not_put Memory) ≡ put_fails d (Err Memory)
 told-memory device.Keeper = refl
 told-memory device.Depot = refl
 told-memory device.Shelf = refl
 told-memory device.Carrier = refl
 
 -- the device that failed is answered
-told-unput : (fault : PutFault) (d : Device) → tells_failure d (not_put fault) ≡ put_fails d (Err fault)
+told-unput : (fault : PutFault) (d : Device) → says_failure d (not_put fault) ≡ put_fails d (Err fault)
 told-unput Carrier = told-carrier
 told-unput Depot = told-depot
 told-unput Memory = told-memory
 
-told-put : (d : Device) → tells_failure d (AsksFor Quiet) ≡ put_fails d (Ok tt)
+told-put : (d : Device) → says_failure d (AsksFor Quiet) ≡ put_fails d (Ok tt)
 told-put device.Keeper = refl
 told-put device.Depot = refl
 told-put device.Shelf = refl
@@ -88,12 +88,12 @@ told-put device.Carrier = refl
 
 module _ (before : Shared) (yard : YardValue) (carrier : Carriage) (result : Result (Unit {0}) PutFault)
     (uses : PutUses before.yard yard before.carrier carrier result) (done : Made)
-    (told : (d : Device) → tells_failure d done ≡ put_fails d result) where
+    (told : (d : Device) → says_failure d done ≡ put_fails d result) where
   abbrev used : Shared
   used = record before { yard = yard; carrier = carrier }
 
   -- each device counts a fault where the put failed because of it
-  put-counts : (d : Device) → RoseIf (tells_failure d done) (faults_of d before) (faults_of d used)
+  put-counts : (d : Device) → RoseIf (says_failure d done) (faults_of d before) (faults_of d used)
   put-counts device.Keeper =
       subst (λ b. RoseIf b before.keeper.faults before.keeper.faults) (sym (told device.Keeper)) refl
   put-counts device.Depot =

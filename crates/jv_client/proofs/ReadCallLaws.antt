@@ -1,6 +1,7 @@
 -- What the calls of a reading that asks for something leave of the client is what the step promises.
 use Rattle.std.proofs.Common.{◌≡◌, ℕ, ◌≤◌, List, Option, Some, Ok, refl, ap, subst, ◌∙◌}
 use Rattle.std.specs.Option.{option_map}
+use Rattle.jv_model.specs.declared.limits.TheConstants.{LAST_CLIENT}
 use Rattle.jv_model.specs.declared.act.ActKind.TheVariants.{Look, Quiet}
 use Rattle.jv_model.specs.declared.act.Told.TheVariants.{Refused as ToldRefused}
 use Rattle.jv_model.specs.declared.fault.Fault.TheVariants.{NoMemory}
@@ -8,6 +9,7 @@ use Rattle.jv_model.specs.declared.op.Reply.TheVariants.{Refused}
 use Rattle.jv_model.specs.declared.slice.BlockId.{BlockId}
 use Rattle.jv_model.specs.client.ModelClient.{file_of, with_file}
 use Rattle.jv_model.specs.client.Profile.{handle_of}
+use Rattle.jv_model.specs.blocks.BlockNames.{name_in}
 use Rattle.jv_outside.specs.Store.{Store}
 use Rattle.jv_cache.specs.Cached.{Cached}
 use Rattle.jv_data.specs.declared.looking.View.{View as Looked}
@@ -17,7 +19,6 @@ use Rattle.jv_handles.specs.Handles.{unseen_by}
 use Rattle.jv_handles.proofs.UnseenLaws.{unseen_by-seen_by}
 use Rattle.jv_shared.specs.Shared.{Shared}
 use Rattle.jv_yard.specs.BlockCalls.{GetsBlock}
-use Rattle.jv_yard.specs.Contents.{name_in}
 use Rattle.jv_yard.specs.YardValue.{YardValue}
 use Rattle.jv_fetching.specs.declared.need.Need.TheVariants.{Block as NeedsBlock, Look as NeedsLook}
 use Rattle.jv_fetching.specs.Calls.{LooksUp}
@@ -140,7 +141,7 @@ module _ (now entry block : ℕ) (h : ClientValue) (d : Doing) (offset len : ℕ
 
 module _ (now entry block : ℕ) (h : ClientValue) (d : Doing) (offset len : ℕ) (cache : Cached) (fetch : Fetching)
     (b : BlockId) (asks : IsAsking block h d offset len cache fetch (NeedsBlock b)) (before : Shared)
-    (length_is : before.yard.setting.block ≡ block) (low : h.id ≤ 7) (yard : YardValue) (bytes : List ℕ)
+    (length_is : before.yard.setting.block ≡ block) (low : h.id ≤ LAST_CLIENT) (yard : YardValue) (bytes : List ℕ)
     (gets : GetsBlock h.id (name_in before.yard.setting b) before.yard yard (Ok (Some bytes))) (filled : Fetching)
     (kept : Cached) (fills : Fills b bytes fetch filled cache kept) where
   abbrev now_used : Shared

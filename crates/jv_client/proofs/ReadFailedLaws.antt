@@ -9,6 +9,7 @@ use Rattle.jv_model.specs.declared.op.Step.TheVariants.{Done}
 use Rattle.jv_model.specs.client.ModelClient.{ModelClient}
 use Rattle.jv_model.specs.journal.State.{State}
 use Rattle.jv_model.specs.journal.Steps.{is_failure}
+use Rattle.jv_model.specs.client.OpForms.{is_read}
 use Rattle.jv_cache.specs.Cached.{Cached}
 use Rattle.jv_fetching.specs.declared.need.Need.{Need}
 use Rattle.jv_fetching.specs.Calls.{IsCacheOf}
@@ -24,7 +25,7 @@ use Rattle.jv_client.specs.declared.made.Made.TheVariants as made
 use Rattle.jv_client.specs.ClientValue.{ClientValue}
 use Rattle.jv_client.specs.Held.{Holds, IsClient, IsHeld, in_flight}
 use Rattle.jv_client.specs.Makes.{Makes, StepsTo, UsesDevices}
-use Rattle.jv_client.specs.CacheUse.{CacheUse, MovesInRead, is_read}
+use Rattle.jv_client.specs.CacheUse.{CacheUse, MovesInRead}
 use Rattle.jv_client.specs.YardUse.{YardUse}
 use Rattle.jv_client.proofs.CacheUseLaws.{cache-read, failure-stays}
 use Rattle.jv_client.proofs.HeldLaws.{doing_of, holds-doing}

@@ -23,6 +23,7 @@ use Rattle.jv_handles.proofs.HandleLaws.{handles-there}
 use Rattle.jv_shared.specs.Shared.{Known, Shared}
 use Rattle.jv_steps.specs.Stages.{MayRead, Begins, GoesOn}
 use Rattle.jv_requests.proofs.GetLaws.{MayGet, First, Later}
+use Rattle.jv_handles.proofs.TableLaws.{the_some}
 use Rattle.jv_client.specs.declared.doing.Doing.{Doing}
 use Rattle.jv_client.specs.declared.doing.Flush.TheVariants as flush
 use Rattle.jv_client.specs.declared.doing.Progress.{Progress}
@@ -177,13 +178,9 @@ pub record Asking (block : ℕ) (h c : ClientValue) (next : Need) : Type 0 where
 some_is : {X : Type 0} (P : X → Type 0) (o : Option X) (x : X) → o ≡ Some x → IsSomeAnd o P → P x
 some_is P o x is h = subst (λ o. IsSomeAnd o P) is h
 
-cache_there : (o : Option Cached) → IsTrue (is_some o) → (cache : Cached) × (o ≡ Some cache)
-cache_there None some = absurd (cc some)
-cache_there (Some cache) some = (cache, refl)
-
 pub is_asking : (block : ℕ) (h c : ClientValue) (next : Need) → IsAhead block h c → IsReady h → IsReady c
     → left c ≡ None → need_in c.doing ≡ Some next → Asking block h c next
-is_asking block h c next a ready after none need = by_cache (cache_there c.cache reading.cache)
+is_asking block h c next a ready after none need = by_cache (the_some c.cache reading.cache)
   where
     here : c.doing ≡ Some (put_at (Reading a.fetch a.next) a.d)
     here = ap (λ (x : ClientValue). x.doing) a.is

@@ -13,8 +13,8 @@ use Rattle.jv_model.specs.client.Submission.{is_flushed}
 use Rattle.jv_model.specs.journal.Reading.{Asked, asked_parts, reading}
 use Rattle.jv_model.specs.journal.Steps.{asked_of}
 use Rattle.jv_cache.specs.Cached.{Cached}
-use Rattle.jv_contents.specs.Blocks.{Blocks, told_by}
-use Rattle.jv_contents.specs.Bytes.{Told}
+use Rattle.jv_contents.specs.Blocks.{Blocks, known_by}
+use Rattle.jv_contents.specs.Bytes.{KnownBytes}
 use Rattle.jv_shared.specs.Shared.{Known, Shared}
 use Rattle.jv_handles.specs.declared.handle.Handle.{Handle}
 use Rattle.jv_handles.specs.Held.{IsHandle}
@@ -39,7 +39,7 @@ use Rattle.jv_client.specs.declared.reading.Found.{Found}
 use Rattle.jv_client.specs.ClientValue.{ClientValue}
 use Rattle.jv_client.specs.Held.{GoesOn, IsClient, IsHeld, flush_of_code, segment_left}
 use Rattle.jv_client.specs.UnderWay.{FlushesFor, Closes, Syncs, Describes, ReadsNothing, Reads, Truncates as CutsOff}
-use Rattle.jv_client.specs.UnderWay.{IsForm, Mounts, Transacts, Leaves, Writes, Flushes, Copies, TellsStats}
+use Rattle.jv_client.specs.UnderWay.{IsForm, Mounts, Transacts, Leaves, Writes, Flushes, Copies, SaysStats}
 use Rattle.jv_client.specs.UnderWay.{IsAt, IsReading, IsReady, IsUnderWay, does_of, has_segment, left}
 use Rattle.jv_client.specs.UnderWay.{left_of, reading_steps, steps_in, steps_left, steps_of}
 use Rattle.jv_client.specs.Reading.{Begins, ClientComesTo, ComesTo, GoesAhead, IsAhead, IsCachedAs, IsMade}
@@ -93,7 +93,7 @@ module _ (h : ClientValue) (d : Doing) (offset len : ℕ) (is : d.does ≡ does.
   reads-file (Flushes handle file for first opened session) = reads-for handle file for first opened session
   reads-file (Copies source from target to n file other o e first opened second session) =
       absurd (let f = sym e ∙ is in cc)
-  reads-file (TellsStats o e first session) = absurd (let f = sym e ∙ is in cc)
+  reads-file (SaysStats o e first session) = absurd (let f = sym e ∙ is in cc)
 
 -- an operation that reads is in progress, by a handle that is open
 pub record ReadsHere (h : ClientValue) (offset len : ℕ) : Type 0 where
@@ -160,17 +160,17 @@ module _ (g : Known) (v : Shared) (m : ModelClient) (count : ℕ) (h : ClientVal
   sized-here = fetches_show.sized g v m.views count number there.0 file there.2
 
   pub reads-as : (offset len : ℕ) (read : ℕ × ℕ × List ℕ) → 0 < len → offset < FILE_END → len ≤ WINDOW
-      → IsReadBy (told_by v.yard.setting.block g.blocks) file.views (asked_parts offset len) read
+      → IsReadBy (known_by v.yard.setting.block g.blocks) file.views (asked_parts offset len) read
       → reading m.views number there.0 (asked_parts offset len) read.0 read.1 ≡ Some read.2
   reads-as offset len read some low long by =
       fetches_show.same g v m.views count number offset len there.0 file read some low long there.2 by
 
 -- the first window was seen
-pub seen_first : (told : Told) (views : SeenViews) (parts : List Asked) (read : ℕ × ℕ × List ℕ)
-    → IsReadBy told views parts read → first_seen views parts
-seen_first told views parts read (One asked others view is seen ends e) =
+pub seen_first : (known_bytes : KnownBytes) (views : SeenViews) (parts : List Asked) (read : ℕ × ℕ × List ℕ)
+    → IsReadBy known_bytes views parts read → first_seen views parts
+seen_first known_bytes views parts read (One asked others view is seen ends e) =
     subst (first_seen views) (sym is) (ap is_some seen)
-seen_first told views parts read (Two asked other view next is seen full after e) =
+seen_first known_bytes views parts read (Two asked other view next is seen full after e) =
     subst (first_seen views) (sym is) (ap is_some seen)
 
 pub seen_window : (views : SeenViews) (offset len : ℕ) → 0 < len → offset < FILE_END
@@ -347,7 +347,7 @@ module _ (offset len block : ℕ) (h : ClientValue) (d : Doing) (busy : h.doing 
           let named : Some on.file ≡ Some file = sym opened ∙ ap (λ (d : Doing). file_of h.handles (handle_of d.op)) same
           ∙ opened' in
           let file_is : on.file ≡ file = cc named in
-          subst (λ (file : Handle). IsReadBy (told_by block blocks) file.views (asked_parts offset len) (read_of found))
+          subst (λ (file : Handle). IsReadBy (known_by block blocks) file.views (asked_parts offset len) (read_of found))
           file_is
           (comes blocks (asked_parts offset len)
           (reads-on sizes blocks (subst (λ (file : Handle). AreSizedBy sizes file.views) (sym file_is) sized) known)
@@ -363,10 +363,10 @@ pub reads-all : (views : SeenViews) (cache : Cached) (fetch next : Fetching) (ne
     → read_of found ≡ fetched_of next → ComesTo views cache fetch (ahead.Read found)
 reads-all views cache fetch next need found block none wants reads is = λ blocks all cached fetching.
     let over : Wants views next Nothing = subst (Wants views next) none wants in
-    let by : IsReadBy (told_by next.block blocks) views all (fetched_of next) =
+    let by : IsReadBy (known_by next.block blocks) views all (fetched_of next) =
     fetches_show.done blocks views all next over.1 (reads blocks all cached fetching) in
-    subst (λ n. IsReadBy (told_by n blocks) views all (read_of found)) block
-    (subst (IsReadBy (told_by next.block blocks) views all) (sym is) by)
+    subst (λ n. IsReadBy (known_by n blocks) views all (read_of found)) block
+    (subst (IsReadBy (known_by next.block blocks) views all) (sym is) by)
 
 -- ---- with the cache that is there, or a new one
 

@@ -23,7 +23,7 @@ use Rattle.jv_client.specs.declared.doing.Flush.{Flush}
 use Rattle.jv_client.specs.declared.doing.Flush.TheVariants as flush
 use Rattle.jv_client.specs.ClientValue.{ClientValue}
 use Rattle.jv_client.specs.Held.{begun, flush_here, segment_left}
-use Rattle.jv_client.specs.UnderWay.{Alone, Beside, Closes, Copies, Describes, Flushes, FlushesFor, HasRoom, IsForm, IsReady, IsUnderWay, Leaves, Mounts, Reads, ReadsNothing, Syncs, TellsStats, Transacts, Truncates, Writes}
+use Rattle.jv_client.specs.UnderWay.{Alone, Beside, Closes, Copies, Describes, Flushes, FlushesFor, HasRoom, IsForm, IsReady, IsUnderWay, Leaves, Mounts, Reads, ReadsNothing, Syncs, SaysStats, Transacts, Truncates, Writes}
 
 -- a submission that isn't refused
 
@@ -148,7 +148,7 @@ module _ (h : ClientValue) where
   form_of op.Clean buffer built a = absurd (cc built)
   form_of (op.Gc delete) buffer built a = absurd (cc built)
   form_of op.Upload buffer built a = absurd (cc built)
-  form_of op.Stats buffer built a = TellsStats refl refl refl (not-false _ a.mounted_is)
+  form_of op.Stats buffer built a = SaysStats refl refl refl (not-false _ a.mounted_is)
   form_of _ buffer built a = Transacts refl built refl refl (not-false _ a.mounted_is)
 
 room-still : (h : ClientValue) (doing : Option Doing) (first : Flush) (len : ℕ) → HasRoom h first len
@@ -165,7 +165,12 @@ still_form h d doing (Writes handle offset bytes file o does opened short room s
 still_form h d doing (Flushes handle file for first opened session) = Flushes handle file for first opened session
 still_form h d doing (Copies source from target to len file other o does first opened there session) =
     Copies source from target to len file other o does first opened there session
-still_form h d doing (TellsStats o does first session) = TellsStats o does first session
+still_form h d doing (SaysStats o does first session) = SaysStats o does first session
+
+-- no request of a segment was made
+pub few-none : (o : Option Segment) → IfSome o (λ (segment : Segment). 0 ≤ 1 + segment.len)
+few-none None = tt
+few-none (Some segment) = omega arith
 
 -- a built operation that is accepted is under way
 pub begun-ready : (h : ClientValue) (o : Op) (d : Doing) → IsReady h → is_built_op h.limits o ≡ true
@@ -186,7 +191,3 @@ begun-ready h o d ready built none same =
       asks = λ moved. absurd (cc moved);
     } in
     record { buffer = ready.buffer; doing = subst (IsUnderWay (record h { doing = Some d })) (sym same) way }
-  where
-    few-none : (o : Option Segment) → IfSome o (λ (segment : Segment). 0 ≤ 1 + segment.len)
-    few-none None = tt
-    few-none (Some segment) = omega arith

@@ -17,8 +17,9 @@ use Rattle.jv_model.specs.client.ModelClient.{ModelClient, Doing as ModelDoing, 
 use Rattle.jv_model.specs.client.Profile.{handle_of}
 use Rattle.jv_model.specs.journal.Reading.{asked_parts}
 use Rattle.jv_model.specs.journal.State.{State}
+use Rattle.jv_model.specs.client.OpForms.{is_read, is_umount}
 use Rattle.jv_cache.specs.Cached.{Cached}
-use Rattle.jv_contents.specs.Blocks.{Blocks, told_by}
+use Rattle.jv_contents.specs.Blocks.{Blocks, known_by}
 use Rattle.jv_shared.specs.Shared.{HasStore, Known, Shared}
 use Rattle.jv_shared.proofs.SameLaws.{same-none, same-stays}
 use Rattle.jv_handles.specs.declared.handle.Handle.{Handle}
@@ -37,11 +38,11 @@ use Rattle.jv_client.specs.declared.reading.Found.{Found}
 use Rattle.jv_client.specs.ClientValue.{ClientValue}
 use Rattle.jv_client.specs.Ending.{ended}
 use Rattle.jv_client.specs.Held.{GoesOn, IsClient, IsHeld, in_flight, stage_of}
-use Rattle.jv_client.specs.Makes.{Makes, tells_failure}
+use Rattle.jv_client.specs.Makes.{Makes, says_failure}
 use Rattle.jv_client.specs.Transacting.{Fails}
 use Rattle.jv_client.specs.UnderWay.{IsReady, asks_more, does_of, has_more, has_not_seen, has_segment, left}
 use Rattle.jv_client.specs.Reading.{Begins, IsAhead, IsCachedAs, ReadsAtOnce, Shows, need_in, read_of, told_read}
-use Rattle.jv_client.specs.CacheUse.{CacheUse, LooksOnly, is_read, is_umount}
+use Rattle.jv_client.specs.CacheUse.{CacheUse, LooksOnly}
 use Rattle.jv_client.proofs.CacheUseLaws.{cache-read}
 use Rattle.jv_client.proofs.FormLaws.{under_way}
 use Rattle.jv_client.proofs.HeldLaws.{client-doing, doing_of, holds-doing}
@@ -97,7 +98,7 @@ module _ (now entry : ℕ) (h : ClientValue) (ready : IsReady h) (v : Shared) (c
   without_op m = record m { doing = None }
 
   answered-alone : CacheUse h left_by (made.Answer told reply) v.yard v.yard
-      → ((device : Device) → tells_failure device (made.Answer told reply) ≡ false)
+      → ((device : Device) → says_failure device (made.Answer told reply) ≡ false)
       → ((s : State) (g : Known) → HasStore s.tree g v → IsClient g v (s.clients h.id) s.count h
       → Request s g g v v h.id now (in_flight h) (in_flight h) (Answered told ∷ []) (Done reply) s.tree
       (without_op (s.clients h.id)) s.copied)
@@ -159,7 +160,7 @@ module _ (now entry offset len : ℕ) (h middle : ClientValue) (d : Doing) (busy
       abbrev model : ModelDoing
       model = doing_of d
 
-      read : IsReadBy (told_by v.yard.setting.block g.blocks) on.file.views (asked_parts offset len) (read_of found)
+      read : IsReadBy (known_by v.yard.setting.block g.blocks) on.file.views (asked_parts offset len) (read_of found)
       read = reads.read d on.file g.sizes g.blocks busy opened
           (sized-here g v mine s.count h client.held (handle_of d.op) on.file opened) client.cache
 
@@ -169,7 +170,7 @@ module _ (now entry offset len : ℕ) (h middle : ClientValue) (d : Doing) (busy
           ap (λ (x : Does). asks_more h (record d { does = x })) is
           ∙ ap (λ (o : Option Handle). has_not_seen offset o) opened
           ∙ ap not (seen_window on.file.views offset len on.some on.low
-          (seen_first (told_by v.yard.setting.block g.blocks) on.file.views (asked_parts offset len) (read_of found) read))
+          (seen_first (known_by v.yard.setting.block g.blocks) on.file.views (asked_parts offset len) (read_of found) read))
 
       still : d.has_moved ≡ false
       still = false_from_ne_true d.has_moved (λ moved.

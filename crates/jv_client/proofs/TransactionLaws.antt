@@ -17,19 +17,20 @@ use Rattle.jv_model.specs.declared.op.Step.TheVariants.{Done}
 use Rattle.jv_model.specs.tree.Tree.{Tree, is_sustained}
 use Rattle.jv_model.specs.tree.Caller.{Caller, Outcome}
 use Rattle.jv_model.specs.tree.TreeAct.{tree_act}
-use Rattle.jv_model.specs.client.ModelClient.{ModelClient, free_handle, is_among}
+use Rattle.jv_model.specs.client.ModelClient.{ModelClient, free_handle}
 use Rattle.jv_model.specs.client.Profile.{handle_of}
 use Rattle.jv_model.specs.client.Submission.{is_flushed}
-use Rattle.jv_model.specs.journal.State.{State, Gift, after_told, caller, gift_of}
+use Rattle.jv_model.specs.journal.State.{State, Gift, after_told, caller, gift_of, is_refused}
 use Rattle.jv_model.specs.journal.State.{newly_sustained, transacted}
 use Rattle.jv_model.specs.journal.Steps.{entry_of_gift, told_of, transacts}
+use Rattle.jv_model.specs.Lists.{is_among}
+use Rattle.jv_model.specs.client.OpForms.{is_metadata, takes_entries, is_write}
 use Rattle.jv_outside.specs.Store.{Store}
-use Rattle.jv_volume.specs.Holding.{takes_entries}
 use Rattle.jv_volume.proofs.HoldingLaws.{sustains_none, sustains_held}
 use Rattle.jv_volume.proofs.OpeningLaws.{opened_file}
-use Rattle.jv_links.specs.Removals.{HoldsFiles}
+use Rattle.jv_links.specs.Removals.{HoldsFiles, is_inode}
 use Rattle.jv_metadata.specs.declared.answers.Answer.{Answer}
-use Rattle.jv_metadata.specs.Attempts.{KeepsOne, TellsKept, attempt, is_inode, is_metadata, is_refusal}
+use Rattle.jv_metadata.specs.Attempts.{KeepsOne, SaysKept, attempt}
 use Rattle.jv_shared.specs.Keeping.{KeepsShared}
 use Rattle.jv_shared.specs.Shared.{HasStore, Known, Shared}
 use Rattle.jv_handles.specs.Handles.{held_here, inode_here}
@@ -56,7 +57,7 @@ use Rattle.jv_client.proofs.CacheUseLaws.{cache-ended}
 use Rattle.jv_client.proofs.AnswerLaws.{Rests, makes-ended, request-lands, rests-flight, same-yard, told-rests}
 use Rattle.jv_client.proofs.HeldLaws.{client-doing, doing_of, holds-later}
 use Rattle.jv_client.proofs.LastLaws.{is_last-same}
-use Rattle.jv_client.proofs.EndingLaws.{holds-told, is_write, keeps_bytes}
+use Rattle.jv_client.proofs.EndingLaws.{holds-told, keeps_bytes}
 use Rattle.jv_client.proofs.KeptLaws.{cache-goes, held-goes, told-client}
 use Rattle.jv_client.proofs.ClosingLaws.{closes-given}
 use Rattle.jv_client.proofs.DueLaws.{IsFirst, MakesOne, OfMount, OfMetadata, first-flushed, first-stage}
@@ -68,7 +69,7 @@ use Rattle.jv_client.proofs.GiftLaws.{IsGift, among-kept, held-given, holds-give
 -- ---- an operation that was answered
 
 -- an answer that is no refusal says of no device that it failed
-calm-reply : (said : Reply) → is_refusal said ≡ false → IsCalm (told_of said)
+calm-reply : (said : Reply) → is_refused said ≡ false → IsCalm (told_of said)
 calm-reply (reply.Refused fault) e device = absurd (cc e)
 calm-reply (reply.Uploaded None) e device = refl
 calm-reply (reply.Uploaded (Some block)) e device = refl
@@ -176,10 +177,10 @@ module _ (now : ℕ) (h : ClientValue) (d : Doing) (busy : h.doing ≡ Some d) (
         asks
 
     -- the file that the session keeps from then on
-    comes-told : (answer : Answer) → TellsKept who d.op v.keeper (Ok answer) → (inode : ℕ)
+    comes-told : (answer : Answer) → SaysKept who d.op v.keeper (Ok answer) → (inode : ℕ)
         → (is_sustained (transacted s h.id now d.op).tree who.sid inode && not (is_sustained s.tree who.sid inode))
         ≡ is_inode answer.kept inode
-    comes-told answer tells inode = by_takes (takes_entries d.op) refl tells
+    comes-told answer says inode = by_takes (takes_entries d.op) refl says
       where
         by_takes : (b : Bool) → takes_entries d.op ≡ b
             → MatchBool b (KeepsOne who d.op v.keeper answer.kept) (answer.kept ≡ None)
@@ -192,7 +193,7 @@ module _ (now : ℕ) (h : ClientValue) (d : Doing) (busy : h.doing ≡ Some d) (
             sustains_none s.tree who d.op e inode ∙ sym (ap (λ kept. is_inode kept inode) none)
 
     module _ (answer : Answer) (t : Tree) (does : transacted s h.id now d.op ≡ record { tree = t; reply = answer.reply })
-        (told : TellsKept who d.op v.keeper (Ok answer)) where
+        (told : SaysKept who d.op v.keeper (Ok answer)) where
       abbrev out : Outcome
       out = record { tree = t; reply = answer.reply }
 
@@ -280,7 +281,7 @@ module _ (now : ℕ) (h : ClientValue) (d : Doing) (busy : h.doing ≡ Some d) (
         let tx = tried.does who known in
         let request = transaction-request s h.id now (doing_of d) busy first.started stage flushed transacts g v has
         (in_flight h) keeper (HoldsFiles who.held) files (λ (answer : Answer). answer.reply) answer tx in
-        leads-made s g has holds is answer request.0 request.1 (tried.tells who known) request.2
+        leads-made s g has holds is answer request.0 request.1 (tried.says who known) request.2
 
     pub transaction-made : (entry : ℕ) → Makes now entry h (answered_here entry d.op answer h) v used made
     transaction-made entry =

@@ -13,7 +13,7 @@ use Rattle.jv_outside.specs.Store.{Store}
 use Rattle.jv_rows.specs.Transactions.{IsFor, Transacts, Always}
 use Rattle.jv_links.specs.Removals.{HoldsFiles}
 use Rattle.jv_metadata.specs.declared.answers.Answer.{Answer}
-use Rattle.jv_metadata.specs.Attempts.{AnswersPlainly, Asks, TellsKept, attempt, mapped, plain}
+use Rattle.jv_metadata.specs.Attempts.{AnswersPlainly, Asks, SaysKept, attempt, mapped, plain}
 use Rattle.jv_metadata.proofs.AttemptLaws.{answers-mapped, transacts-always}
 use Rattle.jv_client.specs.ClientValue.{ClientValue, session_here}
 use Rattle.jv_handles.specs.Handles.{held_here, inode_here}
@@ -24,10 +24,10 @@ abbrev pub session_answer : ℕ → Answer
 session_answer sid = plain (SessionMade sid)
 
 -- a mount keeps no file
-mount-tells : (who : Caller) (o : Op) (writeback : Bool) (before : Store) (made : Result ℕ TxFault) → o ≡ op.Mount writeback
-    → TellsKept who o before (mapped session_answer made)
-mount-tells who o writeback before (Ok sid) is = subst (λ x. TellsKept who x before (Ok (session_answer sid))) (sym is) refl
-mount-tells who o writeback before (Err fault) is = tt
+mount-says : (who : Caller) (o : Op) (writeback : Bool) (before : Store) (made : Result ℕ TxFault) → o ≡ op.Mount writeback
+    → SaysKept who o before (mapped session_answer made)
+mount-says who o writeback before (Ok sid) is = subst (λ x. SaysKept who x before (Ok (session_answer sid))) (sym is) refl
+mount-says who o writeback before (Err fault) is = tt
 
 pub tried_mount : (h : ClientValue) (o : Op) (writeback : Bool) (now : ℕ) (before after : Store) (made : Result ℕ TxFault) (result : Result Answer TxFault)
     → o ≡ op.Mount writeback
@@ -37,7 +37,7 @@ tried_mount h o writeback now before after made result is makes same = record {
   does = λ who mine.
       transacts-always who.held before after (λ sid. SessionMade sid) (λ t. mount t who) session_answer (λ sid. refl) made
       (makes who mine.client mine.now_is) result same (λ t. attempt t who o) (λ t. ap (attempt t who) is);
-  tells = λ who mine. subst (TellsKept who o before) (sym same) (mount-tells who o writeback before made is);
+  says = λ who mine. subst (SaysKept who o before) (sym same) (mount-says who o writeback before made is);
   answers = answers-mapped session_answer (λ sid. refl) made result same;
 }
 
@@ -46,10 +46,10 @@ pub tried_metadata : (h : ClientValue) (o : Op) (now : ℕ) (before after : Stor
     → by.sid ≡ session_here h → by.held ≡ held_here h.handles → by.now ≡ now → handle ≡ free_handle h.handles → inode ≡ inode_here h.handles (handle_of o)
     → ((who : Caller) → IsFor by who → Asks who handle inode
     → Transacts (HoldsFiles who.held) before after result (λ (answer : Answer). answer.reply) (λ t. attempt t who o))
-    → ((who : Caller) → IsFor by who → TellsKept who o before result) → AnswersPlainly result → Attempts h o now before after result
-tried_metadata h o now before after result by handle inode sid held at free names does tells answers = record {
+    → ((who : Caller) → IsFor by who → SaysKept who o before result) → AnswersPlainly result → Attempts h o now before after result
+tried_metadata h o now before after result by handle inode sid held at free names does says answers = record {
   does = λ who mine. does who (for who mine) (record { gets = mine.free ∙ sym free; names = mine.inode ∙ sym names });
-  tells = λ who mine. tells who (for who mine);
+  says = λ who mine. says who (for who mine);
   answers = answers;
 }
   where

@@ -22,11 +22,12 @@ use Rattle.jv_model.specs.journal.Reading.{asked_parts}
 use Rattle.jv_model.specs.tree.Tree.{Tree}
 use Rattle.jv_model.specs.journal.State.{State, after_told}
 use Rattle.jv_model.specs.journal.Steps.{file_in_use, window_to_look}
+use Rattle.jv_model.specs.tree.FileBytes.{length_seen}
+use Rattle.jv_model.specs.client.OpForms.{is_read}
 use Rattle.jv_outside.specs.Causes.{RoseIf}
 use Rattle.jv_outside.specs.Store.{Store}
 use Rattle.jv_volume.specs.Holding.{IsHoldable}
 use Rattle.jv_cache.specs.Cached.{Cached}
-use Rattle.jv_data.specs.Committing.{length_seen}
 use Rattle.jv_data.specs.Records.{LooksAt}
 use Rattle.jv_shared.specs.Keeping.{KeepsShared}
 use Rattle.jv_shared.specs.Shared.{HasStore, Known, Shared}
@@ -53,7 +54,7 @@ use Rattle.jv_client.specs.Ending.{refused_here}
 use Rattle.jv_client.specs.Held.{Holds, IsClient, in_flight}
 use Rattle.jv_client.specs.Makes.{Makes, StepsTo, UsesDevices, faults_of, is_same_device}
 use Rattle.jv_client.specs.Transacting.{EndsUnmade, refusal_of}
-use Rattle.jv_client.specs.CacheUse.{LooksOnly, MovesInRead, is_read}
+use Rattle.jv_client.specs.CacheUse.{LooksOnly, MovesInRead}
 use Rattle.jv_client.specs.Reading.{LookedUp, cache_in, put_at}
 use Rattle.jv_client.specs.UnderWay.{IsReady}
 use Rattle.jv_client.proofs.CacheUseLaws.{cache-read, cache-refused}

@@ -35,8 +35,8 @@ use Rattle.jv_client.specs.Ending.{refused_here}
 use Rattle.jv_client.specs.Reading.{put_at}
 use Rattle.jv_client.specs.UnderWay.{IsReady}
 use Rattle.jv_client.specs.YardUse.{YardUse}
-use Rattle.jv_client.specs.Makes.{IsCalm, Makes, Stops, TellsBad, UsesDevices, asks_nothing, faults_of, is_failure_of, step_of}
-use Rattle.jv_client.specs.Makes.{tells_failure}
+use Rattle.jv_client.specs.Makes.{IsCalm, Makes, Stops, SaysBad, UsesDevices, asks_nothing, faults_of, is_failure_of, step_of}
+use Rattle.jv_client.specs.Makes.{says_failure}
 use Rattle.jv_client.specs.Transacting.{EndsUnmade, Fails, NotMade, Refuses, refusal_of}
 use Rattle.jv_client.proofs.EndingLaws.{holds-told}
 use Rattle.jv_client.proofs.KeptLaws.{client-told}
@@ -47,8 +47,8 @@ use Rattle.jv_client.proofs.AnswerLaws.{fails-makes, makes-as, makes-ended, refu
 
 -- no other device is said to have failed
 abbrev pub OnlyKeeper : Made → Type 0
-OnlyKeeper done = (tells_failure Depot done ≡ false) × (tells_failure Shelf done ≡ false)
-    × (tells_failure Carrier done ≡ false)
+OnlyKeeper done = (says_failure Depot done ≡ false) × (says_failure Shelf done ≡ false)
+    × (says_failure Carrier done ≡ false)
 
 module _ (before : Shared) (keeper : Store) (done : Made) where
   abbrev used : Shared
@@ -59,8 +59,8 @@ module _ (before : Shared) (keeper : Store) (done : Made) where
 
   -- A step that calls the keeper alone: it is open where it was, and failed where the step answers so.
   pub uses-keeper : keeper.opened ≡ before.keeper.opened
-      → RoseIf (tells_failure Keeper done) before.keeper.faults keeper.faults → OnlyKeeper done
-      → (IsTrue (asks_nothing done) → keeper.rows ≡ before.keeper.rows) → TellsBad before (step_of done)
+      → RoseIf (says_failure Keeper done) before.keeper.faults keeper.faults → OnlyKeeper done
+      → (IsTrue (asks_nothing done) → keeper.rows ≡ before.keeper.rows) → SaysBad before (step_of done)
       → UsesDevices done before (record before { keeper = keeper })
   uses-keeper opened faults only rows bad = record {
     keeper_at = opened;
@@ -76,12 +76,12 @@ module _ (before : Shared) (keeper : Store) (done : Made) where
     bad = bad;
   }
     where
-      by_device : (device : Device) → RoseIf (tells_failure device done) (faults_of device before)
+      by_device : (device : Device) → RoseIf (says_failure device done) (faults_of device before)
           (faults_of device used)
       by_device Keeper = faults
-      by_device Depot = calm (tells_failure Depot done) before.yard.depot.faults only.0
-      by_device Shelf = calm (tells_failure Shelf done) before.yard.shelf.faults only.1
-      by_device Carrier = calm (tells_failure Carrier done) before.carrier.faults only.2
+      by_device Depot = calm (says_failure Depot done) before.yard.depot.faults only.0
+      by_device Shelf = calm (says_failure Shelf done) before.yard.shelf.faults only.1
+      by_device Carrier = calm (says_failure Carrier done) before.carrier.faults only.2
 
 -- ---- which transactions weren't made
 

@@ -6,13 +6,13 @@ use Rattle.std.proofs.lemmas.List.{length-map}
 use Rattle.jv_model.specs.tree.Tree.{Tree}
 use Rattle.jv_model.specs.client.Pending.{PendingByte, Segment, is_in_range, without_range}
 use Rattle.jv_model.specs.client.ModelClient.{ModelClient, views_without}
+use Rattle.jv_model.specs.journal.State.{without_committed}
 use Rattle.jv_volume.specs.Holding.{IsHoldable, Stays}
 use Rattle.jv_shared.specs.Keeping.{KeepsShared}
 use Rattle.jv_shared.specs.Shared.{HasStore, Known, Shared}
 use Rattle.jv_handles.specs.Handles.{unseen}
 use Rattle.jv_handles.proofs.HandleLaws.{handles-forgotten, handles-stay}
 use Rattle.jv_handles.proofs.SeenLaws.{views-later, views-left}
-use Rattle.jv_steps.specs.WithoutCommitted.{without_committed}
 use Rattle.jv_client.specs.ClientValue.{ClientValue}
 use Rattle.jv_client.specs.Held.{IsHeld, Holds}
 use Rattle.jv_client.specs.Flushing.{bytes_of, without_segment}

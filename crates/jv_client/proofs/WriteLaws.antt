@@ -12,6 +12,7 @@ use Rattle.jv_model.specs.declared.profile.Does.TheVariants as does
 use Rattle.jv_model.specs.client.Pending.{first_segment, written}
 use Rattle.jv_model.specs.client.ModelClient.{file_of}
 use Rattle.jv_model.proofs.PendingLaws.{no_first_segment}
+use Rattle.jv_model.specs.client.OpForms.{is_umount}
 use Rattle.jv_pending.specs.Held.{PendingValue}
 use Rattle.jv_steps.proofs.AnswerStepLaws.{written-at_once}
 use Rattle.jv_handles.specs.declared.handle.Handle.{Handle}
@@ -22,13 +23,12 @@ use Rattle.jv_client.specs.declared.doing.Doing.{Doing}
 use Rattle.jv_client.specs.declared.made.Made.TheVariants as made
 use Rattle.jv_client.specs.ClientValue.{ClientValue}
 use Rattle.jv_client.specs.Held.{segment_left}
-use Rattle.jv_client.specs.UnderWay.{Alone, Beside, Closes, Copies, Describes, Flushes, FlushesFor, HasKept, HasRoom, IsForm, IsReady, Leaves, MayKeep, Mounts, Reads, ReadsNothing, Syncs, TellsStats, Transacts, Truncates, Writes, ends_itself, keeps, left, left_of}
+use Rattle.jv_client.specs.UnderWay.{Alone, Beside, Closes, Copies, Describes, Flushes, FlushesFor, HasKept, HasRoom, IsForm, IsReady, Leaves, MayKeep, Mounts, Reads, ReadsNothing, Syncs, SaysStats, Transacts, Truncates, Writes, ends_itself, keeps, left, left_of}
 use Rattle.jv_client.specs.Makes.{Makes}
 use Rattle.jv_client.proofs.HeldLaws.{client-doing, doing_of}
 use Rattle.jv_client.proofs.KeptLaws.{held-goes}
 use Rattle.jv_client.proofs.AnswerLaws.{makes-as}
 use Rattle.jv_client.proofs.FormLaws.{flushed-same, none_left, under_way}
-use Rattle.jv_client.specs.CacheUse.{is_umount}
 use Rattle.jv_client.proofs.CacheUseLaws.{cache-stays}
 use Rattle.jv_client.proofs.AtOnceLaws.{answers-makes, is_done}
 use Rattle.jv_client.proofs.WrittenLaws.{model_wrote, wrote, wrote-client, wrote-holds}
@@ -76,7 +76,7 @@ module _ (h : ClientValue) (d : Doing) (kept : keeps d.does ≡ true) where
   write_of (Flushes handle file for first opened session) = flushed-write handle for
   write_of (Copies source from target to len file other of_op of_does first opened there session) =
       other_keeps does.Copies of_does refl
-  write_of (TellsStats of_op of_does first session) = other_keeps (does.Answers answer.CacheStats) of_does refl
+  write_of (SaysStats of_op of_does first session) = other_keeps (does.Answers answer.CacheStats) of_does refl
 
 -- ---- a write that has nothing left to commit
 

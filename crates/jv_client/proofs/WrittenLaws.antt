@@ -5,7 +5,8 @@ use Rattle.std.specs.List.{AllByRecursion}
 use Rattle.std.proofs.lemmas.Bool.{eq-eqb, or_right}
 use Rattle.jv_model.specs.tree.Tree.{Tree}
 use Rattle.jv_model.specs.client.Pending.{PendingByte, byte_set, comes_before, stands_at, written}
-use Rattle.jv_model.specs.client.ModelClient.{ModelClient, OpenFile, file_in, file_of, held_inodes, inode_at, inode_in, is_among}
+use Rattle.jv_model.specs.client.ModelClient.{ModelClient, OpenFile, file_in, file_of, held_inodes, inode_at, inode_in}
+use Rattle.jv_model.specs.Lists.{is_among}
 use Rattle.jv_volume.specs.Holding.{IsHoldable}
 use Rattle.jv_shared.specs.Shared.{Known, Shared}
 use Rattle.jv_handles.specs.declared.handle.Handle.{Handle}

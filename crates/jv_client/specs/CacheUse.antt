@@ -6,11 +6,11 @@ use Rattle.jv_model.specs.declared.fault.Fault.{Fault}
 use Rattle.jv_model.specs.declared.fault.Fault.TheVariants.{Stale}
 use Rattle.jv_model.specs.declared.fault.Gone.TheVariants.{Session}
 use Rattle.jv_model.specs.declared.op.Op.{Op}
-use Rattle.jv_model.specs.declared.op.Op.TheVariants as op
 use Rattle.jv_model.specs.declared.slice.BlockId.{BlockId}
+use Rattle.jv_model.specs.blocks.BlockNames.{name_in}
+use Rattle.jv_model.specs.client.OpForms.{is_read, is_umount}
 use Rattle.jv_cache.specs.Cached.{Cached}
 use Rattle.jv_yard.specs.BlockCalls.{GetsBlock}
-use Rattle.jv_yard.specs.Contents.{name_in}
 use Rattle.jv_yard.specs.YardValue.{YardValue}
 use Rattle.jv_fetching.specs.Calls.{Keeps, LooksUp}
 use Rattle.jv_client.specs.declared.doing.Doing.{Doing}
@@ -19,14 +19,6 @@ use Rattle.jv_client.specs.declared.made.Made.TheVariants as made
 use Rattle.jv_client.specs.ClientValue.{ClientValue}
 use Rattle.jv_client.specs.Reading.{LooksAhead, cache_in}
 use Rattle.jv_client.specs.Stats.{AnswersNumbers}
-
-abbrev pub is_read : Op → Bool
-is_read (op.Read handle offset len) = true
-is_read _ = false
-
-abbrev pub is_umount : Op → Bool
-is_umount op.Umount = true
-is_umount _ = false
 
 -- the session is gone
 abbrev pub is_gone : Fault → Bool

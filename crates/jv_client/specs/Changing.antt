@@ -1,5 +1,5 @@
 -- What the transaction of a truncate or a copy promises, without a journal.
-use Rattle.std.specs.Prelude.{◌≡◌, ℕ, Bool, true, false, List, Option, Result}
+use Rattle.std.specs.Prelude.{◌≡◌, ℕ, List, Option, Result}
 use Rattle.jv_model.specs.declared.act.ActKind.TheVariants.{Truncated, Copied}
 use Rattle.jv_model.specs.declared.basics.Who.{Who}
 use Rattle.jv_model.specs.declared.fault.TxFault.{TxFault}
@@ -9,22 +9,16 @@ use Rattle.jv_model.specs.declared.op.Op.TheVariants as op
 use Rattle.jv_model.specs.declared.op.Reply.TheVariants.{Done, Count}
 use Rattle.jv_model.specs.tree.Caller.{Caller}
 use Rattle.jv_model.specs.tree.FileBytes as model
+use Rattle.jv_model.specs.tree.Trash.{due_after}
 use Rattle.jv_outside.specs.Store.{Store}
 use Rattle.jv_rows.specs.Transactions.{IsFor}
-use Rattle.jv_data.specs.Changing.{Changes, AnyTold, IsCrowded, Never, count_in}
-use Rattle.jv_data.specs.Truncating.{due_after}
+use Rattle.jv_data.specs.Changing.{Changes, AnyBytes, IsCrowded, Never, count_in}
 use Rattle.jv_metadata.specs.Attempts.{mapped}
 use Rattle.jv_handles.specs.declared.handle.Handle.{Handle}
 use Rattle.jv_handles.specs.Handles.{inode_here}
 use Rattle.jv_client.specs.declared.changes.Changed.{Changed}
 
--- the operations that change the bytes of a file in one transaction
-abbrev pub is_change : Op → Bool
-is_change (op.Truncate handle len) = true
-is_change (op.Copy source from target to len) = true
-is_change o = false
-
--- a file that was made so long
+-- a file that was made `len` bytes long
 abbrev pub cut_to : ℕ → ℕ → Changed
 cut_to inode len = record { kind = Truncated inode len; reply = Done; inode = inode }
 
@@ -38,7 +32,7 @@ pub record TriesTruncate (inode len : ℕ) (who : Who) (before after : Store) (r
   pub made : Result (Unit {0}) TxFault
   pub result_is : result ≡ mapped (λ unit. cut_to inode len) made
   pub changes : (caller : Caller) → IsFor who caller → caller.inode ≡ inode
-      → Changes (record { own = 0; size = 0; more = 1; due = due_after who.now }) AnyTold Never before after made
+      → Changes (record { own = 0; size = 0; more = 1; due = due_after who.now }) AnyBytes Never before after made
       (λ unit. Done) (λ t. model.truncate t caller len)
 
 -- A copy was tried, which answers how many bytes it copied, and adds at most as many records.
@@ -46,7 +40,7 @@ pub record TriesCopy (source from target to len : ℕ) (who : Who) (before after
   pub made : Result ℕ TxFault
   pub result_is : result ≡ mapped (copied_to source from target to) made
   pub changes : (caller : Caller) → IsFor who caller → caller.inode ≡ source → caller.other ≡ target
-      → Changes (record { own = 0; size = 0; more = count_in made; due = due_after who.now }) AnyTold (IsCrowded FILE_END)
+      → Changes (record { own = 0; size = 0; more = count_in made; due = due_after who.now }) AnyBytes (IsCrowded FILE_END)
       before after made (λ n. Count n) (λ t. model.copy t caller from to len)
 
 -- the transaction of such an operation, on the files of its handles

@@ -1,39 +1,28 @@
 -- What a client gets of a block that it asks for.
-use Rattle.std.specs.Prelude.{◌≡◌, ◌≢◌, ℕ, ◌<◌, List, length, Option, None, Some, IfSome, Result, Ok, Err}
+use Rattle.std.specs.Prelude.{◌≡◌, ℕ, ◌<◌, List, length, Option, None, Some, IfSome, Result, Ok, Err}
 use Rattle.jv_model.specs.declared.act.ActKind.{ActKind}
 use Rattle.jv_model.specs.declared.act.ActKind.TheVariants.{Miss}
-use Rattle.jv_model.specs.declared.fault.Device.TheVariants.{Depot as TheDepot, Shelf as TheShelf}
 use Rattle.jv_model.specs.declared.fault.Fault.{Fault}
-use Rattle.jv_model.specs.declared.fault.Fault.TheVariants.{DeviceFailed, NoMemory, TryAgain}
+use Rattle.jv_model.specs.declared.fault.Fault.TheVariants.{TryAgain}
 use Rattle.jv_model.specs.declared.slice.BlockId.{BlockId}
 use Rattle.jv_model.specs.client.Profile.{handle_of}
 use Rattle.jv_model.specs.journal.Reading.{Asked}
+use Rattle.jv_model.specs.blocks.BlockNames.{name_in}
 use Rattle.jv_cache.specs.Cached.{Cached}
 use Rattle.jv_contents.specs.Blocks.{Blocks}
 use Rattle.jv_handles.specs.Handles.{inode_here}
 use Rattle.jv_handles.specs.Views.{SeenViews}
-use Rattle.jv_fetching.specs.Calls.{Keeps}
+use Rattle.jv_fetching.specs.Calls.{Keeps, LacksBlock}
 use Rattle.jv_fetching.specs.Fetching.{Fetching, fetch_left, first_window}
 use Rattle.jv_fetching.specs.Going.{CanFetch, IsFetching}
 use Rattle.jv_yard.specs.declared.faults.YardFault.{YardFault}
-use Rattle.jv_yard.specs.declared.faults.YardFault.TheVariants.{Depot, Shelf, Memory}
 use Rattle.jv_yard.specs.BlockCalls.{GetsBlock}
-use Rattle.jv_yard.specs.Contents.{name_in}
+use Rattle.jv_yard.specs.Refusals.{yard_fault}
 use Rattle.jv_yard.specs.YardValue.{YardValue}
 use Rattle.jv_client.specs.declared.doing.Doing.{Doing}
 use Rattle.jv_client.specs.declared.made.Made.{Made}
 use Rattle.jv_client.specs.ClientValue.{ClientValue}
 use Rattle.jv_client.specs.Transacting.{Refuses}
-
--- what the fault of a yard is to the client
-abbrev pub yard_fault : YardFault → Fault
-yard_fault Depot = DeviceFailed TheDepot
-yard_fault Shelf = DeviceFailed TheShelf
-yard_fault Memory = NoMemory
-
--- there are no bytes of the length that a block's name says
-abbrev pub IsNone : BlockId → Option (List ℕ) → Type 0
-IsNone b value = (bytes : List ℕ) → value ≡ Some bytes → length bytes ≢ b.size
 
 -- a device failed or memory ran out before a block's bytes came
 pub record IsUnread (client : ℕ) (b : BlockId) (before after : YardValue) (fault : Fault) : Type 0 where
@@ -45,7 +34,7 @@ pub record IsUnread (client : ℕ) (b : BlockId) (before after : YardValue) (fau
 pub record IsMissed (client : ℕ) (b : BlockId) (before after : YardValue) : Type 0 where
   pub value : Option (List ℕ)
   pub gets : GetsBlock client (name_in before.setting b) before after (Ok value)
-  pub none : IsNone b value
+  pub none : LacksBlock b.size value
 
 -- reading a block, by the result
 abbrev pub ReadsBlock : ℕ → BlockId → YardValue → YardValue → Result (Option (List ℕ)) Fault → Type 0
@@ -57,7 +46,7 @@ ReadsBlock client b before after (Err fault) = IsUnread client b before after fa
 -- what was read at the name of a block of this size, by the result
 abbrev pub IsBlockIn : ℕ → Option (List ℕ) → Option (List ℕ) → Type 0
 IsBlockIn size value (Some bytes) = (value ≡ Some bytes) × (length bytes ≡ size)
-IsBlockIn size value None = (bytes : List ℕ) → value ≡ Some bytes → length bytes ≢ size
+IsBlockIn size value None = LacksBlock size value
 
 -- the entry of a request for a block that isn't there: of the file and the window that are read
 abbrev pub missed : ClientValue → Doing → Fetching → ActKind

@@ -12,9 +12,10 @@ use Rattle.jv_model.specs.blocks.Slices.{block_count}
 use Rattle.jv_model.specs.tree.Tree.{Tree}
 use Rattle.jv_model.specs.client.Pending.{PendingByte, Segment, bytes_in_range}
 use Rattle.jv_model.specs.client.Profile.{handle_of}
-use Rattle.jv_model.specs.client.ModelClient.{ModelClient, View as ModelView, Doing as ModelDoing, Flush as ModelFlush, OfFiles, OfAll, Stage, Working, Reading, file_of, with_file, held_inodes, is_among}
+use Rattle.jv_model.specs.client.ModelClient.{ModelClient, View as ModelView, Doing as ModelDoing, Flush as ModelFlush, OfFiles, OfAll, Stage, Working, Reading, file_of, with_file, held_inodes}
 use Rattle.jv_model.specs.client.Submission.{next_segment}
 use Rattle.jv_model.specs.journal.Steps.{asked_of}
+use Rattle.jv_model.specs.Lists.{is_among}
 use Rattle.jv_volume.specs.Holding.{IsHoldable}
 use Rattle.jv_contents.specs.Flights.{Flight}
 use Rattle.jv_fetching.specs.Going.{IsFetching}

@@ -60,11 +60,11 @@ is_failure_of device (ToldRefused (DeviceFailed failed)) = is_same_device device
 is_failure_of device _ = false
 
 -- an answer without a request is that the device failed
-abbrev pub tells_failure : Device → Made → Bool
-tells_failure device (made.Request kind) = false
-tells_failure device (made.Answer told reply) = is_failure_of device told
-tells_failure device (made.Both kind told reply) = false
-tells_failure device (made.Broken key bytes) = false
+abbrev pub says_failure : Device → Made → Bool
+says_failure device (made.Request kind) = false
+says_failure device (made.Answer told reply) = is_failure_of device told
+says_failure device (made.Both kind told reply) = false
+says_failure device (made.Broken key bytes) = false
 
 -- an answer says of no device that it failed
 abbrev pub IsCalm : Told → Type 0
@@ -85,10 +85,10 @@ asks_nothing (made.Both kind told reply) = false
 asks_nothing (made.Broken key bytes) = true
 
 -- where the rows are known, the one that a step stopped at is Bad
-abbrev pub TellsBad : Shared → Step → Type 0
-TellsBad v More = Unit {0}
-TellsBad v (Done reply) = Unit {0}
-TellsBad v (Broken key bytes) = IfSome v.keeper.rows (λ known. IsBad (typed known) key bytes)
+abbrev pub SaysBad : Shared → Step → Type 0
+SaysBad v More = Unit {0}
+SaysBad v (Done reply) = Unit {0}
+SaysBad v (Broken key bytes) = IfSome v.keeper.rows (λ known. IsBad (typed known) key bytes)
 
 -- how often a device failed
 abbrev pub faults_of : Device → Shared → ℕ
@@ -106,11 +106,11 @@ pub record UsesDevices (made : Made) (before after : Shared) : Type 0 where
   pub shelf_at : after.yard.shelf.opened ≡ before.yard.shelf.opened
   pub setting : after.yard.setting ≡ before.yard.setting
   pub last : after.yard.last ≡ before.yard.last
-  pub counts : (device : Device) → RoseIf (tells_failure device made) (faults_of device before) (faults_of device after)
+  pub counts : (device : Device) → RoseIf (says_failure device made) (faults_of device before) (faults_of device after)
   pub rows : IsTrue (asks_nothing made) → after.keeper.rows ≡ before.keeper.rows
   pub objects : IsTrue (asks_nothing made) → after.yard.depot.content ≡ before.yard.depot.content
   pub blocks : after.yard.shelf.content ≡ before.yard.shelf.content
-  pub bad : TellsBad before (step_of made)
+  pub bad : SaysBad before (step_of made)
 
 -- The model allows the step (`Request`), and client and devices stand for what it leads to.
 pub record StepsTo (s : State) (g : Known) (before : Shared) (h : ClientValue) (now : ℕ) (kinds : List ActKind) (step : Step)

@@ -10,7 +10,7 @@ use Rattle.jv_model.specs.client.ModelClient.{ModelClient, file_of}
 use Rattle.jv_model.specs.client.Profile.{handle_of}
 use Rattle.jv_model.specs.journal.Reading.{Asked, asked_parts}
 use Rattle.jv_cache.specs.Cached.{Cached}
-use Rattle.jv_contents.specs.Blocks.{Blocks, told_by}
+use Rattle.jv_contents.specs.Blocks.{Blocks, known_by}
 use Rattle.jv_shared.specs.Shared.{Known, Shared}
 use Rattle.jv_handles.specs.declared.handle.Handle.{Handle}
 use Rattle.jv_handles.specs.Views.{SeenViews}
@@ -76,7 +76,7 @@ abbrev pub ComesTo : SeenViews → Cached → Fetching → Ahead → Type 0
 ComesTo views cache before (ahead.Needs after next) =
     GoesAhead views cache before after × Wants views after next × (next ≢ Nothing)
 ComesTo views cache before (ahead.Read found) = (blocks : Blocks) (all : List Asked) → HasCached blocks views before.block cache
-    → IsFetching blocks views all before → IsReadBy (told_by before.block blocks) views all (read_of found)
+    → IsFetching blocks views all before → IsReadBy (known_by before.block blocks) views all (read_of found)
 
 -- of a client, whose operation reads by its handle: it looked up blocks, and nothing else has changed
 pub record OnlyLooksUp (h after : ClientValue) : Type 0 where
@@ -138,7 +138,7 @@ pub record ReadsAtOnce (offset len block : ℕ) (h after : ClientValue) (found :
   pub read : (d : Doing) (file : Handle) (sizes : ℕ → ℕ) (blocks : Blocks) → h.doing ≡ Some d
       → file_of h.handles (handle_of d.op) ≡ Some file → AreSizedBy sizes file.views
       → IfSome h.cache (IsCacheOf sizes block blocks)
-      → IsReadBy (told_by block blocks) file.views (asked_parts offset len) (read_of found)
+      → IsReadBy (known_by block blocks) file.views (asked_parts offset len) (read_of found)
 
 -- it needs something, or it was read at once
 abbrev pub Begins : (offset len block : ℕ) (h after : ClientValue) → Option Found → Type 0

@@ -7,7 +7,7 @@ use Rattle.jv_client.specs.declared.doing.Doing.{Doing}
 use Rattle.jv_client.specs.declared.made.Made.{Made}
 use Rattle.jv_client.specs.declared.made.Made.TheVariants as made
 use Rattle.jv_client.specs.ClientValue.{ClientValue}
-use Rattle.jv_client.specs.UnderWay.{tells_stats}
+use Rattle.jv_client.specs.UnderWay.{says_stats}
 
 -- hits, misses and blocks kept, all 0 before the first read
 pub record Numbers : Type 0 where
@@ -26,7 +26,7 @@ IsStatsOf h done = let n = numbers_in h.cache in
 
 -- a step of an operation that asks for them is answered with them
 abbrev pub AnswersStats : ClientValue → Made → Type 0
-AnswersStats h done = IfSome h.doing (λ (d : Doing). IsTrue (tells_stats d.does) → IsStatsOf h done)
+AnswersStats h done = IfSome h.doing (λ (d : Doing). IsTrue (says_stats d.does) → IsStatsOf h done)
 
 -- an answer with such numbers has those
 abbrev pub AnswersNumbers : ClientValue → Made → Type 0

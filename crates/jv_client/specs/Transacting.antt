@@ -1,5 +1,5 @@
 -- What the transaction of an operation promises, without a journal, and what its answer makes of the client.
-use Rattle.std.specs.Prelude.{◌≡◌, ℕ, Bool, true, ◌&&◌, List, ◌∷◌, [], ◌++◌, Option, None, Some, Result, IfSome}
+use Rattle.std.specs.Prelude.{◌≡◌, ℕ, List, ◌∷◌, [], ◌++◌, Option, None, Some, Result, IfSome}
 use Rattle.jv_model.specs.declared.act.ActKind.{ActKind}
 use Rattle.jv_model.specs.declared.act.Told.TheVariants.{Refused as ToldRefused}
 use Rattle.jv_model.specs.declared.fault.Busy.TheVariants.{Lists}
@@ -10,9 +10,7 @@ use Rattle.jv_model.specs.declared.fault.RowFault.TheVariants.{Bad, Failed, Memo
 use Rattle.jv_model.specs.declared.fault.TxFault.{TxFault}
 use Rattle.jv_model.specs.declared.fault.TxFault.TheVariants.{Refused, Moved, Rows as OfRows}
 use Rattle.jv_model.specs.declared.op.Op.{Op}
-use Rattle.jv_model.specs.declared.op.Op.TheVariants as op
 use Rattle.jv_model.specs.declared.op.Reply.TheVariants.{Refused as RefusedReply}
-use Rattle.jv_model.specs.script.Spelled.{is_spelled}
 use Rattle.jv_model.specs.tree.Caller.{Caller}
 use Rattle.jv_model.specs.client.ModelClient.{free_handle, with_file}
 use Rattle.jv_model.specs.client.Profile.{handle_of}
@@ -23,7 +21,7 @@ use Rattle.jv_rows.specs.Transactions.{Transacts, FaultCause, BadFault}
 use Rattle.jv_volume.specs.TypedRows.{typed}
 use Rattle.jv_links.specs.Removals.{HoldsFiles}
 use Rattle.jv_metadata.specs.declared.answers.Answer.{Answer}
-use Rattle.jv_metadata.specs.Attempts.{AnswersPlainly, attempt, is_metadata, TellsKept}
+use Rattle.jv_metadata.specs.Attempts.{AnswersPlainly, attempt, SaysKept}
 use Rattle.jv_handles.specs.declared.handle.Handle.{Handle}
 use Rattle.jv_handles.specs.Handles.{held_here, inode_here, new_handle}
 use Rattle.jv_client.specs.declared.made.Made.{Made}
@@ -40,15 +38,10 @@ pub record IsCaller (h : ClientValue) (o : Op) (now : ℕ) (who : Caller) : Type
   pub free : who.free_handle ≡ free_handle h.handles
   pub inode : who.inode ≡ inode_here h.handles (handle_of o)
 
--- the operations whose transaction may be tried: a mount, and those on metadata
-abbrev pub is_tried : Op → Bool
-is_tried (op.Mount writeback) = true
-is_tried o = is_metadata o && is_spelled o
-
 -- the transaction of an operation was tried
 pub record Attempts (h : ClientValue) (o : Op) (now : ℕ) (before after : Store) (result : Result Answer TxFault) : Type 0 where
   pub does : (who : Caller) → IsCaller h o now who → Transacts (HoldsFiles who.held) before after result (λ answer. answer.reply) (λ t. attempt t who o)
-  pub tells : (who : Caller) → IsCaller h o now who → TellsKept who o before result
+  pub says : (who : Caller) → IsCaller h o now who → SaysKept who o before result
   pub answers : AnswersPlainly result
 
 -- a client's session and its handles with what a reply hands to it, by the entry with this number

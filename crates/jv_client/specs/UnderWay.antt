@@ -15,7 +15,7 @@ use Rattle.jv_pending.specs.Held.{PendingValue}
 use Rattle.jv_model.specs.client.Pending.{PendingByte, Segment, written}
 use Rattle.jv_model.specs.client.Profile.{handle_of}
 use Rattle.jv_model.specs.client.ModelClient.{file_of}
-use Rattle.jv_metadata.specs.Attempts.{is_metadata}
+use Rattle.jv_model.specs.client.OpForms.{closed_by, is_transaction}
 use Rattle.jv_fetching.specs.declared.need.Need.{Need}
 use Rattle.jv_fetching.specs.declared.need.Need.TheVariants as need
 use Rattle.jv_fetching.specs.Fetching.{Fetching, fetch_left}
@@ -57,16 +57,6 @@ asks_more h d = elim d.does [
   | does.Uploads ↦ false
 ]
 
--- the operations that are one transaction, but for a close, which may be none
-abbrev pub is_transaction : Op → Bool
-is_transaction (op.Close handle) = false
-is_transaction o = is_metadata o
-
--- the handle that an operation closes, which is open
-abbrev pub closed_by : Op → Option ℕ
-closed_by (op.Close handle) = Some handle
-closed_by _ = None
-
 abbrev pub ClosesOpen : Op → List (Option Handle) → Type 0
 ClosesOpen o handles = IfSome (closed_by o) (λ handle. IsTrue (is_some (file_of handles handle)))
 
@@ -96,7 +86,7 @@ pub data IsForm (h : ClientValue) (d : Doing) : Type 0 where
   Copies : (source from target to len : ℕ) (file other : Handle) → d.op ≡ op.Copy source from target to len → d.does ≡ does.Copies
       → d.flush ≡ flush.Files file.inode other.inode → file_of h.handles source ≡ Some file → file_of h.handles target ≡ Some other
       → IsTrue (is_some h.session) → IsForm h d
-  TellsStats : d.op ≡ op.Stats → d.does ≡ does.Answers answer.CacheStats → d.flush ≡ flush.Nothing → IsTrue (is_some h.session) → IsForm h d
+  SaysStats : d.op ≡ op.Stats → d.does ≡ does.Answers answer.CacheStats → d.flush ≡ flush.Nothing → IsTrue (is_some h.session) → IsForm h d
 
 -- Requests of a segment are made while there is one: for its slice's number, and then at most one for each of its bytes.
 pub record IsWorking (h : ClientValue) (d : Doing) (quiets id : ℕ) : Type 0 where
@@ -215,14 +205,9 @@ abbrev pub keeps : Does → Bool
 keeps (does.Answers (answer.Count bytes)) = true
 keeps _ = false
 
-abbrev pub tells_stats : Does → Bool
-tells_stats (does.Answers answer.CacheStats) = true
-tells_stats _ = false
-
-abbrev pub changes_files : Does → Bool
-changes_files does.Truncates = true
-changes_files does.Copies = true
-changes_files _ = false
+abbrev pub says_stats : Does → Bool
+says_stats (does.Answers answer.CacheStats) = true
+says_stats _ = false
 
 -- a write whose handle is open, and that there is room for
 abbrev pub MayKeep : Op → List (Option Handle) → PendingValue → Type 0

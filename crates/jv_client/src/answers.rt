@@ -4,9 +4,10 @@ ghost use Rattle.jv_model.specs.declared.limits.TheConstants.{FILE_END};
 ghost use Rattle.jv_model.specs.declared.act.Told.TheVariants.{Looks};
 ghost use Rattle.jv_model.specs.client.ModelClient.{file_of};
 ghost use Rattle.jv_model.specs.client.Profile.{handle_of};
+ghost use Rattle.jv_model.specs.client.OpForms.{closed_by};
 ghost use Rattle.jv_shared.specs.Shared.{Shared};
 ghost use Rattle.jv_client.specs.Ending.{Finishes, closed, finished_here, refused_here, told_here, without};
-ghost use Rattle.jv_client.specs.UnderWay.{IsReady, ClosesOpen, Ends, HasKept, MayKeep, closed_by, does_of, ends_itself, keeps, left, tells_stats};
+ghost use Rattle.jv_client.specs.UnderWay.{IsReady, ClosesOpen, Ends, HasKept, MayKeep, does_of, ends_itself, keeps, left, says_stats};
 ghost use Rattle.jv_client.specs.Stats.{AnswersStats, IsStatsOf, numbers_in};
 ghost use Rattle.jv_client.specs.Transacting.{Fails, Refuses};
 ghost use Rattle.jv_client.specs.Makes.{Makes};
@@ -142,7 +143,7 @@ impl Client {
         requires ready { IsReady self.old }
         requires flushed { left self.old ≡ None }
         requires not_write { IfSome self.old.doing (λ d. keeps d.does ≡ false) }
-        requires not_stats { IfSome self.old.doing (λ d. tells_stats d.does ≡ false) }
+        requires not_stats { IfSome self.old.doing (λ d. says_stats d.does ≡ false) }
         requires ends { IfSome self.old.doing (λ d. IsTrue (ends_itself self.old d)) }
         ensures made { (now entry : ℕ) (v : Shared) → Makes now entry self.old self.new v v result }
         ensures stats { AnswersStats self.old result }
@@ -175,11 +176,11 @@ impl Client {
 
 impl Client {
     /// Answers with the numbers of the cache and of the pending bytes.
-    pub(crate) fn tell_stats(&mut self) -> Made
+    pub(crate) fn say_stats(&mut self) -> Made
         requires busy { IsSome self.old.doing }
         requires ready { IsReady self.old }
         requires flushed { left self.old ≡ None }
-        requires tells { IfSome self.old.doing (λ d. IsTrue (tells_stats d.does)) }
+        requires says { IfSome self.old.doing (λ d. IsTrue (says_stats d.does)) }
         ensures made { (now entry : ℕ) (v : Shared) → Makes now entry self.old self.new v v result }
         ensures numbers { IsStatsOf self.old result }
     {

@@ -1,12 +1,14 @@
 //! Operations that change the bytes of files in one transaction: truncates and copies.
 ghost use Rattle.std.specs.Prelude.{◌≡◌, ℕ, IfSome, IsSome, IsTrue, None, map};
+ghost use Rattle.jv_model.specs.client.OpForms.{changes_bytes};
 ghost use Rattle.jv_outside.specs.Carriage.{Carriage};
 ghost use Rattle.jv_yard.specs.YardValue.{YardValue};
 ghost use Rattle.jv_handles.specs.Handles.{unseen};
 ghost use Rattle.jv_client.specs.Shared.{shared};
-ghost use Rattle.jv_client.specs.UnderWay.{IsReady, changes_files, left};
+ghost use Rattle.jv_steps.specs.Stages.{changes_files};
+ghost use Rattle.jv_client.specs.UnderWay.{IsReady, left};
 ghost use Rattle.jv_client.specs.Makes.{Makes};
-ghost use Rattle.jv_client.specs.Changing.{TriesChange, copied_to, cut_to, is_change};
+ghost use Rattle.jv_client.specs.Changing.{TriesChange, copied_to, cut_to};
 ghost use Rattle.jv_metadata.specs.Attempts.{mapped};
 
 use crate::client::Client;
@@ -69,7 +71,7 @@ fn try_change<K: Keeper>(
     handles: &[Option<Handle>],
     op: &Op,
 ) -> Result<Changed, TxFault>
-    requires { IsTrue (is_change op.now) }
+    requires { IsTrue (changes_bytes op.now) }
     ensures { TriesChange handles.now op.now who.entry.now (K.seen k.old) (K.seen k.new) result }
 {
     match op {

@@ -7,7 +7,7 @@ ghost use Rattle.jv_model.specs.declared.op.Reply.TheVariants.{Count};
 ghost use Rattle.jv_model.specs.declared.limits.TheConstants.{FILE_END, WINDOW};
 ghost use Rattle.jv_shared.specs.Lengths.{IsLength};
 ghost use Rattle.jv_model.specs.blocks.Slices.{block_count};
-ghost use Rattle.jv_model.specs.client.Pending.{next_segment, window_size};
+ghost use Rattle.jv_model.specs.client.Pending.{next_segment};
 ghost use Rattle.jv_outside.specs.Carriage.{Carriage};
 ghost use Rattle.jv_outside.specs.Store.{Store};
 ghost use Rattle.jv_pending.specs.At.{segment_at};
@@ -49,7 +49,7 @@ impl Client {
         ensures own { IfSome result (λ at.
             next_segment (Some at.inode) self.now.pending ≡ Some (segment_at at)) }
         ensures some { IfSome result (λ at. 0 < at.len) }
-        ensures inside { IfSome result (λ at. at.pos + at.len ≤ window_size) }
+        ensures inside { IfSome result (λ at. at.pos + at.len ≤ WINDOW) }
         ensures file { IfSome result (λ at. at.window * WINDOW < FILE_END) }
     {
         match &self.doing {
@@ -74,7 +74,7 @@ impl Client {
         requires next { left self.old ≡ Some (segment_at at) }
         requires own { next_segment (Some at.inode) self.old.pending ≡ Some (segment_at at) }
         requires some { 0 < at.len }
-        requires inside { at.pos + at.len ≤ window_size }
+        requires inside { at.pos + at.len ≤ WINDOW }
         requires window { at.window * WINDOW < FILE_END }
         ensures { let seen = ⟦<Yard<D, H> as ObservedYard>⟧.seen in
             let way = ⟦<dyn Carrier as Carrier>⟧ in
@@ -173,7 +173,7 @@ impl Client {
         requires next { left self.old ≡ Some (segment_at at) }
         requires own { next_segment (Some at.inode) self.old.pending ≡ Some (segment_at at) }
         requires some { 0 < at.len }
-        requires inside { at.pos + at.len ≤ window_size }
+        requires inside { at.pos + at.len ≤ WINDOW }
         requires window { at.window * WINDOW < FILE_END }
         ensures { let seen = ⟦<Yard<D, H> as ObservedYard>⟧.seen in
             let way = ⟦<dyn Carrier as Carrier>⟧ in
@@ -219,7 +219,7 @@ impl Client {
         requires next { left self.old ≡ Some (segment_at at) }
         requires own { next_segment (Some at.inode) self.old.pending ≡ Some (segment_at at) }
         requires some { 0 < at.len }
-        requires inside { at.pos + at.len ≤ window_size }
+        requires inside { at.pos + at.len ≤ WINDOW }
         requires window { at.window * WINDOW < FILE_END }
         ensures { (entry : ℕ) (yard : YardValue) (carrier : Carriage)
             → block_count at.len yard.setting.block < upload.quiets
@@ -353,7 +353,7 @@ fn first_left(pending: &Pending, flush: Flush) -> Option<SegmentAt>
     ensures own { IfSome result (λ at.
         next_segment (Some at.inode) pending.now.bytes ≡ Some (segment_at at)) }
     ensures some { IfSome result (λ at. 0 < at.len) }
-    ensures inside { IfSome result (λ at. at.pos + at.len ≤ window_size) }
+    ensures inside { IfSome result (λ at. at.pos + at.len ≤ WINDOW) }
     ensures file { IfSome result (λ at. at.window * WINDOW < FILE_END) }
 {
     match flush {
@@ -369,7 +369,7 @@ fn first_left(pending: &Pending, flush: Flush) -> Option<SegmentAt>
 
 /// The entry of a segment's commit.
 fn commit_of(at: SegmentAt) -> ActKind
-    requires inside { at.pos + at.len ≤ window_size }
+    requires inside { at.pos + at.len ≤ WINDOW }
     requires window { at.window * WINDOW < FILE_END }
     ensures { result ≡ Commit at.inode (segment_at at).from at.len 0 }
 {
@@ -409,7 +409,7 @@ fn written_alone(
 
 /// Where a segment begins.
 fn start_of(at: SegmentAt) -> u64
-    requires inside { at.pos + at.len ≤ window_size }
+    requires inside { at.pos + at.len ≤ WINDOW }
     requires window { at.window * WINDOW < FILE_END }
     ensures from { result ≡ (segment_at at).from }
     ensures end { result + at.len ≤ FILE_END }

@@ -1,6 +1,7 @@
 //! Reading: looks at windows that the handle didn't see, then blocks that the cache doesn't have, one a step.
 ghost use Rattle.std.specs.Prelude.{◌≡◌, ◌≢◌, ◌≤◌, ℕ, length, IfOk, IfSome, IsSome, OnErr, OnOk, None, Some};
 ghost use Rattle.std.specs.Option.{option_map};
+ghost use Rattle.jv_model.specs.declared.limits.TheConstants.{LAST_CLIENT};
 ghost use Rattle.jv_model.specs.declared.profile.Does.TheVariants.{Reads};
 ghost use Rattle.jv_outside.specs.Carriage.{Carriage};
 ghost use Rattle.jv_outside.specs.Store.{Store};
@@ -13,7 +14,8 @@ ghost use Rattle.jv_client.specs.ClientValue.{ClientValue};
 ghost use Rattle.jv_client.specs.Shared.{shared};
 ghost use Rattle.jv_client.specs.UnderWay.{IsReady, does_of, left, names_open};
 ghost use Rattle.jv_client.specs.Makes.{Makes};
-ghost use Rattle.jv_client.specs.Getting.{HasFilled, IsBlockIn, IsMissedBy, ReadsBlock, yard_fault};
+ghost use Rattle.jv_yard.specs.Refusals.{yard_fault};
+ghost use Rattle.jv_client.specs.Getting.{HasFilled, IsBlockIn, IsMissedBy, ReadsBlock};
 ghost use Rattle.jv_client.specs.Reading.{Begins, ClientComesTo, ComesTo, GoesOnAfter, IsAhead, IsCachedAs, IsMade, OnlyLooksUp, Shows, fetch_at, fetch_in, need_at, need_in, put_at};
 
 use crate::answers::looks;
@@ -40,7 +42,7 @@ struct Found {
     bytes: Bytes,
 }
 
-/// How a reading stands once it has gone as far as it wants no request.
+/// How a reading stands once it has gone as far as it needs no request.
 #[derive(Drop)]
 enum Ahead {
     /// It needs this next.
@@ -50,7 +52,7 @@ enum Ahead {
 }
 
 impl Client {
-    /// Begins a reading, whose file has nothing pending: makes its first request, or answers where it wants none.
+    /// Begins a reading, whose file has nothing pending: makes its first request, or answers where it needs none.
     pub(crate) fn read<K: Keeper, D: Depot, H: Shelf>(
         &mut self,
         offset: u64,
@@ -116,7 +118,7 @@ impl Client {
         }
     }
 
-    /// Begins a reading, and goes ahead as far as it wants no request. Returns what it found where it wants none at all.
+    /// Begins a reading, and goes ahead as far as it needs no request. Returns what it found where it needs none at all.
     fn begin_reading(
         &mut self,
         offset: u64,
@@ -232,7 +234,7 @@ impl Client {
         )
     }
 
-    /// Goes on after a request, or answers with it where the reading wants nothing more.
+    /// Goes on after a request, or answers with it where the reading needs nothing more.
     fn go_on_reading(&mut self, kind: ActKind, ahead: Ahead) -> Made
         ensures { GoesOnAfter kind ahead self.old self.new result }
     {
@@ -343,7 +345,7 @@ fn take_from(progress: &mut Progress) -> Fetch
     }
 }
 
-/// Goes ahead with a reading as far as it wants no request.
+/// Goes ahead with a reading as far as it needs no request.
 fn read_ahead(mut fetch: Fetch, views: &Views, cache: &mut BlockCache) -> Result<Ahead, AllocError>
     ensures looks { LooksUp cache.old cache.new }
     ensures comes { IfOk result (ComesTo views.now cache.old fetch) }
@@ -368,7 +370,7 @@ fn read_block<D: Depot, H: Shelf>(
     client: ClientId,
     block: BlockId,
 ) -> Result<Option<Bytes>, Fault>
-    ensures low { client ≤ 7 }
+    ensures low { client ≤ LAST_CLIENT }
     ensures read { let seen = ⟦<Yard<D, H> as ObservedYard>⟧.seen in
         ReadsBlock client block (seen yard.old) (seen yard.new) result }
 {

@@ -15,11 +15,11 @@ use jv_outside::{Carrier, Depot, Keeper, Shelf};
 use jv_yard::{ObservedYard, Yard};
 
 impl Client {
-    /// Makes one step of the operation in progress: at most one transaction or one request, and the answer with the last
-    /// one. Appends the step's entries for this line. Where memory runs out the answer is `NoMemory`, where a device failed
-    /// it is `DeviceFailed`, and nothing but the operation's end has changed. `Broken` if a row that the step reads is
-    /// malformed, or names one that isn't there: nothing has changed but that a read may have begun, and there is no
-    /// entry.
+    /// Makes one step of the operation in progress: at most one transaction or one request, and the answer with the
+    /// last one. Appends the step's entries for this line. Where memory runs out the answer is `NoMemory`, where a
+    /// device failed it is `DeviceFailed`, and nothing but the operation's end has changed. `Broken` if a row that the
+    /// step reads is malformed, or names one that isn't there: nothing has changed but that a read may have begun, and
+    /// there is no entry. JuiceFS, Architecture: clients; Cache: a close stores what was written.
     pub fn step<K: Keeper, D: Depot, H: Shelf>(
         &mut self,
         k: &mut K,
@@ -80,7 +80,7 @@ impl Client {
             Does::Reads(offset, len) => self.read(offset, len, k, yard, entry),
             Does::Truncates | Does::Copies => self.change(k, now),
             Does::Answers(Answer::Count(_)) => self.write(),
-            Does::Answers(Answer::CacheStats) => self.tell_stats(),
+            Does::Answers(Answer::CacheStats) => self.say_stats(),
             _ => self.end_at_once(),
         }
     }

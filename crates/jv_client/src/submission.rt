@@ -18,10 +18,11 @@ use jv_handles::{Handle, inode_at, named, open_count};
 use jv_model::{Does, FILE_END, Fault, Flushes, Handles, Limits, MAX_HANDLES, Op, Profile};
 
 impl Client {
-    /// Begins an operation. Refuses, with the operation handed back, by the first of these that holds: `InProgress` where
-    /// one is in progress or a mounted client mounts, `NotConnected` where the client isn't mounted, `BadHandle` where a
-    /// handle that it names isn't open, `TooManyHandles` where it would open one handle more than there may be, and
-    /// `FileTooLarge` where a write ends past the longest file. On error nothing has changed.
+    /// Begins an operation. Refuses, with the operation handed back, by the first of these that holds: `InProgress`
+    /// where one is in progress or a mounted client mounts, `NotConnected` where the client isn't mounted, `BadHandle`
+    /// where a handle that it names isn't open, `TooManyHandles` where it would open one handle more than there may be,
+    /// and `FileTooLarge` where a write ends past the longest file. On error nothing has changed. POSIX.1-2017, 2.3
+    /// "Error Numbers".
     pub fn submit(&mut self, op: Op) -> Result<(), (Op, Fault)>
         ensures refusal { (g : Known) (v : Shared) (m : ModelClient) (count : ℕ)
             → IsClient g v m count self.old → refused_with result ≡ submission m op }

@@ -12,9 +12,10 @@ ghost use Rattle.jv_handles.specs.Handles.{new_handle};
 ghost use Rattle.jv_client.specs.Held.{is_last_here};
 ghost use Rattle.jv_client.specs.UnderWay.{IsReady, asks_more, does_of, left, makes_transaction};
 ghost use Rattle.jv_client.specs.Makes.{Makes};
-ghost use Rattle.jv_client.specs.Transacting.{Attempts, EndsUnmade, handles_given, is_tried, refusal_of, session_given, sustained_with};
+ghost use Rattle.jv_client.specs.Transacting.{Attempts, EndsUnmade, handles_given, refusal_of, session_given, sustained_with};
 ghost use Rattle.jv_model.specs.declared.op.Reply.TheVariants.{SessionMade};
 ghost use Rattle.jv_model.specs.declared.profile.Does.TheVariants.{Releases};
+ghost use Rattle.jv_model.specs.client.OpForms.{is_tried};
 
 use crate::answers::{handle_of, looks};
 use crate::client::Client;

@@ -1,6 +1,7 @@
 -- What words ask for, by what `clap` makes of them.
 use Rattle.std.proofs.Common.{◌≡◌, ◌≢◌, ℕ, ◌≤◌, nat_le, Bool, true, false, IsTrue, [], ◌∷◌, List, Option, None, Some, Ok, Err, refl, ap, sym, subst, ◌∙◌, codes, bytes_eq}
 use Rattle.std.specs.Prelude.{◌&&◌, if◌then◌else◌, IfSome, option_and_then, option_map}
+use Rattle.jv_model.specs.declared.options.TheConstants.{MAX_CACHE, MIN_BUFFER, MAX_BUFFER, MAX_UPLOADS}
 use Rattle.jv_model.specs.declared.setting.Setting.{Setting}
 use Rattle.jv_model.specs.rows.RowGrammar.{is_setting}
 use Rattle.jv_model.proofs.TestLaws.{then_all}
@@ -8,7 +9,6 @@ use Rattle.clap.specs.Words.{Row, Text, Kinds, fault_of, first_of, subcommand_of
 use Rattle.clap.specs.declared.parser.matches.ArgMatches.{ArgMatches}
 use Rattle.jv_cmd.specs.declared.words.request.Command.{Command}
 use Rattle.jv_cmd.specs.declared.words.request.Command.TheVariants.{Format, Session}
-use Rattle.jv_cmd.specs.declared.words.request.TheConstants.{MAX_BUFFER, MAX_CACHE, MAX_UPLOADS, MIN_BUFFER}
 use Rattle.jv_cmd.specs.declared.words.request.WordsFault.{WordsFault}
 use Rattle.jv_cmd.specs.declared.words.request.WordsFault.TheVariants.{Refused, Memory}
 use Rattle.std.proofs.lemmas.Bool.{leb-true}

@@ -25,7 +25,7 @@ use Rattle.jv_client.specs.Shared.{shared}
 use Rattle.jv_session.specs.Lines.{StaysPut}
 use Rattle.jv_session.proofs.UsesLaws.{no_failures}
 use Rattle.jv_cmd.specs.declared.ended.Ended.{Ended}
-use Rattle.jv_cmd.specs.declared.ended.Ended.TheVariants.{Whole, OffLine, NoVolume, VolumeExists, NewerVersion, SettingOff, BadRow, SourceFailed, OutFailed, ClockFailed, KeeperFailed, DepotFailed, CarrierFailed, ShelfFailed, OutOfMemory}
+use Rattle.jv_cmd.specs.declared.ended.Ended.TheVariants.{Whole, LineNotRun, NoVolume, VolumeExists, NewerVersion, MalformedSetting, BadRow, SourceFailed, OutFailed, ClockFailed, KeeperFailed, DepotFailed, CarrierFailed, ShelfFailed, OutOfMemory}
 use Rattle.jv_cmd.specs.declared.words.request.Command.{Command}
 use Rattle.jv_cmd.specs.declared.words.request.Command.TheVariants.{Format, Session}
 use Rattle.jv_cmd.specs.declared.words.request.SessionOptions.{SessionOptions}
@@ -168,11 +168,11 @@ module _ (before after : StageValue) (place : List ℕ) (old : Store) (answers :
   keeper_lines : (ended : Ended) → RunsLines answers before after ended
       → UsesKeeper ended (answers Keeper) place old after.devices.keeper
   keeper_lines Whole runs = record { opened = place_after; faults = rose }
-  keeper_lines (OffLine number) runs = record { opened = place_after; faults = rose }
+  keeper_lines (LineNotRun number) runs = record { opened = place_after; faults = rose }
   keeper_lines NoVolume runs = absurd runs.cause
   keeper_lines VolumeExists runs = absurd runs.cause
   keeper_lines (NewerVersion version) runs = absurd runs.cause
-  keeper_lines SettingOff runs = absurd runs.cause
+  keeper_lines MalformedSetting runs = absurd runs.cause
   keeper_lines (BadRow key bytes) runs = record { opened = place_after; faults = rose }
   keeper_lines SourceFailed runs = record { opened = place_after; faults = rose }
   keeper_lines OutFailed runs = record { opened = place_after; faults = rose }
@@ -187,11 +187,11 @@ module _ (before after : StageValue) (place : List ℕ) (old : Store) (answers :
   keeper_whole : (seed : ℕ) (said : Option (List ℕ)) (ended : Ended) → SumsUp seed said before.out after.out ended
       → UsesKeeper ended (answers Keeper) place old after.devices.keeper
   keeper_whole seed said Whole sums = record { opened = place_after; faults = rose }
-  keeper_whole seed said (OffLine number) sums = absurd sums
+  keeper_whole seed said (LineNotRun number) sums = absurd sums
   keeper_whole seed said NoVolume sums = absurd sums
   keeper_whole seed said VolumeExists sums = absurd sums
   keeper_whole seed said (NewerVersion version) sums = absurd sums
-  keeper_whole seed said SettingOff sums = absurd sums
+  keeper_whole seed said MalformedSetting sums = absurd sums
   keeper_whole seed said (BadRow key bytes) sums = absurd sums
   keeper_whole seed said SourceFailed sums = absurd sums
   keeper_whole seed said OutFailed sums = record { opened = place_after; faults = rose }
@@ -210,11 +210,11 @@ module _ (before after : StageValue) (place : List ℕ) (old : Store) (answers :
       → RunsLines answers (with_streams (Some (script_text seed)) (Some []) before) (with_streams left said after) ran
       → PrintsSummary seed said before.out after.out ran ended → UsesKeeper ended (answers Keeper) place old after.devices.keeper
   keeper_drawn seed left said Whole ended runs prints = keeper_whole seed said ended prints
-  keeper_drawn seed left said (OffLine number) ended runs prints = same_keeper (OffLine number) ended prints.0 (record { opened = place_after; faults = rose })
+  keeper_drawn seed left said (LineNotRun number) ended runs prints = same_keeper (LineNotRun number) ended prints.0 (record { opened = place_after; faults = rose })
   keeper_drawn seed left said NoVolume ended runs prints = absurd runs.cause
   keeper_drawn seed left said VolumeExists ended runs prints = absurd runs.cause
   keeper_drawn seed left said (NewerVersion version) ended runs prints = absurd runs.cause
-  keeper_drawn seed left said SettingOff ended runs prints = absurd runs.cause
+  keeper_drawn seed left said MalformedSetting ended runs prints = absurd runs.cause
   keeper_drawn seed left said (BadRow key bytes) ended runs prints = same_keeper (BadRow key bytes) ended prints.0 (record { opened = place_after; faults = rose })
   keeper_drawn seed left said SourceFailed ended runs prints = same_keeper SourceFailed ended prints.0 (record { opened = place_after; faults = rose })
   keeper_drawn seed left said OutFailed ended runs prints = same_keeper OutFailed ended prints.0 (record { opened = place_after; faults = rose })
@@ -303,7 +303,7 @@ late_started before after ended cannot = subst IsLate (sym cannot.ended_is) (lat
 -- no line of a drawn script ends the command
 
 not_opened : (rows : Option RowMap) (ended : Ended) → CannotOpen rows ended → status_of ended ≢ 3
-not_opened rows (OffLine number) cannot = absurd cannot
+not_opened rows (LineNotRun number) cannot = absurd cannot
 not_opened rows ended cannot = λ same. absurd (omega (arith, same))
 
 drawn_lines : (seed : Option ℕ) (answers : Device → ℕ) (before after : StageValue) (ended : Ended)

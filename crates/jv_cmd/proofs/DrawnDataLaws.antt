@@ -10,10 +10,11 @@ use Rattle.jv_model.specs.declared.limits.TheConstants.{MAX_DATA}
 use Rattle.jv_model.specs.script.Spelling.{is_hex_digit}
 use Rattle.jv_model.specs.script.Printed.{Repeated}
 use Rattle.jv_model.specs.script.Grammar.{repeated_of, part_of, bytes_of_parts, data_of}
+use Rattle.jv_script.proofs.DataRoundTripLaws.{weaker}
 use Rattle.jv_script.proofs.PrintedDigitLaws.{decimal_read}
 use Rattle.jv_script.proofs.PartLaws.{part_of_with_x, some_bytes}
 use Rattle.jv_cmd.proofs.DrawnNumberLaws.{IsPair, decimal_past}
-use Rattle.jv_cmd.proofs.DrawnWordLaws.{IsWord, all_have, are_past, lacks}
+use Rattle.jv_cmd.proofs.DrawnWordLaws.{IsWord, are_past, lacks}
 
 small_data : (n : ℕ) → n ≤ MAX_DATA → n < 2 ^ 64
 small_data n few = omega (arith, few)
@@ -30,8 +31,8 @@ run_past byte n high low pair few =
 pub run_word : (byte n high low : ℕ) → IsPair byte high low → n ≤ MAX_DATA
     → IsWord (high ∷ low ∷ 120 ∷ decimal n)
 run_word byte n high low pair few = record {
-  bytes = all_have (λ c. nat_lt 43 c) (λ c. nat_lt 32 c) (λ c past. lt-ltb 32 c (omega (arith, ltb-true 43 c past)))
-      (high ∷ low ∷ 120 ∷ decimal n) (run_past byte n high low pair few);
+  bytes = weaker (λ c. nat_lt 43 c) (λ c. nat_lt 32 c) (high ∷ low ∷ 120 ∷ decimal n)
+      (λ c past. lt-ltb 32 c (omega (arith, ltb-true 43 c past))) (run_past byte n high low pair few);
   short = omega (arith, length-decimal-le 7 n (omega arith) (omega (arith, few)) (small_data n few));
 }
 

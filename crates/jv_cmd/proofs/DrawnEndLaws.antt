@@ -14,10 +14,10 @@ use Rattle.jv_generator.proofs.ScriptLaws.{script_length}
 use Rattle.jv_outside.specs.Stream.{Stream}
 use Rattle.jv_client.specs.Built.{is_built_line}
 use Rattle.jv_cmd.specs.declared.ended.Ended.{Ended}
-use Rattle.jv_cmd.specs.declared.ended.Ended.TheVariants.{OffLine, Whole}
+use Rattle.jv_cmd.specs.declared.ended.Ended.TheVariants.{LineNotRun, Whole}
 use Rattle.jv_cmd.specs.Ends.{status_of}
 use Rattle.jv_cmd.specs.Generating.{PrintsSummary, SumsUp, script_text, with_streams}
-use Rattle.jv_cmd.specs.Run.{BeginWith, IsOff, NotBuilt, OffGrammar, OneTooMany, RunsLines, TooLong}
+use Rattle.jv_cmd.specs.Run.{BeginWith, IsNotRun, NotBuilt, Malformed, OneTooMany, RunsLines, TooLong}
 use Rattle.jv_cmd.specs.Stages.{StageValue}
 use Rattle.jv_cmd.specs.Texts.{texts_of}
 use Rattle.jv_cmd.proofs.DrawnLineLaws.{IsRunnable, bare}
@@ -44,10 +44,10 @@ few_texts seed earlier more text lines e each =
 
 -- the text of an operation that runs is no reason to stop
 runs_on : (limits : Limits) (number : ℕ) (op : Op) (text : List ℕ) → IsRunnable op → bare op ≡ text
-    → limits.writeback ≡ false → number ≤ MAX_LINES → IsOff limits number text → ⊥
+    → limits.writeback ≡ false → number ≤ MAX_LINES → IsNotRun limits number text → ⊥
 runs_on limits number op text runs same direct few (OneTooMany past) = omega (arith, few, past)
 runs_on limits number op text runs same direct few (TooLong long) = omega (arith, long, runs.short, ap length same)
-runs_on limits number op text runs same direct few (OffGrammar none) = (let read = runs.read in cc)
+runs_on limits number op text runs same direct few (Malformed none) = (let read = runs.read in cc)
 runs_on limits number op text runs same direct few (NotBuilt line read off) =
     let is : Some line ≡ Some (on_client op) = sym read ∙ ap line_of (sym same) ∙ runs.read in
     let line_is : line ≡ on_client op = cc in
@@ -55,7 +55,7 @@ runs_on limits number op text runs same direct few (NotBuilt line read off) =
 
 pub never_off : (limits : Limits) (seed number : ℕ) (earlier : List (List ℕ)) (text : List ℕ) (lines : List Line)
     → limits.writeback ≡ false → map line_of earlier ≡ map Some lines → number ≡ length lines + 1
-    → BeginWith (Some (script_text seed)) (earlier ++ text ∷ []) → IsOff limits number text → ⊥
+    → BeginWith (Some (script_text seed)) (earlier ++ text ∷ []) → IsNotRun limits number text → ⊥
 never_off limits seed number earlier text lines direct each after next off =
     let (more, e) = next.known in
     let ops = operations FILES ACCESSES seed in
@@ -67,7 +67,7 @@ never_off limits seed number earlier text lines direct each after next off =
 lines_run : (seed : ℕ) (answers : Device → ℕ) (before after : StageValue) (taken : Option (List ℕ)) (ran : Ended)
     → RunsLines answers (with_streams (Some (script_text seed)) taken before) after ran
     → before.limits.writeback ≡ false → status_of ran ≢ 3
-lines_run seed answers before after taken (OffLine number) runs direct =
+lines_run seed answers before after taken (LineNotRun number) runs direct =
     let stops = runs.cause in
     absurd (never_off before.limits seed number runs.texts stops.text runs.lines direct runs.read.each stops.after_lines
     stops.next stops.off)
@@ -75,7 +75,7 @@ lines_run seed answers before after taken ran runs direct = λ same. absurd (ome
 
 summed_up : (seed : ℕ) (said : Option (List ℕ)) (before after : Stream) (ended : Ended)
     → SumsUp seed said before after ended → status_of ended ≢ 3
-summed_up seed said before after (OffLine number) sums = absurd sums
+summed_up seed said before after (LineNotRun number) sums = absurd sums
 summed_up seed said before after ended sums = λ same. absurd (omega (arith, same))
 
 -- how the run ended

@@ -11,10 +11,6 @@ use Rattle.jv_cmd.specs.Generating.{line_text, replies_said, reply_said, script_
 use Rattle.jv_cmd.specs.Texts.{is_feed, texts_of}
 use Rattle.jv_cmd.proofs.TextLaws.{around_feed, no_feed, texts_of-feed, texts_of-last}
 
-pub absent : (found : Option Line) → ((line : Line) → found ≡ Some line → ⊥) → found ≡ None
-absent None not = refl
-absent (Some line) not = absurd (not line refl)
-
 -- the generator's next line
 pub next_line : (seed : ℕ) (before after : Drawn) (found : Option Line) (line : Line) → before.seed ≡ seed
     → found ≡ slice_get (script before.seed) before.given

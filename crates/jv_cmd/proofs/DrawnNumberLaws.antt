@@ -2,11 +2,11 @@
 use Rattle.std.proofs.Common.{◌≡◌, ℕ, ◌/◌, ◌%◌, ◌^◌, ◌<◌, nat_lt, nat_le, true, arith, decimal}
 use Rattle.std.proofs.lemmas.Bool.{and_parts, lt-ltb, leb-true}
 use Rattle.std.proofs.lemmas.Fmt.{length-decimal-le}
-use Rattle.jv_model.specs.script.Spelling.{is_decimal_digit, is_hex_digit}
+use Rattle.jv_model.specs.script.Spelling.{is_decimal_digit, is_hex_digit, byte_of}
 use Rattle.jv_model.specs.script.Printed.{hex_digit}
-use Rattle.jv_model.specs.script.Grammar.{byte_of}
+use Rattle.jv_script.proofs.DataRoundTripLaws.{weaker}
 use Rattle.jv_script.proofs.PrintedDigitLaws.{decimal_digits, high_is_hex, low_is_hex, pair_value}
-use Rattle.jv_cmd.proofs.DrawnWordLaws.{IsWord, all_have, are_past}
+use Rattle.jv_cmd.proofs.DrawnWordLaws.{IsWord, are_past}
 
 -- numbers
 
@@ -15,8 +15,8 @@ digit_past low c few digit = omega (arith, leb-true 48 c (and_parts (nat_le 48 c
 
 pub decimal_past : (low n : ℕ) → low < 48 → n < 2 ^ 64 → are_past low (decimal n) ≡ true
 decimal_past low n few small =
-    all_have is_decimal_digit (λ c. nat_lt low c) (λ c digit. lt-ltb low c (digit_past low c few digit))
-    (decimal n) (decimal_digits n small)
+    weaker is_decimal_digit (λ c. nat_lt low c) (decimal n) (λ c digit. lt-ltb low c (digit_past low c few digit))
+    (decimal_digits n small)
 
 pub decimal_word : (n : ℕ) → n < 2 ^ 64 → IsWord (decimal n)
 decimal_word n small = record {

@@ -9,11 +9,13 @@ use Rattle.std.proofs.lemmas.List.Elements.{All-weaker}
 use Rattle.std.proofs.lemmas.List.Splits.{slice_split_none}
 use Rattle.std.proofs.lemmas.List.Sums.{AllPass-from_list_all}
 use Rattle.jv_model.specs.script.Spelling.{is_decimal_digit}
-use Rattle.jv_model.specs.script.Grammar.{begins_with_slash, bytes_between, is_plain, path_of, unescaped}
-use Rattle.jv_model.specs.script.Spelled.{has_no_zero}
+use Rattle.jv_model.specs.script.Grammar.{bytes_between, is_plain, path_of, unescaped}
+use Rattle.jv_model.specs.Lists.{has_no_zero}
+use Rattle.jv_model.specs.tree.Walk.{is_absolute}
+use Rattle.jv_script.proofs.DataRoundTripLaws.{weaker}
 use Rattle.jv_script.proofs.PrintedDigitLaws.{decimal_digits}
 use Rattle.jv_cmd.proofs.DrawnNumberLaws.{decimal_word, digit_past}
-use Rattle.jv_cmd.proofs.DrawnWordLaws.{IsWord, all_have}
+use Rattle.jv_cmd.proofs.DrawnWordLaws.{IsWord}
 
 -- a text without an escape
 plain_read : (text : List ℕ) → list_all is_plain text ≡ true → unescaped text ≡ Some text
@@ -24,7 +26,7 @@ plain_read text plain =
     (AllPass-from_list_all is_plain text plain) in
     ap bytes_between (slice_split_none (λ c. c == 37) text no_escape) ∙ rw plain (ap Some (append-nil text))
 
-plain_path : (text : List ℕ) → list_all is_plain text ≡ true → begins_with_slash text ≡ true
+plain_path : (text : List ℕ) → list_all is_plain text ≡ true → is_absolute text ≡ true
     → path_of text ≡ Some text
 unfolding path_of
 plain_path text plain slash = rw (plain_read text plain, slash) refl
@@ -39,11 +41,11 @@ digit_is_no_zero c digit =
 pub file_read : (i : ℕ) → i < 2 ^ 64 → path_of (codes "/g" ++ decimal i) ≡ Some (codes "/g" ++ decimal i)
 file_read i small =
     plain_path (codes "/g" ++ decimal i)
-    (all_have is_decimal_digit is_plain digit_is_plain (decimal i) (decimal_digits i small)) refl
+    (weaker is_decimal_digit is_plain (decimal i) digit_is_plain (decimal_digits i small)) refl
 
 pub file_spelled : (i : ℕ) → i < 2 ^ 64 → has_no_zero (codes "/g" ++ decimal i) ≡ true
 file_spelled i small =
-    all_have is_decimal_digit (λ c. not (c == 0)) digit_is_no_zero (decimal i) (decimal_digits i small)
+    weaker is_decimal_digit (λ c. not (c == 0)) (decimal i) digit_is_no_zero (decimal_digits i small)
 
 pub file_word : (i : ℕ) → i < 2 ^ 64 → IsWord (codes "/g" ++ decimal i)
 file_word i small = record {

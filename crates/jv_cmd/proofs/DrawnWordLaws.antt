@@ -7,7 +7,7 @@ use Rattle.std.proofs.lemmas.List.{length-append}
 use Rattle.std.proofs.lemmas.List.Elements.{All-weaker}
 use Rattle.std.proofs.lemmas.List.Folds.{list_any-append, list_any_none}
 use Rattle.std.proofs.lemmas.List.Splits.{slice_split_at, slice_split_none}
-use Rattle.std.proofs.lemmas.List.Sums.{AllPass-from_list_all, list_all-from_AllPass}
+use Rattle.std.proofs.lemmas.List.Sums.{AllPass-from_list_all}
 use Rattle.jv_model.specs.script.Spelling.{words}
 use Rattle.jv_cmd.specs.Texts.{has_feed, is_feed}
 
@@ -22,13 +22,6 @@ pub record IsWord (word : List ℕ) : Type 0 where
 
 abbrev pub AreWords : List (List ℕ) → Type 0
 AreWords words = AllByRecursion IsWord words
-
--- what each byte has, if it has another thing
-pub all_have : (p q : ℕ → Bool) → ((c : ℕ) → p c ≡ true → q c ≡ true) → (text : List ℕ) → list_all p text ≡ true
-    → list_all q text ≡ true
-all_have p q implied text all =
-    list_all-from_AllPass q text
-    (All-weaker (λ c. p c ≡ true) (λ c. q c ≡ true) implied text (AllPass-from_list_all p text all))
 
 -- none of them is one up to there
 pub lacks : (byte low : ℕ) (text : List ℕ) → byte ≤ low → are_past low text ≡ true → All (λ c. (c == byte) ≡ false) text

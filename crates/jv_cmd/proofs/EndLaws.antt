@@ -21,9 +21,10 @@ use Rattle.jv_cmd.specs.declared.ended.Ended.TheVariants.{BadRow}
 use Rattle.jv_cmd.specs.Cutting.{BeginsWith}
 use Rattle.jv_cmd.specs.Ends.{status_of}
 use Rattle.jv_cmd.specs.Faults.{CountsFaults, on_stage}
-use Rattle.jv_cmd.specs.Run.{AreLines, Beginning, EndsBy, IsKnownClock, IsOff, Leaves, NotBuilt, OffGrammar, Prints, RunsWhole, StartsWhole, StopsAt, session_run}
+use Rattle.jv_cmd.specs.Run.{AreLines, Beginning, EndsBy, IsKnownClock, IsNotRun, Leaves, NotBuilt, Malformed, Prints, RunsWhole, StartsWhole, StopsAt, session_run}
 use Rattle.jv_cmd.specs.Stages.{StageValue}
-use Rattle.jv_cmd.specs.Steps.{Done, EndsLines, HasUsed, IsOffText, LineUnbuilt, NoLine, ReadsBuilt, Reaches, used}
+use Rattle.jv_cmd.specs.Generating.{EndsScript}
+use Rattle.jv_cmd.specs.Steps.{Done, HasUsed, IsTextNotRun, LineUnbuilt, NoLine, ReadsBuilt, Reaches, used}
 use Rattle.jv_cmd.specs.Texts.{texts_of}
 use Rattle.jv_cmd.proofs.DoneLaws.{HasUsed-line, built_more}
 use Rattle.jv_cmd.proofs.EntryLaws.{Enters, Enters-cut, OfNext, OfNext-settled, comes, comes_settled, there}
@@ -94,11 +95,11 @@ module _ (left : Option (List ℕ)) (before now after : StageValue) (n : ℕ) (t
     leaves = Leaves-stands _ s after.devices (Stands-last start w known (status_of ended) t);
   }
 
-  pub EndsLines-last : (ended : Ended) → EndsBy ended before after d.texts d.lines
+  pub EndsScript-last : (ended : Ended) → EndsBy ended before after d.texts d.lines
       → ((start : Beginning) (known : Option (ℕ → ℕ)) → StartsWhole before start
       → IsKnownClock known before.clock after.clock → Prints ended start known before after d.lines)
-      → CountsFaults ended (on_stage before) (on_stage after) → EndsLines before after ended
-  EndsLines-last ended cause prints faults = record {
+      → CountsFaults ended (on_stage before) (on_stage after) → EndsScript None before after ended
+  EndsScript-last ended cause prints faults = record {
     answers = d.failed;
     runs = record {
       texts = d.texts;
@@ -135,13 +136,13 @@ module _ (left left' : Option (List ℕ)) (before now after : StageValue) (n : �
     short = short_more d.texts bytes_of_line d.short short;
   }
 
-  pub EndsLines-next : (ended : Ended) (asks : ℕ) (failed : Device → ℕ) → LineUses (used now s) (used after s') asks failed
+  pub EndsScript-next : (ended : Ended) (asks : ℕ) (failed : Device → ℕ) → LineUses (used now s) (used after s') asks failed
       → EndsBy ended before after (d.texts ++ bytes_of_line ∷ []) (d.lines ++ line ∷ [])
       → ((start : Beginning) (known : Option (ℕ → ℕ)) → StartsWhole before start
       → IsKnownClock known before.clock after.clock
       → RunsWhole start known before after ended (d.lines ++ line ∷ []))
-      → CountsFaults ended (on_stage before) (on_stage after) → EndsLines before after ended
-  EndsLines-next ended asks failed uses cause whole faults = record {
+      → CountsFaults ended (on_stage before) (on_stage after) → EndsScript None before after ended
+  EndsScript-next ended asks failed uses cause whole faults = record {
     answers = both_failures d.failed failed;
     runs = record {
       texts = d.texts ++ bytes_of_line ∷ [];
@@ -227,13 +228,13 @@ module _ (left left' : Option (List ℕ)) (before now after : StageValue) (n : �
     torn start w = comes left before now after n text line s s' d b.asks b.uses.passes start w
         (λ p more. ⊥) b.never None [] 4 tt
 
-    pub EndsLines-bad : CountsFaults (BadRow key bytes) (on_stage before) (on_stage after) → EndsLines before after (BadRow key bytes)
-    EndsLines-bad faults = EndsLines-next (BadRow key bytes) b.asks b.failed b.uses
+    pub EndsScript-bad : CountsFaults (BadRow key bytes) (on_stage before) (on_stage after) → EndsScript None before after (BadRow key bytes)
+    EndsScript-bad faults = EndsScript-next (BadRow key bytes) b.asks b.failed b.uses
         (record { bad = b.bad; torn = torn }) (λ start known w t. absurd (torn start w)) faults
 
 pub StopsAt-from : (left : Option (List ℕ)) (before now : StageValue) (n : ℕ) (text : List ℕ) (s : ScheduleValue)
     (d : Done left before now n text s) (next : List ℕ) → BeginsWith left next
-    → IsOff before.limits (n + 1) next → StopsAt before d.texts d.lines (n + 1)
+    → IsNotRun before.limits (n + 1) next → StopsAt before d.texts d.lines (n + 1)
 StopsAt-from left before now n text s d next begins off = record {
   after_lines = ap (λ k. k + 1) (sym d.count);
   text = next;
@@ -241,8 +242,8 @@ StopsAt-from left before now n text s d next begins off = record {
   off = off;
 }
 
-pub IsOff-text : (left : Option (List ℕ)) (before now : StageValue) (n : ℕ) (text : List ℕ) (s : ScheduleValue)
-    (d : Done left before now n text s) (number : ℕ) (next : List ℕ) → IsOffText next s.limits → IsOff before.limits number next
-IsOff-text left before now n text s d number next (NoLine e) = OffGrammar e
-IsOff-text left before now n text s d number next (LineUnbuilt line e unbuilt) =
+pub IsNotRun-text : (left : Option (List ℕ)) (before now : StageValue) (n : ℕ) (text : List ℕ) (s : ScheduleValue)
+    (d : Done left before now n text s) (number : ℕ) (next : List ℕ) → IsTextNotRun next s.limits → IsNotRun before.limits number next
+IsNotRun-text left before now n text s d number next (NoLine e) = Malformed e
+IsNotRun-text left before now n text s d number next (LineUnbuilt line e unbuilt) =
     NotBuilt line e (subst (λ limits. is_built_line limits line ≡ false) d.limits unbuilt)

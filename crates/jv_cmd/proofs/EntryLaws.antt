@@ -114,7 +114,7 @@ pub up_to-now : (n : ℕ) (before after : List Act) → OfNext n before after �
 up_to-now n before after o own = sym (up_to-all 0 n n before (omega arith) own)
     ∙ up_to-before n n before after o (omega arith)
 
--- entries that were appended answer so often that a device failed
+-- entries that were appended answer of each device as often as `more` says that it failed
 pub failures_more : (journal after : List Act) (failed more : Device → ℕ) → AreFailures journal failed
     → AnswersSo journal after more → AreFailures after (both_failures failed more)
 failures_more journal after failed more first last =

@@ -2,7 +2,7 @@
 use Rattle.std.proofs.Common.{◌≡◌, ℕ, ◌^◌, ◌<◌, Bool, true, false, List, [], ◌∷◌, None, Some, Ok, inl, inr, refl, sym, ap, subst, ◌∙◌, arith}
 use Rattle.std.specs.Prelude.{◌&&◌, if◌then◌else◌, is_some, IsTrue}
 use Rattle.std.specs.Option.{option_map}
-use Rattle.jv_model.specs.declared.limits.TheConstants.{ROOT, TRASH_ROOT}
+use Rattle.jv_model.specs.declared.limits.TheConstants.{ROOT, TRASH_ROOT, FULL_MODE, READ_ONLY_MODE}
 use Rattle.jv_model.specs.declared.row.RowKey.{RowKey}
 use Rattle.jv_model.specs.declared.row.Row.TheVariants.{OfSetting, OfCounters, OfNode}
 use Rattle.jv_model.specs.declared.setting.Setting.{Setting}
@@ -12,8 +12,8 @@ use Rattle.jv_model.specs.rows.RowGrammar.{is_node, is_setting, setting_bytes, c
 use Rattle.jv_model.specs.rows.RowKeys.{row_key, RowMap}
 use Rattle.jv_model.specs.rows.RowPlaces.{setting_key, counters_key, node_key, slice_key}
 use Rattle.jv_model.proofs.FiniteMapLaws.{get-empty_map, same_maps}
-use Rattle.jv_model.proofs.TreeComputes.{maps_compute}
-use Rattle.jv_model.specs.tree.Tree.{full_mode, read_only_mode}
+use Rattle.jv_model.proofs.TreeComputeLaws.{maps_compute}
+use Rattle.jv_model.specs.blocks.BlockNames.{name_in}
 use Rattle.jv_outside.specs.Blocks.{StagedMap, staged_at, staged_key}
 use Rattle.jv_outside.specs.Holding.{Holding}
 use Rattle.jv_outside.specs.Objects.{ObjectMap, bytes_at}
@@ -26,8 +26,8 @@ use Rattle.jv_volume.proofs.TypedLaws.{typed-insert-row}
 use Rattle.jv_volume.proofs.WrittenRowsLaws.{none_at}
 use Rattle.jv_rows.specs.FreshRows.{fresh_counters, fresh_directory, fresh_rows}
 use Rattle.jv_rows.specs.RoundTrips.{SettingWidths}
-use Rattle.jv_rows.proofs.ExactRows.{setting_exact, counters_exact, node_exact}
-use Rattle.jv_yard.specs.Contents.{blocks_in, is_block, name_in}
+use Rattle.jv_rows.proofs.ExactRowLaws.{setting_exact, counters_exact, node_exact}
+use Rattle.jv_yard.specs.Contents.{blocks_in, is_block}
 use Rattle.jv_yard.specs.Later.{IsCopy, contents_of}
 use Rattle.jv_yard.specs.Staging.{staged_since}
 use Rattle.jv_yard.specs.Starting.{IsStarted}
@@ -95,8 +95,8 @@ module _ (setting : Setting) (at : ℕ) (widths : SettingWidths setting) (allowe
 
   abbrev entries : List (RowKey × Cell)
   entries = (setting_key, Ok (OfSetting setting)) ∷ (counters_key, Ok (OfCounters fresh_counters))
-      ∷ (node_key ROOT, Ok (OfNode (fresh_directory full_mode at))) ∷
-      (node_key TRASH_ROOT, Ok (OfNode (fresh_directory read_only_mode at))) ∷ []
+      ∷ (node_key ROOT, Ok (OfNode (fresh_directory FULL_MODE at))) ∷
+      (node_key TRASH_ROOT, Ok (OfNode (fresh_directory READ_ONLY_MODE at))) ∷ []
 
   -- after each put
   abbrev first : RowMap
@@ -106,7 +106,7 @@ module _ (setting : Setting) (at : ℕ) (widths : SettingWidths setting) (allowe
   second = insert first counters_key (counters_bytes fresh_counters)
 
   abbrev third : RowMap
-  third = insert second (node_key ROOT) (node_bytes (fresh_directory full_mode at))
+  third = insert second (node_key ROOT) (node_bytes (fresh_directory FULL_MODE at))
 
   typed_first : typed first ≡ insert empty_map setting_key (Ok (OfSetting setting))
   typed_first = typed-insert-row empty_map setting_key (setting_bytes setting) (OfSetting setting) setting_read
@@ -120,19 +120,19 @@ module _ (setting : Setting) (at : ℕ) (widths : SettingWidths setting) (allowe
 
   typed_third : typed third ≡ insert (insert (insert empty_map setting_key (Ok (OfSetting setting))) counters_key
       (Ok (OfCounters fresh_counters)))
-      (node_key ROOT) (Ok (OfNode (fresh_directory full_mode at)))
+      (node_key ROOT) (Ok (OfNode (fresh_directory FULL_MODE at)))
   typed_third =
-      typed-insert-row second (node_key ROOT) (node_bytes (fresh_directory full_mode at))
-      (OfNode (fresh_directory full_mode at)) (directory_read ROOT full_mode (omega arith) refl)
-      ∙ ap (λ m. insert m (node_key ROOT) (Ok (OfNode (fresh_directory full_mode at)))) typed_second
+      typed-insert-row second (node_key ROOT) (node_bytes (fresh_directory FULL_MODE at))
+      (OfNode (fresh_directory FULL_MODE at)) (directory_read ROOT FULL_MODE (omega arith) refl)
+      ∙ ap (λ m. insert m (node_key ROOT) (Ok (OfNode (fresh_directory FULL_MODE at)))) typed_second
 
   typed_formatted : typed (formatted setting at) ≡ first_rows setting at
   typed_formatted =
-      typed-insert-row third (node_key TRASH_ROOT) (node_bytes (fresh_directory read_only_mode at))
-      (OfNode (fresh_directory read_only_mode at)) (directory_read TRASH_ROOT read_only_mode (omega arith) refl)
-      ∙ ap (λ m. insert m (node_key TRASH_ROOT) (Ok (OfNode (fresh_directory read_only_mode at)))) typed_third
+      typed-insert-row third (node_key TRASH_ROOT) (node_bytes (fresh_directory READ_ONLY_MODE at))
+      (OfNode (fresh_directory READ_ONLY_MODE at)) (directory_read TRASH_ROOT READ_ONLY_MODE (omega arith) refl)
+      ∙ ap (λ m. insert m (node_key TRASH_ROOT) (Ok (OfNode (fresh_directory READ_ONLY_MODE at)))) typed_third
       ∙ four_rows (Ok (OfSetting setting)) (Ok (OfCounters fresh_counters))
-      (Ok (OfNode (fresh_directory full_mode at))) (Ok (OfNode (fresh_directory read_only_mode at)))
+      (Ok (OfNode (fresh_directory FULL_MODE at))) (Ok (OfNode (fresh_directory READ_ONLY_MODE at)))
 
   setting_first : get (first_rows setting at) setting_key ≡ Some (Ok (OfSetting setting))
   unfolding maps_compute

@@ -10,7 +10,7 @@ use Rattle.jv_model.specs.tree.Tree.{Tree}
 use Rattle.jv_model.proofs.TestLaws.{some_same}
 use Rattle.jv_outside.specs.Objects.{ObjectMap}
 use Rattle.jv_volume.specs.TypedRows.{typed}
-use Rattle.jv_contents.specs.Blocks.{told_by}
+use Rattle.jv_contents.specs.Blocks.{known_by}
 use Rattle.jv_contents.specs.Bytes.{tree_with}
 use Rattle.jv_contents.proofs.BlockLaws.{tree-grows}
 use Rattle.jv_yard.specs.Contents.{blocks_in}
@@ -27,18 +27,18 @@ use Rattle.jv_cmd.specs.Run.{Beginning, StartsWhole, session_run, start_of}
 use Rattle.jv_cmd.specs.Stages.{StageValue}
 
 -- The depot's blocks have the bytes that all known blocks have.
-told_same : (v : Shared) (fresh : IsFresh v) (g : Known) (t : Tree) → HasStore t g v
-    → HasStore (tree_with (told_by v.yard.setting.block (blocks_in v.yard.setting fresh.objects)) (typed fresh.rows)) g v
-told_same v fresh g t store =
+known_same : (v : Shared) (fresh : IsFresh v) (g : Known) (t : Tree) → HasStore t g v
+    → HasStore (tree_with (known_by v.yard.setting.block (blocks_in v.yard.setting fresh.objects)) (typed fresh.rows)) g v
+known_same v fresh g t store =
     let rows : store.rows ≡ fresh.rows = some_same _ _ (sym store.rows_are ∙ fresh.rows_are) in
     let objects : store.objects ≡ fresh.objects = some_same _ _ (sym store.objects_are ∙ fresh.objects_are) in
     let long = setting_length store.rows v.yard.setting store.setting in
     let some : 0 < v.yard.setting.block = (let least = long.least in omega (arith, least)) in
-    let by_depot : t ≡ tree_with (told_by v.yard.setting.block (blocks_in v.yard.setting store.objects)) (typed store.rows) =
+    let by_depot : t ≡ tree_with (known_by v.yard.setting.block (blocks_in v.yard.setting store.objects)) (typed store.rows) =
     store.tree ∙ tree-grows (typed store.rows) store.whole.slices v.yard.setting.block (blocks_in v.yard.setting store.objects) g.blocks
     some store.there store.copies in
-    subst (λ (m : ObjectMap). HasStore (tree_with (told_by v.yard.setting.block (blocks_in v.yard.setting m)) (typed fresh.rows)) g v) objects
-    (subst (λ (m : RowMap). HasStore (tree_with (told_by v.yard.setting.block (blocks_in v.yard.setting store.objects)) (typed m)) g v) rows
+    subst (λ (m : ObjectMap). HasStore (tree_with (known_by v.yard.setting.block (blocks_in v.yard.setting m)) (typed fresh.rows)) g v) objects
+    (subst (λ (m : RowMap). HasStore (tree_with (known_by v.yard.setting.block (blocks_in v.yard.setting store.objects)) (typed m)) g v) rows
     (subst (λ (tree : Tree). HasStore tree g v) by_depot store))
 
 module _ (start : Beginning) (before : StageValue) (w : StartsWhole before start) where
@@ -59,16 +59,16 @@ module _ (start : Beginning) (before : StageValue) (w : StartsWhole before start
 
   HasStore-start : HasStore first known_first v
   HasStore-start =
-      subst (λ (s : Setting). HasStore (tree_with (told_by s.block (blocks_in s start.objects)) (typed start.rows)) known_first v) (sym w.setting)
-      (subst (λ (m : ObjectMap). HasStore (tree_with (told_by v.yard.setting.block (blocks_in v.yard.setting m)) (typed start.rows)) known_first v) same_objects
-      (subst (λ (m : RowMap). HasStore (tree_with (told_by v.yard.setting.block (blocks_in v.yard.setting w.fresh.objects)) (typed m)) known_first v) same_rows
-      (told_same v w.fresh known_first _ (fresh_store v w.fresh).1)))
+      subst (λ (s : Setting). HasStore (tree_with (known_by s.block (blocks_in s start.objects)) (typed start.rows)) known_first v) (sym w.setting)
+      (subst (λ (m : ObjectMap). HasStore (tree_with (known_by v.yard.setting.block (blocks_in v.yard.setting m)) (typed start.rows)) known_first v) same_objects
+      (subst (λ (m : RowMap). HasStore (tree_with (known_by v.yard.setting.block (blocks_in v.yard.setting w.fresh.objects)) (typed m)) known_first v) same_rows
+      (known_same v w.fresh known_first _ (fresh_store v w.fresh).1)))
 
   setting_first : first.setting ≡ v.yard.setting
   setting_first =
       let store = HasStore-start in
       ap (λ (t : Tree). t.setting) store.tree
-      ∙ some_same _ _ (sym (setting_stored (told_by v.yard.setting.block known_first.blocks) (typed store.rows) store.whole) ∙ store.setting)
+      ∙ some_same _ _ (sym (setting_stored (known_by v.yard.setting.block known_first.blocks) (typed store.rows) store.whole) ∙ store.setting)
 
   rows_first : rows_in v ≡ typed start.rows
   rows_first = ap typed_in w.known

@@ -1,5 +1,5 @@
 -- What a run has reached after a text, or where the source returned none.
-use Rattle.std.proofs.Common.{◌≡◌, ℕ, ◌+◌, ◌≤◌, ◌<◌, IfSome, if◌then◌else◌, true, List, [], ◌∷◌, ◌++◌, length, take, drop, Option, Some, Result, Ok, Err, refl, sym, ap, subst, ◌∙◌, arith}
+use Rattle.std.proofs.Common.{◌≡◌, ℕ, ◌+◌, ◌≤◌, ◌<◌, IfSome, if◌then◌else◌, true, List, [], ◌∷◌, ◌++◌, length, take, drop, Option, None, Some, Result, Ok, Err, refl, sym, ap, subst, ◌∙◌, arith}
 use Rattle.std.proofs.lemmas.List.{length-take-le}
 use Rattle.std.specs.Io.KnownBytes.{prepend_known}
 use Rattle.jv_model.specs.declared.limits.TheConstants.{MAX_LINE, MAX_LINES}
@@ -16,27 +16,28 @@ use Rattle.jv_outside.specs.Ticks.{Ticks}
 use Rattle.jv_outside.proofs.StreamLaws.{Gains-nil, Gains-trans}
 use Rattle.jv_session.specs.Stands.{ScheduleValue, fresh_schedule}
 use Rattle.jv_cmd.specs.declared.ended.Ended.{Ended}
-use Rattle.jv_cmd.specs.declared.ended.Ended.TheVariants.{Whole, OffLine, NoVolume, VolumeExists, NewerVersion, SettingOff, BadRow, SourceFailed, OutFailed, ClockFailed, KeeperFailed, DepotFailed, CarrierFailed, ShelfFailed, OutOfMemory}
+use Rattle.jv_cmd.specs.declared.ended.Ended.TheVariants.{Whole, LineNotRun, NoVolume, VolumeExists, NewerVersion, MalformedSetting, BadRow, SourceFailed, OutFailed, ClockFailed, KeeperFailed, DepotFailed, CarrierFailed, ShelfFailed, OutOfMemory}
 use Rattle.jv_cmd.specs.Cutting.{BeginsWith, CutsText, IsOverlong}
 use Rattle.jv_cmd.specs.Ends.{status_of}
 use Rattle.jv_cmd.specs.Faults.{CountsFaults, on_stage}
 use Rattle.jv_cmd.specs.Run.{AllButLast, AllLines, Beginning, EndsBy, IsKnownClock, OneTooMany, Prints, PrintsPart, StartsWhole, StopsAt, TooLong, session_run, up_to}
 use Rattle.jv_cmd.specs.Stages.{StageValue}
-use Rattle.jv_cmd.specs.Steps.{Advances, BeforeLine, Done, EndsLines, Going, LineEnds, OnLine, PrintsCut, ReadsBuilt, StopsIn, TextEnds, TextReads, Turns}
+use Rattle.jv_cmd.specs.Generating.{EndsScript}
+use Rattle.jv_cmd.specs.Steps.{Advances, BeforeLine, Done, Going, LineEnds, OnLine, PrintsCut, ReadsBuilt, StopsIn, TextEnds, TextReads, Turns}
 use Rattle.jv_cmd.specs.Texts.{texts_of}
 use Rattle.jv_cmd.proofs.DoneLaws.{Done-more, Done-start, DoneMore}
-use Rattle.jv_cmd.proofs.EndLaws.{EndsLines-bad, EndsLines-last, EndsLines-next, IsIdle, IsOff-text, RunsWhole-cut, StopsAt-from, all_printed, gains_before, text_done}
+use Rattle.jv_cmd.proofs.EndLaws.{EndsScript-bad, EndsScript-last, EndsScript-next, IsIdle, IsNotRun-text, RunsWhole-cut, StopsAt-from, all_printed, gains_before, text_done}
 use Rattle.jv_cmd.proofs.StepLaws.{PrintsLine-empty}
 use Rattle.jv_cmd.proofs.ReadingLaws.{BeginsWith-cut, IsKnownClock-earlier, Rose-since, all_read}
 
 -- out of memory before the first line
-pub EndsLines-none : (before : StageValue) (setting : Setting) → before.journal ≡ []
-    → before.devices.yard.setting ≡ setting → EndsLines before before OutOfMemory
-EndsLines-none before setting empty is =
+pub EndsScript-none : (before : StageValue) (setting : Setting) → before.journal ≡ []
+    → before.devices.yard.setting ≡ setting → EndsScript None before before OutOfMemory
+EndsScript-none before setting empty is =
     let d = Done-start before setting empty is in
     let s = fresh_schedule setting before.limits in
     let idle : IsIdle before before = record { journal = refl; devices = refl; answers = refl } in
-    EndsLines-last before.source.content before before before 0 [] s d idle OutOfMemory tt
+    EndsScript-last before.source.content before before before 0 [] s d idle OutOfMemory tt
     (λ start known w t. AllLines (all_printed before.source.content before before before 0 [] s d idle
     (Gains-nil before.out.content) 6 start known w t))
     (record { source = refl; out = refl; clock = refl })
@@ -45,7 +46,7 @@ EndsLines-none before setting empty is =
 pub TextEnds-from_reads : (number : ℕ) (text : List ℕ) (stage : StageValue) (s : ScheduleValue) (ended : Ended)
     → TextReads number text s.limits (Err ended) → TextEnds number text stage stage s s (Err ended)
 TextEnds-from_reads number text stage s Whole h = absurd h
-TextEnds-from_reads number text stage s (OffLine at) h =
+TextEnds-from_reads number text stage s (LineNotRun at) h =
     (h.0, h.1, record { out = refl; devices = refl; clock = refl; journal = refl })
 TextEnds-from_reads number text stage s SourceFailed h = absurd h
 TextEnds-from_reads number text stage s OutFailed h = absurd h
@@ -55,7 +56,7 @@ TextEnds-from_reads number text stage s OutOfMemory h = BeforeLine
 TextEnds-from_reads number text stage s NoVolume h = absurd h
 TextEnds-from_reads number text stage s VolumeExists h = absurd h
 TextEnds-from_reads number text stage s (NewerVersion version) h = absurd h
-TextEnds-from_reads number text stage s SettingOff h = absurd h
+TextEnds-from_reads number text stage s MalformedSetting h = absurd h
 TextEnds-from_reads number text stage s (BadRow key bytes) h = absurd h
 TextEnds-from_reads number text stage s KeeperFailed h = absurd h
 TextEnds-from_reads number text stage s DepotFailed h = absurd h
@@ -78,7 +79,7 @@ pub TextEnds-from_line : (number : ℕ) (text : List ℕ) (line : Line) (before 
     → LineEnds line number before after s s' ran → TextEnds number text before after s s' ran
 TextEnds-from_line number text line before after s s' (Ok unit) read ends = (line, read, ends)
 TextEnds-from_line number text line before after s s' (Err Whole) read ends = absurd ends
-TextEnds-from_line number text line before after s s' (Err (OffLine at)) read ends = absurd ends
+TextEnds-from_line number text line before after s s' (Err (LineNotRun at)) read ends = absurd ends
 TextEnds-from_line number text line before after s s' (Err SourceFailed) read ends = absurd ends
 TextEnds-from_line number text line before after s s' (Err OutFailed) read ends = (line, read, ends)
 TextEnds-from_line number text line before after s s' (Err ClockFailed) read ends = (line, read, ends.0, ends.1)
@@ -86,7 +87,7 @@ TextEnds-from_line number text line before after s s' (Err OutOfMemory) read end
 TextEnds-from_line number text line before after s s' (Err NoVolume) read ends = absurd ends
 TextEnds-from_line number text line before after s s' (Err VolumeExists) read ends = absurd ends
 TextEnds-from_line number text line before after s s' (Err (NewerVersion version)) read ends = absurd ends
-TextEnds-from_line number text line before after s s' (Err SettingOff) read ends = absurd ends
+TextEnds-from_line number text line before after s s' (Err MalformedSetting) read ends = absurd ends
 TextEnds-from_line number text line before after s s' (Err (BadRow key bytes)) read ends = (line, read, ends)
 TextEnds-from_line number text line before after s s' (Err KeeperFailed) read ends = absurd ends
 TextEnds-from_line number text line before after s s' (Err DepotFailed) read ends = absurd ends
@@ -191,11 +192,11 @@ module _ (left left0 : Option (List ℕ)) (before now after : StageValue) (n cou
       (at_end (session_run start known (going.lines_done.lines ++ line ∷ []) (status_of ended))
       after.journal).printed
       → Prints ended start known before after (going.lines_done.lines ++ line ∷ []))
-      → CountsFaults ended (on_stage before) (on_stage after) → EndsLines before after ended
+      → CountsFaults ended (on_stage before) (on_stage after) → EndsScript None before after ended
   cut_off line read stops ended cuts cause prints faults =
       let d = going.lines_done in
       let left' = prepend_known (drop (count + 1) held) left0 in
-      EndsLines-next left left' before now after n going.text
+      EndsScript-next left left' before now after n going.text
       (take count held) line s s' d room read short cut.known ended stops.cut.asks stops.cut.failed stops.cut.uses
       cause
       (λ start known w t.
@@ -224,7 +225,7 @@ module _ (left left0 : Option (List ℕ)) (before now after : StageValue) (n cou
         };
       }
   Turns-text (Err Whole) ends = absurd ends
-  Turns-text (Err (OffLine at)) ends =
+  Turns-text (Err (LineNotRun at)) ends =
       let d = going.lines_done in
       let still = ends.2 in
       let idle : IsIdle now after = record {
@@ -235,8 +236,8 @@ module _ (left left0 : Option (List ℕ)) (before now after : StageValue) (n cou
       } in
       let stops : StopsAt before d.texts d.lines (n + 1) = StopsAt-from left before now n going.text s d
       (take count held) (BeginsWith-cut left left0 held count cut)
-      (IsOff-text left before now n going.text s d (n + 1) (take count held) ends.1) in
-      EndsLines-last left before now after n going.text s d idle (OffLine at)
+      (IsNotRun-text left before now n going.text s d (n + 1) (take count held) ends.1) in
+      EndsScript-last left before now after n going.text s d idle (LineNotRun at)
       (subst (λ number. StopsAt before d.texts d.lines number) (sym ends.0) stops)
       (λ start known w t. all_printed left before now after n going.text s d idle
       (gains_still still.out) 3 start known w t)
@@ -244,7 +245,7 @@ module _ (left left0 : Option (List ℕ)) (before now after : StageValue) (n cou
   Turns-text (Err SourceFailed) ends = absurd ends
   Turns-text (Err OutFailed) ends =
       let m = more ends.0 ends.2.printed ends.1 ends.2.runs in
-      EndsLines-last (prepend_known (drop (count + 1) held) left0) before after after (n + 1)
+      EndsScript-last (prepend_known (drop (count + 1) held) left0) before after after (n + 1)
       (going.text ++ ends.2.printed) s' m.lines_done
       (record { journal = refl; devices = refl; answers = refl }) OutFailed tt
       (prints_part ends.0 ends.2 ends.1)
@@ -268,7 +269,7 @@ module _ (left left0 : Option (List ℕ)) (before now after : StageValue) (n cou
         answers = ap
             (λ (c : Ticks). c.answers) still.clock;
       } in
-      EndsLines-last left before now after n going.text s going.lines_done idle OutOfMemory tt
+      EndsScript-last left before now after n going.text s going.lines_done idle OutOfMemory tt
       (λ start known w t. AllLines (all_printed left before now after n going.text s going.lines_done idle
       (gains_still still.out) 6 start known w t))
       (record { source = calm_source; out = calm_out still.out; clock = calm_clock still.clock })
@@ -276,13 +277,13 @@ module _ (left left0 : Option (List ℕ)) (before now after : StageValue) (n cou
       cut_off line read stops OutOfMemory refl tt (λ start known gains. AllButLast gains)
       (record { source = calm_source; out = calm_out stops.out; clock = calm ∙ going.calm.clock })
   Turns-text (Err (BadRow key bytes)) ends =
-      EndsLines-bad left (prepend_known (drop (count + 1) held) left0) before now after n going.text
+      EndsScript-bad left (prepend_known (drop (count + 1) held) left0) before now after n going.text
       (take count held) ends.0 s s' going.lines_done room ends.1 short cut.known key bytes ends.2.breaks
       (record { source = calm_source; out = calm_out ends.2.out; clock = ends.2.breaks.calm ∙ going.calm.clock })
   Turns-text (Err NoVolume) ends = absurd ends
   Turns-text (Err VolumeExists) ends = absurd ends
   Turns-text (Err (NewerVersion version)) ends = absurd ends
-  Turns-text (Err SettingOff) ends = absurd ends
+  Turns-text (Err MalformedSetting) ends = absurd ends
   Turns-text (Err KeeperFailed) ends = absurd ends
   Turns-text (Err DepotFailed) ends = absurd ends
   Turns-text (Err CarrierFailed) ends = absurd ends
@@ -304,46 +305,46 @@ module _ (left : Option (List ℕ)) (before now : StageValue) (source : Stream) 
   idle = record { journal = refl; devices = refl; answers = refl }
 
   -- with the text of all lines
-  EndsLines-read : (ended : Ended) → EndsBy ended before
+  EndsScript-read : (ended : Ended) → EndsBy ended before
       (record now { source = source }) going.lines_done.texts going.lines_done.lines
       → ((start : Beginning) (known : Option (ℕ → ℕ)) → Gains before.out.content now.out.content
       (text_of (session_run start known going.lines_done.lines (status_of ended)) now.journal)
       → Prints ended start known before (record now { source = source }) going.lines_done.lines)
       → CountsFaults ended (on_stage before) (on_stage (record now { source = source }))
-      → EndsLines before (record now { source = source }) ended
-  EndsLines-read ended cause prints faults =
-      EndsLines-last left before now (record now { source = source }) n going.text s going.lines_done idle ended cause
+      → EndsScript None before (record now { source = source }) ended
+  EndsScript-read ended cause prints faults =
+      EndsScript-last left before now (record now { source = source }) n going.text s going.lines_done idle ended cause
       (λ start known w t. prints start known (all_printed left before now
       (record now { source = source }) n going.text s going.lines_done idle going.gains
       (status_of ended) start known w t)) faults
 
-  pub EndsLines-whole : source.faults ≡ now.source.faults → IfSome left (λ all. texts_of all ≡ [])
-      → EndsLines before (record now { source = source }) Whole
-  EndsLines-whole calm none =
-      EndsLines-read Whole (all_read before.source.content left going.lines_done.texts going.lines_done.first none)
+  pub EndsScript-whole : source.faults ≡ now.source.faults → IfSome left (λ all. texts_of all ≡ [])
+      → EndsScript None before (record now { source = source }) Whole
+  EndsScript-whole calm none =
+      EndsScript-read Whole (all_read before.source.content left going.lines_done.texts going.lines_done.first none)
       (λ start known gains. gains)
       (record { source = calm ∙ going.calm.source; out = going.calm.out; clock = going.calm.clock })
 
-  pub EndsLines-overlong : source.faults ≡ now.source.faults → IsOverlong left
-      → EndsLines before (record now { source = source }) (OffLine (n + 1))
-  EndsLines-overlong calm long =
-      EndsLines-read (OffLine (n + 1)) (StopsAt-from left before now n going.text s
+  pub EndsScript-overlong : source.faults ≡ now.source.faults → IsOverlong left
+      → EndsScript None before (record now { source = source }) (LineNotRun (n + 1))
+  EndsScript-overlong calm long =
+      EndsScript-read (LineNotRun (n + 1)) (StopsAt-from left before now n going.text s
       going.lines_done long.next long.begins (TooLong long.long))
       (λ start known gains. gains)
       (record { source = calm ∙ going.calm.source; out = going.calm.out; clock = going.calm.clock })
 
-  pub EndsLines-too_many : source.faults ≡ now.source.faults → (next : List ℕ) → BeginsWith left next → n ≡ MAX_LINES
-      → EndsLines before (record now { source = source }) (OffLine (n + 1))
-  EndsLines-too_many calm next begins all =
-      EndsLines-read (OffLine (n + 1)) (StopsAt-from left before now n going.text s
+  pub EndsScript-too_many : source.faults ≡ now.source.faults → (next : List ℕ) → BeginsWith left next → n ≡ MAX_LINES
+      → EndsScript None before (record now { source = source }) (LineNotRun (n + 1))
+  EndsScript-too_many calm next begins all =
+      EndsScript-read (LineNotRun (n + 1)) (StopsAt-from left before now n going.text s
       going.lines_done next begins
       (OneTooMany (omega (arith, all)))) (λ start known gains. gains)
       (record { source = calm ∙ going.calm.source; out = going.calm.out; clock = going.calm.clock })
 
-  pub EndsLines-source : Rose now.source.faults source.faults
-      → EndsLines before (record now { source = source }) SourceFailed
-  EndsLines-source rose =
-      EndsLines-read SourceFailed tt (λ start known gains. gains)
+  pub EndsScript-source : Rose now.source.faults source.faults
+      → EndsScript None before (record now { source = source }) SourceFailed
+  EndsScript-source rose =
+      EndsScript-read SourceFailed tt (λ start known gains. gains)
       (record {
         source = Rose-since before.source.faults now.source.faults source.faults going.calm.source rose;
         out = going.calm.out;

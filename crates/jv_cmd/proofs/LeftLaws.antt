@@ -2,11 +2,13 @@
 use Rattle.std.proofs.Common.{◌≡◌, ℕ, ◌<◌, ◌≤◌, Bool, true, false, List, None, Some, IsSome, is_some, inl, inr, refl, sym, ap, subst, ◌∙◌}
 use Rattle.std.specs.Prelude.{◌⊎◌, ◌&&◌, if◌then◌else◌}
 use Rattle.std.proofs.lemmas.Bool.{false≢true, cases_lt}
+use Rattle.jv_model.specs.declared.limits.TheConstants.{LAST_CLIENT}
 use Rattle.jv_model.specs.declared.setting.Setting.{Setting}
 use Rattle.jv_model.specs.declared.slice.BlockId.{BlockId}
-use Rattle.jv_model.specs.FiniteMap.{get}
-use Rattle.jv_model.specs.blocks.BlockNames.{IsBlock}
+use Rattle.jv_model.specs.FiniteMap.{get, text_key}
+use Rattle.jv_model.specs.blocks.BlockNames.{IsBlock, name_in}
 use Rattle.jv_model.specs.tree.Tree.{Tree}
+use Rattle.jv_model.proofs.FiniteMapLaws.{get-empty_map}
 use Rattle.jv_model.proofs.TestLaws.{known_is, some_same}
 use Rattle.jv_outside.specs.Blocks.{StagedMap, staged_at}
 use Rattle.jv_outside.specs.Holding.{Holding}
@@ -14,13 +16,13 @@ use Rattle.jv_outside.specs.Objects.{ObjectMap, bytes_at}
 use Rattle.jv_volume.specs.TypedRows.{typed}
 use Rattle.jv_volume.specs.Slices.{next_slice}
 use Rattle.jv_contents.specs.Blocks.{AreBelow, HasBlocks}
-use Rattle.jv_yard.specs.Contents.{blocks_in, is_block, name_in}
+use Rattle.jv_yard.specs.Contents.{blocks_in, is_block}
 use Rattle.jv_yard.specs.Later.{AreAlike, Contents, IsCopy, IsStagedWith, contents_of}
-use Rattle.jv_yard.specs.Staging.{Staging, staged_since}
+use Rattle.jv_yard.specs.Staging.{ClientStaging, Staging, staged_since}
 use Rattle.jv_yard.specs.Starting.{IsFound, IsStarted}
 use Rattle.jv_yard.specs.YardValue.{NamesBlock}
 use Rattle.jv_yard.proofs.CallLaws.{IsKept-started}
-use Rattle.jv_yard.proofs.ContentsLaws.{is_block-passes, is_block-tells}
+use Rattle.jv_yard.proofs.ContentsLaws.{is_block-passes, is_block-says}
 use Rattle.jv_shared.specs.Fresh.{IsFresh}
 use Rattle.jv_shared.specs.Shared.{HasStore, Known, Shared, staged_in}
 use Rattle.jv_session.specs.Lines.{StaysPut}
@@ -28,7 +30,7 @@ use Rattle.jv_cmd.specs.Run.{Leaves}
 
 -- What a yard found on its shelf is what it has staged in the end.
 Found-left : (setting : Setting) (depot : Holding ObjectMap) (shelf : Holding StagedMap) (before left : Shared)
-    → IsStarted setting depot shelf before.yard → StaysPut before left → (client : ℕ) → client ≤ 7
+    → IsStarted setting depot shelf before.yard → StaysPut before left → (client : ℕ) → client ≤ LAST_CLIENT
     → IsFound left.yard.setting left.yard.shelf.content client (left.yard.staged client)
 Found-left setting depot shelf before left started stays client low =
     subst (λ (s : Setting). IsFound s left.yard.shelf.content client (left.yard.staged client))
@@ -40,11 +42,10 @@ Found-left setting depot shelf before left started stays client low =
 
 -- A session has left `v`, and the next one begins with `w`.
 module _ (t : Tree) (g : Known) (v w : Shared) (store : HasStore t g v)
-    (found : (client : ℕ) → client ≤ 7 → IsFound v.yard.setting v.yard.shelf.content client (v.yard.staged client))
+    (found : (client : ℕ) → client ≤ LAST_CLIENT → IsFound v.yard.setting v.yard.shelf.content client (v.yard.staged client))
     (depot : Holding ObjectMap) (shelf : Holding StagedMap) (started : IsStarted v.yard.setting depot shelf w.yard)
     (rows : w.keeper.rows ≡ v.keeper.rows) (objects : depot.content ≡ v.yard.depot.content)
-    (blocks : shelf.content ≡ v.yard.shelf.content)
-    (eight : (client : ℕ) (name : List ℕ) → 7 < client → staged_since client name w.yard.staged ≡ None) where
+    (blocks : shelf.content ≡ v.yard.shelf.content) where
   abbrev setting : Setting
   setting = v.yard.setting
 
@@ -53,7 +54,7 @@ module _ (t : Tree) (g : Known) (v w : Shared) (store : HasStore t g v)
 
   -- each copy of a block has the bytes that are known of it
 
-  known_shelved : (client : ℕ) (b : BlockId) (bytes : List ℕ) → client ≤ 7 → IsBlock setting.block b
+  known_shelved : (client : ℕ) (b : BlockId) (bytes : List ℕ) → client ≤ LAST_CLIENT → IsBlock setting.block b
       → staged_at client (name_in setting b) store.staged ≡ Some bytes → g.blocks b ≡ Some bytes
   known_shelved client b bytes low is at =
       let name = name_in setting b in
@@ -66,12 +67,16 @@ module _ (t : Tree) (g : Known) (v w : Shared) (store : HasStore t g v)
       store.staged_copies client b bytes
       (ap (λ test. if test then staged_at client name store.staged else None) (λ i. passes i && there i) ∙ at)
 
-  -- there are eight clients
-  client_is : (client : ℕ) (name : List ℕ) → IsSome (staged_since client name w.yard.staged) → client ≤ 7
-  client_is client name some = by_number (cases_lt 7 client)
+  -- no other client than those of a session has staged anything
+  no_others : (client : ℕ) (name : List ℕ) → LAST_CLIENT < client → staged_since client name w.yard.staged ≡ None
+  no_others client name high =
+      ap (λ (staging : ClientStaging). get staging name) (started.no_others client high) ∙ get-empty_map text_key name
+
+  client_is : (client : ℕ) (name : List ℕ) → IsSome (staged_since client name w.yard.staged) → client ≤ LAST_CLIENT
+  client_is client name some = by_number (cases_lt LAST_CLIENT client)
     where
-      by_number : (7 < client) ⊎ (client ≤ 7) → client ≤ 7
-      by_number (inl high) = absurd (false≢true (sym (ap is_some (eight client name high)) ∙ some))
+      by_number : (LAST_CLIENT < client) ⊎ (client ≤ LAST_CLIENT) → client ≤ LAST_CLIENT
+      by_number (inl high) = absurd (false≢true (sym (ap is_some (no_others client name high)) ∙ some))
       by_number (inr low) = low
 
   known_copy : (b : BlockId) (bytes : List ℕ) → IsBlock setting.block b → IsCopy contents (name_in setting b) bytes
@@ -117,7 +122,7 @@ module _ (t : Tree) (g : Known) (v w : Shared) (store : HasStore t g v)
           → is_some (staged_since client (name_in setting b) w.yard.staged) ≡ staged
           → (if block && staged then staged_at client (name_in setting b) store.staged else None) ≡ Some bytes
           → b.id < next_slice (typed store.rows)
-      by_tests true true is some e = store.below b bytes (known_copy b bytes (is_block-tells setting.block b is)
+      by_tests true true is some e = store.below b bytes (known_copy b bytes (is_block-says setting.block b is)
           (inr (record { client = client; is = some; bytes_are = e })))
       by_tests true false is some e = absurd (cc)
       by_tests false staged is some e = absurd (cc)
@@ -141,12 +146,11 @@ module _ (t : Tree) (g : Known) (v w : Shared) (store : HasStore t g v)
   }
 
 -- A session began with a yard that was started (`before`) and has left `left`, with its tree. The next one begins with the rows left, and
--- with a yard that is started over a depot and a shelf with what is left there. There are eight clients.
+-- with a yard that is started over a depot and a shelf with what is left there.
 pub IsFresh-left : (setting : Setting) (depot depot' : Holding ObjectMap) (shelf shelf' : Holding StagedMap)
     (before left next : Shared) (t : Tree) → IsStarted setting depot shelf before.yard → StaysPut before left → Leaves left t
     → IsStarted left.yard.setting depot' shelf' next.yard → next.keeper.rows ≡ left.keeper.rows
-    → depot'.content ≡ left.yard.depot.content → shelf'.content ≡ left.yard.shelf.content
-    → ((client : ℕ) (name : List ℕ) → 7 < client → staged_since client name next.yard.staged ≡ None) → IsFresh next
-IsFresh-left setting depot depot' shelf shelf' before left next t started stays leaves again rows objects blocks eight =
+    → depot'.content ≡ left.yard.depot.content → shelf'.content ≡ left.yard.shelf.content → IsFresh next
+IsFresh-left setting depot depot' shelf shelf' before left next t started stays leaves again rows objects blocks =
     IsFresh-after t leaves.known left next leaves.store (Found-left setting depot shelf before left started stays)
-    depot' shelf' again rows objects blocks eight
+    depot' shelf' again rows objects blocks

@@ -1,6 +1,6 @@
 -- Laws about the definitions.
 pub mod TextLaws
-pub mod Buffers
+pub mod BufferLaws
 pub mod CuttingLaws
 pub mod StageLaws
 pub mod StepLaws
@@ -24,7 +24,7 @@ pub mod DrawnScriptLaws
 pub mod DrawnEndLaws
 pub mod ScriptEndLaws
 mod CommandLaws
-pub mod Apps
+pub mod AppLaws
 pub mod AskedLaws
 pub mod ValuesLaws
 pub mod ProgramLaws

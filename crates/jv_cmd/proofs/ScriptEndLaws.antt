@@ -4,13 +4,12 @@ use Rattle.jv_model.specs.declared.setting.Setting.{Setting}
 use Rattle.jv_outside.specs.Causes.{RoseIf}
 use Rattle.jv_outside.specs.Stream.{Stream, HasAll, IsCut}
 use Rattle.jv_cmd.specs.declared.ended.Ended.{Ended}
-use Rattle.jv_cmd.specs.declared.ended.Ended.TheVariants.{Whole, OffLine, NoVolume, VolumeExists, NewerVersion, SettingOff, BadRow, SourceFailed, OutFailed, ClockFailed, KeeperFailed, DepotFailed, CarrierFailed, ShelfFailed, OutOfMemory}
+use Rattle.jv_cmd.specs.declared.ended.Ended.TheVariants.{Whole, LineNotRun, NoVolume, VolumeExists, NewerVersion, MalformedSetting, BadRow, SourceFailed, OutFailed, ClockFailed, KeeperFailed, DepotFailed, CarrierFailed, ShelfFailed, OutOfMemory}
 use Rattle.jv_cmd.specs.Faults.{CountsFaults, on_stage, out_failed, source_failed}
 use Rattle.jv_cmd.specs.Generating.{EndsScript, PrintsSummary, SumsUp, script_text, summary_of, with_streams}
 use Rattle.jv_cmd.specs.Stages.{StageValue}
-use Rattle.jv_cmd.specs.Steps.{EndsLines}
 use Rattle.jv_cmd.proofs.DrawnEndLaws.{drawn_runs}
-use Rattle.jv_cmd.proofs.GoingLaws.{EndsLines-none}
+use Rattle.jv_cmd.proofs.GoingLaws.{EndsScript-none}
 
 all_calm : (said : Option (List ℕ)) (before after : Stream) (line : List ℕ → List ℕ) → IsSomeAnd said (λ text. HasAll before after (line text))
     → after.faults ≡ before.faults
@@ -25,7 +24,7 @@ cut_rose (Some text) before after line h = h.rose
 -- a script whose text was the source, and whose answers were kept
 module _ (seed : ℕ) (before after : StageValue) (left said : Option (List ℕ)) (source : after.source ≡ before.source) where
   abbrev pub Inner : Ended → Type 0
-  Inner ran = EndsLines (with_streams (Some (script_text seed)) (Some []) before) (with_streams left said after) ran
+  Inner ran = EndsScript None (with_streams (Some (script_text seed)) (Some []) before) (with_streams left said after) ran
 
   calm_source : after.source.faults ≡ before.source.faults
   calm_source = ap (λ (stream : Stream). stream.faults) source
@@ -47,11 +46,11 @@ module _ (seed : ℕ) (before after : StageValue) (left said : Option (List ℕ)
   whole_faults Whole e h = record { source = calm_source; out = all_calm said before.out after.out (summary_of seed) h; clock = e.faults.clock }
   whole_faults OutFailed e h = record { source = calm_source; out = cut_rose said before.out after.out (summary_of seed) h; clock = e.faults.clock }
   whole_faults OutOfMemory e h = record { source = calm_source; out = ap (λ (stream : Stream). stream.faults) h; clock = e.faults.clock }
-  whole_faults (OffLine number) e h = absurd h
+  whole_faults (LineNotRun number) e h = absurd h
   whole_faults NoVolume e h = absurd h
   whole_faults VolumeExists e h = absurd h
   whole_faults (NewerVersion version) e h = absurd h
-  whole_faults SettingOff e h = absurd h
+  whole_faults MalformedSetting e h = absurd h
   whole_faults (BadRow key bytes) e h = absurd h
   whole_faults SourceFailed e h = absurd h
   whole_faults ClockFailed e h = absurd h
@@ -63,11 +62,11 @@ module _ (seed : ℕ) (before after : StageValue) (left said : Option (List ℕ)
   faults_of_run : (ran ended : Ended) → Inner ran → PrintsSummary seed said before.out after.out ran ended
       → CountsFaults ended (on_stage before) (on_stage after)
   faults_of_run Whole ended e h = whole_faults ended e h
-  faults_of_run (OffLine number) ended e h = same_faults (OffLine number) ended e refl refl h.0 h.1
+  faults_of_run (LineNotRun number) ended e h = same_faults (LineNotRun number) ended e refl refl h.0 h.1
   faults_of_run NoVolume ended e h = absurd e.runs.cause
   faults_of_run VolumeExists ended e h = absurd e.runs.cause
   faults_of_run (NewerVersion version) ended e h = absurd e.runs.cause
-  faults_of_run SettingOff ended e h = absurd e.runs.cause
+  faults_of_run MalformedSetting ended e h = absurd e.runs.cause
   faults_of_run (BadRow key bytes) ended e h = same_faults (BadRow key bytes) ended e refl refl h.0 h.1
   faults_of_run SourceFailed ended e h = (let rose = e.faults.source in absurd (omega (arith, rose)))
   faults_of_run OutFailed ended e h = (let rose = e.faults.out in absurd (omega (arith, rose)))
@@ -99,16 +98,16 @@ module _ (seed : ℕ) (before after : StageValue) (left said : Option (List ℕ)
 -- over a source and an out in memory, which had the text and nothing
 pub EndsScript-kept : (seed : ℕ) (before after : StageValue) (text taken left said : Option (List ℕ)) (ran ended : Ended)
     → after.source ≡ before.source → text ≡ Some (script_text seed) → taken ≡ Some []
-    → EndsLines (with_streams text taken before) (with_streams left said after) ran
+    → EndsScript None (with_streams text taken before) (with_streams left said after) ran
     → PrintsSummary seed said before.out after.out ran ended → EndsScript (Some seed) before after ended
 EndsScript-kept seed before after text taken left said ran ended source is none e h =
     EndsScript-drawn seed before after left said source ran ended
-    (subst (λ (o : Option (List ℕ)). EndsLines (with_streams o (Some []) before) (with_streams left said after) ran) is
-    (subst (λ (o : Option (List ℕ)). EndsLines (with_streams text o before) (with_streams left said after) ran) none e)) h
+    (subst (λ (o : Option (List ℕ)). EndsScript None (with_streams o (Some []) before) (with_streams left said after) ran) is
+    (subst (λ (o : Option (List ℕ)). EndsScript None (with_streams text o before) (with_streams left said after) ran) none e)) h
 
 -- there was no memory for the text
 pub EndsScript-textless : (seed : ℕ) (stage : StageValue) (setting : Setting) → stage.journal ≡ [] → stage.devices.yard.setting ≡ setting
     → EndsScript (Some seed) stage stage OutOfMemory
 EndsScript-textless seed stage setting empty is =
     EndsScript-drawn seed stage stage (Some (script_text seed)) (Some []) refl OutOfMemory OutOfMemory
-    (EndsLines-none (with_streams (Some (script_text seed)) (Some []) stage) setting empty is) (refl, refl)
+    (EndsScript-none (with_streams (Some (script_text seed)) (Some []) stage) setting empty is) (refl, refl)

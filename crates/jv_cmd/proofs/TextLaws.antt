@@ -5,16 +5,16 @@ use Rattle.std.proofs.lemmas.Bool.{false_from_ne_true}
 use Rattle.std.proofs.lemmas.List.{take-append-drop, drop_more, get_or-take, length-take, length-drop}
 use Rattle.std.proofs.lemmas.List.Quantifiers.{position-Some}
 use Rattle.std.proofs.lemmas.List.Sums.{position_or_len_is}
-use Rattle.std.specs.List.{position, position_or_len, prefix_len}
+use Rattle.std.specs.List.{onto_first, position, position_or_len, prefix_len}
 use Rattle.memchr.specs.Find.{IsFirstByte, is_byte}
-use Rattle.jv_cmd.specs.Texts.{is_feed, has_feed, with_first, texts_of}
+use Rattle.jv_cmd.specs.Texts.{is_feed, has_feed, texts_of}
 
 -- a text that a line feed ends
 pub texts_of-feed : (xs ys : List ℕ) → has_feed xs ≡ false → texts_of (xs ++ 10 ∷ ys) ≡ xs ∷ texts_of ys
 texts_of-feed [] ys h = refl
 texts_of-feed (x ∷ xs) ys h =
     let parts = or_parts (is_feed x) (has_feed xs) h in
-    cond-false (is_feed x) ([] ∷ texts_of (xs ++ 10 ∷ ys)) (with_first x (texts_of (xs ++ 10 ∷ ys))) parts.0 ∙ ap (with_first x) (texts_of-feed xs ys parts.1)
+    cond-false (is_feed x) ([] ∷ texts_of (xs ++ 10 ∷ ys)) (onto_first x (texts_of (xs ++ 10 ∷ ys))) parts.0 ∙ ap (onto_first x) (texts_of-feed xs ys parts.1)
 
 -- the last text, which no line feed ends
 pub texts_of-last : (xs : List ℕ) → has_feed xs ≡ false → 0 < length xs → texts_of xs ≡ xs ∷ []
@@ -22,9 +22,9 @@ texts_of-last [] h s = absurd (omega arith)
 texts_of-last (x ∷ []) h s = cond-false (is_feed x) ([] ∷ []) ((x ∷ []) ∷ []) (or_parts (is_feed x) false h).0
 texts_of-last (x ∷ y ∷ xs) h s =
     let parts = or_parts (is_feed x) (has_feed (y ∷ xs)) h in
-    cond-false (is_feed x) ([] ∷ texts_of (y ∷ xs)) (with_first x (texts_of (y ∷ xs))) parts.0 ∙ ap (with_first x) (texts_of-last (y ∷ xs) parts.1 (omega arith))
+    cond-false (is_feed x) ([] ∷ texts_of (y ∷ xs)) (onto_first x (texts_of (y ∷ xs))) parts.0 ∙ ap (onto_first x) (texts_of-last (y ∷ xs) parts.1 (omega arith))
 
-first_of : (x : ℕ) (texts : List (List ℕ)) → (next : List ℕ) × (more : List (List ℕ)) × (1 ≤ length next) × (with_first x texts ≡ next ∷ more)
+first_of : (x : ℕ) (texts : List (List ℕ)) → (next : List ℕ) × (more : List (List ℕ)) × (1 ≤ length next) × (onto_first x texts ≡ next ∷ more)
 first_of x [] = (x ∷ [], [], omega arith, refl)
 first_of x (text ∷ texts) = (x ∷ text, texts, omega arith, refl)
 
@@ -33,11 +33,11 @@ pub texts_of-long : (xs ys : List ℕ) → has_feed xs ≡ false → 0 < length 
 texts_of-long [] ys h s = absurd (omega arith)
 texts_of-long (x ∷ []) ys h s =
     let first = first_of x (texts_of ys) in
-    (first.0, first.1, first.2, cond-false (is_feed x) ([] ∷ texts_of ys) (with_first x (texts_of ys)) (or_parts (is_feed x) false h).0 ∙ first.3)
+    (first.0, first.1, first.2, cond-false (is_feed x) ([] ∷ texts_of ys) (onto_first x (texts_of ys)) (or_parts (is_feed x) false h).0 ∙ first.3)
 texts_of-long (x ∷ y ∷ xs) ys h s =
     let parts = or_parts (is_feed x) (has_feed (y ∷ xs)) h in
     let later = texts_of-long (y ∷ xs) ys parts.1 (omega arith) in
-    (x ∷ later.0, later.1, omega (arith, later.2), cond-false (is_feed x) ([] ∷ texts_of ((y ∷ xs) ++ ys)) (with_first x (texts_of ((y ∷ xs) ++ ys))) parts.0 ∙ ap (with_first x) later.3)
+    (x ∷ later.0, later.1, omega (arith, later.2), cond-false (is_feed x) ([] ∷ texts_of ((y ∷ xs) ++ ys)) (onto_first x (texts_of ((y ∷ xs) ++ ys))) parts.0 ∙ ap (onto_first x) later.3)
 
 no_feed_from_places : (xs : List ℕ) → ((k : ℕ) → k < length xs → is_feed (get_or xs k 0) ≡ false) → has_feed xs ≡ false
 no_feed_from_places [] each = refl

@@ -55,7 +55,7 @@ pub record CannotStart (before after : BlockDevices) (ended : Ended) : Type 0 wh
   pub depot : after.depot ≡ before.depot
   pub carrier : after.carrier ≡ before.carrier
 
--- They are open where they were, the shelf has the blocks that it had, and so often each of them failed.
+-- They are open where they were, the shelf has the blocks that it had, and each of them failed as often as `answers` says.
 pub record UsesBlocks (answers : Device → ℕ) (before after : BlockDevices) : Type 0 where
   pub depot_at : after.depot.opened ≡ before.depot.opened
   pub shelf_at : after.shelf.opened ≡ before.shelf.opened

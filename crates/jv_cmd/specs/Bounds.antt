@@ -1,9 +1,9 @@
 -- What the options of a session bound.
 use Rattle.std.specs.Prelude.{ℕ, zero, suc, ◌*◌, ◌/◌, ◌≤◌, max, false}
+use Rattle.jv_model.specs.declared.options.TheConstants.{MAX_CACHE, MIN_BUFFER, MAX_BUFFER}
 use Rattle.jv_model.specs.declared.basics.Limits.{Limits}
 use Rattle.jv_model.specs.declared.limits.TheConstants.{MIB}
 use Rattle.jv_cmd.specs.declared.words.request.SessionOptions.{SessionOptions}
-use Rattle.jv_cmd.specs.declared.words.request.TheConstants.{MAX_BUFFER, MAX_CACHE, MIN_BUFFER}
 
 -- the blocks of this length that a client's cache of a number of MiB holds: one at least, and none where it is empty
 abbrev pub cache_entries : ℕ → ℕ → ℕ

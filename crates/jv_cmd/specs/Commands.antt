@@ -41,8 +41,8 @@ pub record RunsNone (answers : Device → ℕ) (before after : WorldValue) : Typ
 
 -- A session with these options: there is no volume to run on, and no device for blocks is opened; or one of them isn't opened for the
 -- volume of that setting; or the shelf's blocks couldn't be read; or the script runs on that volume, with depot and shelf in a yard, which
--- are back where they were in the end; blocks were put, all other objects are as they were, and so is the shelf (`StaysPut`). So often each
--- device failed, and an operation was answered so.
+-- are back where they were in the end; blocks were put, all other objects are as they were, and so is the shelf (`StaysPut`). `answers` is
+-- how often each device failed and an operation was answered so.
 pub data SessionEnds (options : SessionOptions) (answers : Device → ℕ) (before after : WorldValue) (ended : Ended) : Type 0 where
   NotOpened : CannotOpen before.keeper.rows ended → RunsNone answers before after → after.blocks ≡ before.blocks
       → SessionEnds options answers before after ended

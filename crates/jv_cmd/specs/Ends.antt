@@ -4,7 +4,7 @@ use Rattle.std.specs.List.{flat_map}
 use Rattle.jv_model.specs.declared.row.RowKey.{RowKey}
 use Rattle.jv_model.specs.script.Printed.{hex_pair}
 use Rattle.jv_cmd.specs.declared.ended.Ended.{Ended}
-use Rattle.jv_cmd.specs.declared.ended.Ended.TheVariants.{Whole, OffLine, NoVolume, VolumeExists, NewerVersion, SettingOff, BadRow, SourceFailed, OutFailed, ClockFailed, KeeperFailed, DepotFailed, CarrierFailed, ShelfFailed, OutOfMemory}
+use Rattle.jv_cmd.specs.declared.ended.Ended.TheVariants.{Whole, LineNotRun, NoVolume, VolumeExists, NewerVersion, MalformedSetting, BadRow, SourceFailed, OutFailed, ClockFailed, KeeperFailed, DepotFailed, CarrierFailed, ShelfFailed, OutOfMemory}
 
 -- bytes as pairs of hexadecimal digits, or a dash where there are none
 abbrev pub digits_or_dash : List ℕ → List ℕ
@@ -17,11 +17,11 @@ key_text key = decimal key.tab ++ codes " " ++ decimal key.a ++ codes " " ++ dig
 
 abbrev pub status_of : Ended → ℕ
 status_of Whole = 0
-status_of (OffLine number) = 3
+status_of (LineNotRun number) = 3
 status_of NoVolume = 4
 status_of VolumeExists = 4
 status_of (NewerVersion version) = 4
-status_of SettingOff = 4
+status_of MalformedSetting = 4
 status_of (BadRow key bytes) = 4
 status_of SourceFailed = 5
 status_of OutFailed = 5
@@ -35,11 +35,11 @@ status_of OutOfMemory = 6
 -- the text on standard error, where no word is off
 abbrev pub message_of : Ended → List ℕ
 message_of Whole = []
-message_of (OffLine number) = codes "juicevol: line " ++ decimal number ++ codes ": not a script line\n"
+message_of (LineNotRun number) = codes "juicevol: line " ++ decimal number ++ codes ": not a script line\n"
 message_of NoVolume = codes "juicevol: no volume\n"
 message_of VolumeExists = codes "juicevol: volume exists\n"
 message_of (NewerVersion version) = codes "juicevol: version " ++ decimal version ++ codes "\n"
-message_of SettingOff = codes "juicevol: row 0 0 -: not a row\n"
+message_of MalformedSetting = codes "juicevol: row 0 0 -: not a row\n"
 message_of (BadRow key bytes) = codes "juicevol: row " ++ key_text key ++ codes ": not a row\n"
 message_of SourceFailed = codes "juicevol: source failed\n"
 message_of OutFailed = codes "juicevol: out failed\n"

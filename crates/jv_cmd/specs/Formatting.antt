@@ -9,8 +9,8 @@ use Rattle.jv_outside.specs.Stream.{HasAll, IsCut}
 use Rattle.jv_outside.specs.Ticks.{Ticks, Passes}
 use Rattle.jv_rows.specs.FreshRows.{fresh_rows}
 use Rattle.jv_cmd.specs.declared.ended.Ended.{Ended}
-use Rattle.jv_cmd.specs.declared.ended.Ended.TheVariants.{Whole, VolumeExists, SettingOff, OutFailed, ClockFailed, KeeperFailed, OutOfMemory}
-use Rattle.jv_cmd.specs.Opening.{SettingRow, IsAbsent, IsSetting, IsOff}
+use Rattle.jv_cmd.specs.declared.ended.Ended.TheVariants.{Whole, VolumeExists, MalformedSetting, OutFailed, ClockFailed, KeeperFailed, OutOfMemory}
+use Rattle.jv_cmd.specs.Opening.{SettingRow, IsAbsent, IsSetting, IsMalformed}
 use Rattle.jv_cmd.specs.Worlds.{WorldValue}
 
 abbrev pub formatted_text : Setting → List ℕ
@@ -27,7 +27,7 @@ pub record PutsRows (setting : Setting) (rows after : Option RowMap) (answers re
 -- Why no rows were put. The clock is asked only where there is no volume.
 abbrev pub CannotPut : Option RowMap → Ticks → Ticks → Ended → Type 0
 CannotPut rows before after VolumeExists = SettingRow rows IsSetting × (after ≡ before)
-CannotPut rows before after SettingOff = SettingRow rows IsOff × (after ≡ before)
+CannotPut rows before after MalformedSetting = SettingRow rows IsMalformed × (after ≡ before)
 CannotPut rows before after ClockFailed = SettingRow rows IsAbsent × (after.answers ≡ before.answers)
 CannotPut rows before after KeeperFailed = Unit {0}
 CannotPut rows before after OutOfMemory = Unit {0}

@@ -1,5 +1,5 @@
 -- What a session is whose script is drawn from a seed: one that reads the script's text, but that prints a summary in place of answers.
-use Rattle.std.specs.Prelude.{◌≡◌, ◌≢◌, ℕ, Bool, true, false, ◌==◌, if◌then◌else◌, List, [], ◌∷◌, ◌++◌, length, drop, Option, None, Some, unwrap_or, IsSomeAnd, codes, decimal}
+use Rattle.std.specs.Prelude.{◌≡◌, ◌≢◌, ℕ, Bool, false, ◌==◌, if◌then◌else◌, List, [], ◌∷◌, ◌++◌, length, drop, Option, None, Some, unwrap_or, IsSomeAnd, codes, decimal}
 use Rattle.std.specs.List.{flat_map}
 use Rattle.jv_model.specs.declared.fault.Device.{Device}
 use Rattle.jv_model.specs.declared.fault.Fault.TheVariants.{NotFound}
@@ -12,6 +12,7 @@ use Rattle.jv_model.specs.declared.op.Reply.TheVariants.{Refused, Data, Done}
 use Rattle.jv_model.specs.script.Grammar.{data_of}
 use Rattle.jv_model.specs.script.Printed.{hex_pair, number_word}
 use Rattle.jv_model.specs.script.ReplyText.{mode_digits}
+use Rattle.jv_model.specs.client.OpForms.{is_read}
 use Rattle.jv_outside.specs.Causes.{RoseTimes}
 use Rattle.jv_outside.specs.Stream.{Stream, HasAll, IsCut}
 use Rattle.jv_client.specs.Makes.{faults_of}
@@ -67,13 +68,9 @@ script_text seed = flat_map line_text (script seed)
 abbrev pub spelled_bytes : List ℕ → List ℕ
 spelled_bytes digits = unwrap_or (data_of digits) []
 
-abbrev pub is_read_op : Op → Bool
-is_read_op (Read handle position size) = true
-is_read_op _ = false
-
-abbrev pub is_read : Line → Bool
-is_read (Do client operation) = is_read_op operation
-is_read _ = false
+abbrev pub is_read_line : Line → Bool
+is_read_line (Do client operation) = is_read operation
+is_read_line _ = false
 
 -- an answer begins with `ok` or with `err`
 abbrev pub begins_with_o : List ℕ → Bool
@@ -83,7 +80,7 @@ begins_with_o (first ∷ _) = first == 111
 -- what totals count of a line's answer: a refusal, whichever it is, the bytes of a read, or that the line was done
 unfoldable pub reply_said : Line → List ℕ → Reply
 reply_said line answer = (if begins_with_o answer
-    then (if is_read line then Data (spelled_bytes (drop 3 answer)) else Done)
+    then (if is_read_line line then Data (spelled_bytes (drop 3 answer)) else Done)
     else Refused NotFound)
 
 -- the answers to lines, one each
@@ -131,7 +128,7 @@ abbrev pub RunsScript : Option ℕ → (Device → ℕ) → StageValue → Stage
 RunsScript None answers before after ended = RunsLines answers before after ended
 RunsScript (Some seed) answers before after ended = RunsDrawn seed answers before after ended
 
--- the run of a script ended, and so often each device failed and an operation was answered so
+-- the run of a script ended; `answers` is how often each device failed and an operation was answered so
 pub record EndsScript (seed : Option ℕ) (before after : StageValue) (ended : Ended) : Type 0 where
   pub answers : Device → ℕ
   pub runs : RunsScript seed answers before after ended

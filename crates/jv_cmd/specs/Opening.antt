@@ -1,5 +1,6 @@
 -- What a keeper's row of the setting is to a command.
 use Rattle.std.specs.Prelude.{◌≡◌, ℕ, ◌<◌, List, Option, None, Some, Result, IfOk, IfErr, IfSome, IsSome, IsSomeAnd, IsTrue}
+use Rattle.jv_model.specs.declared.tables.TheConstants.{ROWS_VERSION}
 use Rattle.jv_model.specs.declared.setting.Setting.{Setting}
 use Rattle.jv_model.specs.FiniteMap.{get}
 use Rattle.jv_model.specs.rows.RowGrammar.{is_setting, setting_of}
@@ -7,7 +8,7 @@ use Rattle.jv_model.specs.rows.RowKeys.{RowMap}
 use Rattle.jv_model.specs.rows.RowPlaces.{setting_key}
 use Rattle.jv_outside.specs.Store.{Store}
 use Rattle.jv_cmd.specs.declared.ended.Ended.{Ended}
-use Rattle.jv_cmd.specs.declared.ended.Ended.TheVariants.{NoVolume, NewerVersion, SettingOff, KeeperFailed, OutOfMemory}
+use Rattle.jv_cmd.specs.declared.ended.Ended.TheVariants.{NoVolume, NewerVersion, MalformedSetting, KeeperFailed, OutOfMemory}
 use Rattle.jv_cmd.specs.Faults.{UsesKeeper, ended_by}
 
 -- where the rows are known, that of the setting is so
@@ -18,8 +19,8 @@ abbrev pub IsAbsent : Option (List ℕ) → Type 0
 IsAbsent stored = stored ≡ None
 
 -- it is there, and malformed
-abbrev pub IsOff : Option (List ℕ) → Type 0
-IsOff stored = IsSomeAnd stored (λ bytes. setting_of bytes ≡ None)
+abbrev pub IsMalformed : Option (List ℕ) → Type 0
+IsMalformed stored = IsSomeAnd stored (λ bytes. setting_of bytes ≡ None)
 
 -- it spells this setting
 abbrev pub Spells : Setting → Option (List ℕ) → Type 0
@@ -33,13 +34,9 @@ IsSetting stored = IsSomeAnd stored (λ bytes. IsSome (setting_of bytes))
 abbrev pub HasVersion : ℕ → Option (List ℕ) → Type 0
 HasVersion version stored = IsSomeAnd stored (λ bytes. IsSomeAnd (setting_of bytes) (λ setting. setting.version ≡ version))
 
--- the one version of rows that is known
-abbrev pub known_version : ℕ
-known_version = 1
-
 -- why the setting wasn't read
 abbrev pub CannotRead : Option RowMap → Ended → Type 0
-CannotRead rows SettingOff = SettingRow rows IsOff
+CannotRead rows MalformedSetting = SettingRow rows IsMalformed
 CannotRead rows KeeperFailed = Unit {0}
 CannotRead rows OutOfMemory = Unit {0}
 CannotRead rows _ = ⊥
@@ -60,13 +57,13 @@ pub record ReadsSetting (place : List ℕ) (before after : Store) (result : Resu
 -- why there is no volume to run a session on
 abbrev pub CannotOpen : Option RowMap → Ended → Type 0
 CannotOpen rows NoVolume = SettingRow rows IsAbsent
-CannotOpen rows (NewerVersion version) = (known_version < version) × SettingRow rows (HasVersion version)
+CannotOpen rows (NewerVersion version) = (ROWS_VERSION < version) × SettingRow rows (HasVersion version)
 CannotOpen rows ended = CannotRead rows ended
 
 -- a setting of the version that is known
 pub record IsKnown (rows : Option RowMap) (setting : Setting) : Type 0 where
   pub stored : SettingRow rows (Spells setting)
-  pub version : setting.version ≡ known_version
+  pub version : setting.version ≡ ROWS_VERSION
 
 -- the volume's setting was read, or there is no volume to run a session on; the rows are the same
 pub record OpensVolume (place : List ℕ) (before after : Store) (result : Result Setting Ended) : Type 0 where

@@ -18,7 +18,7 @@ use Rattle.jv_outside.specs.Ticks.{Ticks}
 use Rattle.jv_rows.specs.Transactions.{IsBad}
 use Rattle.jv_volume.specs.Slices.{next_slice}
 use Rattle.jv_volume.specs.TypedRows.{typed}
-use Rattle.jv_contents.specs.Blocks.{told_by}
+use Rattle.jv_contents.specs.Blocks.{known_by}
 use Rattle.jv_contents.specs.Bytes.{tree_with}
 use Rattle.jv_contents.specs.Counts.{record_count}
 use Rattle.jv_yard.specs.Contents.{blocks_in}
@@ -28,7 +28,7 @@ use Rattle.jv_client.specs.Built.{is_built_line}
 use Rattle.jv_session.specs.Lines.{AreFailures, BlocksStay}
 use Rattle.jv_cmd.specs.declared.ended.Ended.{Ended}
 use Rattle.jv_cmd.specs.declared.ended.Ended.TheVariants as ended
-use Rattle.jv_cmd.specs.declared.ended.Ended.TheVariants.{OffLine, BadRow, SourceFailed, OutFailed, ClockFailed, OutOfMemory}
+use Rattle.jv_cmd.specs.declared.ended.Ended.TheVariants.{LineNotRun, BadRow, SourceFailed, OutFailed, ClockFailed, OutOfMemory}
 use Rattle.jv_cmd.specs.Ends.{status_of}
 use Rattle.jv_model.specs.declared.limits.TheConstants.{MAX_LINE, MAX_LINES}
 use Rattle.jv_cmd.specs.Stages.{StageValue}
@@ -44,7 +44,7 @@ pub record Beginning : Type 0 where
 -- The tree of the rows, whose files have the bytes of the depot's blocks. No byte is on a shelf alone.
 abbrev pub start_of : Beginning → Start
 start_of start = record {
-  tree = tree_with (told_by start.setting.block (blocks_in start.setting start.objects)) (typed start.rows);
+  tree = tree_with (known_by start.setting.block (blocks_in start.setting start.objects)) (typed start.rows);
   shelved = λ inode position. [];
   next_slice = next_slice (typed start.rows);
   records = record_count (typed start.rows);
@@ -86,7 +86,7 @@ IsKnownClock (Some answers) before after = (before.answers ≡ Some answers) × 
 pub record BeginWith (bytes : Option (List ℕ)) (texts : List (List ℕ)) : Type 0 where
   pub known : IfSome bytes (λ all. (more : List (List ℕ)) × (texts_of all ≡ texts ++ more))
 
--- the texts are the first ones of the source, they are lines of the grammar, and they are few and short enough
+-- the texts are the first ones of the source, they are lines of the grammar, at most `MAX_LINES` of them, and none is longer than `MAX_LINE` bytes
 pub record AreLines (bytes : Option (List ℕ)) (texts : List (List ℕ)) (lines : List Line) : Type 0 where
   pub first : BeginWith bytes texts
   pub each : map line_of texts ≡ map Some lines
@@ -102,18 +102,18 @@ abbrev pub IsBuilt : Limits → Line → Type 0
 IsBuilt limits line = is_built_line limits line ≡ true
 
 -- why the line of that number isn't run: it is one too many, it is too long, it is malformed, or it isn't built
-pub data IsOff (limits : Limits) (number : ℕ) (text : List ℕ) : Type 0 where
-  OneTooMany : MAX_LINES < number → IsOff limits number text
-  TooLong : MAX_LINE < length text → IsOff limits number text
-  OffGrammar : line_of text ≡ None → IsOff limits number text
-  NotBuilt : (line : Line) → line_of text ≡ Some line → is_built_line limits line ≡ false → IsOff limits number text
+pub data IsNotRun (limits : Limits) (number : ℕ) (text : List ℕ) : Type 0 where
+  OneTooMany : MAX_LINES < number → IsNotRun limits number text
+  TooLong : MAX_LINE < length text → IsNotRun limits number text
+  Malformed : line_of text ≡ None → IsNotRun limits number text
+  NotBuilt : (line : Line) → line_of text ≡ Some line → is_built_line limits line ≡ false → IsNotRun limits number text
 
 -- the line after those that were run is off
 pub record StopsAt (before : StageValue) (texts : List (List ℕ)) (lines : List Line) (number : ℕ) : Type 0 where
   pub after_lines : number ≡ length lines + 1
   pub text : List ℕ
   pub next : BeginWith before.source.content (texts ++ text ∷ [])
-  pub off : IsOff before.limits number text
+  pub off : IsNotRun before.limits number text
 
 -- a row is Bad, and the volume wasn't whole at the start
 pub record StopsAtRow (before after : StageValue) (key : RowKey) (bytes : List ℕ) : Type 0 where
@@ -123,7 +123,7 @@ pub record StopsAtRow (before after : StageValue) (key : RowKey) (bytes : List �
 -- the cause of each end, where these lines were run
 abbrev pub EndsBy : Ended → StageValue → StageValue → List (List ℕ) → List Line → Type 0
 EndsBy ended.Whole before after texts lines = IfSome before.source.content (λ all. texts_of all ≡ texts)
-EndsBy (OffLine number) before after texts lines = StopsAt before texts lines number
+EndsBy (LineNotRun number) before after texts lines = StopsAt before texts lines number
 EndsBy (BadRow key bytes) before after texts lines = StopsAtRow before after key bytes
 EndsBy SourceFailed before after texts lines = Unit {0}
 EndsBy OutFailed before after texts lines = Unit {0}

@@ -17,12 +17,12 @@ use Rattle.jv_client.specs.Makes.{faults_of}
 use Rattle.jv_session.specs.Lines.{AreFailures, BlocksStay, BreaksAt, CutsLine, FromThere, LineState, LineUses, StaysPut, line_state}
 use Rattle.jv_session.specs.Stands.{ScheduleValue, Stands}
 use Rattle.jv_cmd.specs.declared.ended.Ended.{Ended}
-use Rattle.jv_cmd.specs.declared.ended.Ended.TheVariants.{OffLine, BadRow, OutFailed, ClockFailed, OutOfMemory}
+use Rattle.jv_cmd.specs.declared.ended.Ended.TheVariants.{LineNotRun, BadRow, OutFailed, ClockFailed, OutOfMemory}
 use Rattle.jv_model.specs.declared.limits.TheConstants.{MAX_LINE, MAX_LINES}
 use Rattle.jv_cmd.specs.Texts.{texts_of}
 use Rattle.jv_cmd.specs.Stages.{StageValue}
-use Rattle.jv_cmd.specs.Faults.{CountsFaults, on_stage}
-use Rattle.jv_cmd.specs.Run.{Beginning, IsKnownClock, IsBuilt, RunsLines, StartsWhole, session_run}
+use Rattle.jv_cmd.specs.Run.{Beginning, IsKnownClock, IsBuilt, StartsWhole, session_run}
+use Rattle.jv_cmd.specs.Generating.{EndsScript}
 
 -- a past after `done` lines of a run, with these lines to come: the schedule stands there, and this was printed
 pub record IsAt (p : Past) (run : Setup) (more : List Line) (done asks entries : ℕ) (printed : List ℕ)
@@ -54,8 +54,8 @@ pub record DoneOn (start : Beginning) (before now : StageValue) (lines : List Li
   pub reaches : (known : Option (ℕ → ℕ)) (more : List Line) (status : ℕ) → IsKnownClock known before.clock now.clock
       → Reaches (session_run start known (lines ++ more) status) more done asked text now.journal s now.devices
 
--- What was done with devices, whatever they hold: so often the clock was asked, and so often each device failed and an operation was
--- answered so.
+-- What was done with devices, whatever they hold: the clock was asked `asked` times, and each device failed as often as `failed` says,
+-- and an operation was answered so each time.
 pub record HasUsed (before now : StageValue) (asked : ℕ) (failed : Device → ℕ) : Type 0 where
   pub passes : Passes before.clock.answers now.clock.answers asked
   pub stays : StaysPut before.devices now.devices
@@ -92,18 +92,10 @@ pub record Going (left : Option (List ℕ)) (before now : StageValue) (done : �
   pub gains : Gains before.out.content now.out.content text
   pub calm : AreCalm before now
 
--- the run of lines ended, and so often each device failed and an operation was answered so
-pub record EndsLines (before after : StageValue) (ended : Ended) : Type 0 where
-  pub answers : Device → ℕ
-  pub runs : RunsLines answers before after ended
-  pub faults : CountsFaults ended (on_stage before) (on_stage after)
-  pub stays : StaysPut before.devices after.devices
-  pub counts : (device : Device) → RoseTimes (answers device) (faults_of device before.devices) (faults_of device after.devices)
-
 -- one line more was run, or the run ended
 abbrev pub Turns : Option (List ℕ) → StageValue → StageValue → ℕ → ScheduleValue → Result (Unit {0}) Ended → Type 0
 Turns left before now done s (Ok unit) = Going left before now (done + 1) s
-Turns left before now done s (Err ended) = EndsLines before now ended
+Turns left before now done s (Err ended) = EndsScript None before now ended
 
 -- a line's entries after a journal: they are allowed, and the line is done and prints the text
 pub record Goes (p : Past) (more : List Line) (number asks : ℕ) (before after : List Act) (text : List ℕ) (s : ScheduleValue)
@@ -129,9 +121,9 @@ pub record Advances (line : Line) (number : ℕ) (before after : StageValue) (s 
   pub kept : FromThere line number (used before s) (used after s') (λ p more. BlocksStay before.devices after.devices)
 
 -- a text that is no line, or a line that isn't built
-pub data IsOffText (text : List ℕ) (limits : Limits) : Type 0 where
-  NoLine : line_of text ≡ None → IsOffText text limits
-  LineUnbuilt : (line : Line) → line_of text ≡ Some line → is_built_line limits line ≡ false → IsOffText text limits
+pub data IsTextNotRun (text : List ℕ) (limits : Limits) : Type 0 where
+  NoLine : line_of text ≡ None → IsTextNotRun text limits
+  LineUnbuilt : (line : Line) → line_of text ≡ Some line → is_built_line limits line ≡ false → IsTextNotRun text limits
 
 -- the text is a line that may be run
 pub record ReadsBuilt (text : List ℕ) (limits : Limits) (line : Line) : Type 0 where
@@ -141,7 +133,7 @@ pub record ReadsBuilt (text : List ℕ) (limits : Limits) (line : Line) : Type 0
 -- a text was read
 abbrev pub TextReads : ℕ → List ℕ → Limits → Result Line Ended → Type 0
 TextReads number text limits (Ok line) = ReadsBuilt text limits line
-TextReads number text limits (Err (OffLine at)) = (at ≡ number) × IsOffText text limits
+TextReads number text limits (Err (LineNotRun at)) = (at ≡ number) × IsTextNotRun text limits
 TextReads number text limits (Err OutOfMemory) = Unit {0}
 TextReads number text limits (Err _) = ⊥
 
@@ -202,7 +194,7 @@ TextEnds number text before after s s' (Ok unit) = (line : Line) × ReadsBuilt t
     before after s s'
 TextEnds number text before after s s' (Err OutFailed) =
     (line : Line) × ReadsBuilt text s.limits line × PrintsCut line number before after s s'
-TextEnds number text before after s s' (Err (OffLine at)) = (at ≡ number) × IsOffText text s.limits × IsStill before after
+TextEnds number text before after s s' (Err (LineNotRun at)) = (at ≡ number) × IsTextNotRun text s.limits × IsStill before after
 TextEnds number text before after s s' (Err ClockFailed) =
     (line : Line) × ReadsBuilt text s.limits line × StopsIn line number before after s s' × Rose before.clock.faults
     after.clock.faults

@@ -1,6 +1,6 @@
 -- The lines of a script as bytes.
 use Rattle.std.specs.Prelude.{ℕ, Bool, ◌==◌, if◌then◌else◌, List, [], ◌∷◌}
-use Rattle.std.specs.List.{list_any}
+use Rattle.std.specs.List.{list_any, onto_first}
 
 abbrev pub is_feed : ℕ → Bool
 is_feed byte = byte == 10
@@ -8,13 +8,8 @@ is_feed byte = byte == 10
 abbrev pub has_feed : List ℕ → Bool
 has_feed = list_any is_feed
 
--- the texts where one more byte precedes the first
-abbrev pub with_first : ℕ → List (List ℕ) → List (List ℕ)
-with_first byte [] = (byte ∷ []) ∷ []
-with_first byte (text ∷ texts) = (byte ∷ text) ∷ texts
-
 -- The texts of the lines of bytes. A line is ended by a line feed, which isn't part of its text and which the last line
 -- may lack; nothing after the last line feed is no line.
 abbrev pub texts_of : List ℕ → List (List ℕ)
 texts_of [] = []
-texts_of (byte ∷ bytes) = if is_feed byte then [] ∷ texts_of bytes else with_first byte (texts_of bytes)
+texts_of (byte ∷ bytes) = if is_feed byte then [] ∷ texts_of bytes else onto_first byte (texts_of bytes)

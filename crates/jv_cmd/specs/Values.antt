@@ -1,13 +1,14 @@
 -- The values of a command line, each as what its text stands for. A text is bytes.
 use Rattle.std.specs.Prelude.{ℕ, ◌-◌, ◌*◌, Bool, false, ◌&&◌, ◌||◌, ◌==◌, nat_lt, nat_le, if◌then◌else◌, List, length, take, drop, slice_get, Option, None, Some, option_and_then, codes, bytes_eq}
 use Rattle.std.specs.Option.{option_map_or}
+use Rattle.jv_model.specs.declared.options.TheConstants.{MAX_DIGITS}
 use Rattle.jv_model.specs.declared.limits.TheConstants.{KIB, MIB}
 use Rattle.jv_model.specs.rows.RowGrammar.{is_block}
 use Rattle.jv_model.specs.script.Spelling.{is_numeral, value_of}
 
--- a number: decimal digits without a leading zero, at most 19 of them
+-- a number: decimal digits without a leading zero, at most MAX_DIGITS of them
 unfoldable pub number_of_digits : List ℕ → Option ℕ
-number_of_digits text = (if is_numeral text && nat_le (length text) 19 then Some (value_of 10 text) else None)
+number_of_digits text = (if is_numeral text && nat_le (length text) MAX_DIGITS then Some (value_of 10 text) else None)
 
 -- the number, where it lies in a range
 abbrev pub within : ℕ → ℕ → ℕ → Option ℕ

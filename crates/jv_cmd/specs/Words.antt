@@ -4,6 +4,8 @@ use Rattle.std.specs.Option.{option_map_or}
 use Rattle.clap.specs.Words.{Row, Text, fault_of, first_of, subcommand_of, subcommand_rows_of}
 use Rattle.clap.specs.declared.parser.matches.ArgMatches.{ArgMatches}
 use Rattle.clap.specs.Kinds.{Kinds}
+use Rattle.jv_model.specs.declared.tables.TheConstants.{ROWS_VERSION}
+use Rattle.jv_model.specs.declared.options.TheConstants.{MAX_CACHE, MIN_BUFFER, MAX_BUFFER, MAX_UPLOADS}
 use Rattle.jv_model.specs.declared.limits.TheConstants.{FULL_COUNT, MAX_CAPACITY, MAX_TRASH_DAYS}
 use Rattle.jv_model.specs.Optional.{◌>>=◌}
 use Rattle.jv_model.specs.declared.setting.Setting.{Setting}
@@ -12,7 +14,6 @@ use Rattle.jv_model.specs.script.Spelling.{number_of}
 use Rattle.jv_cmd.specs.declared.words.request.Command.{Command}
 use Rattle.jv_cmd.specs.declared.words.request.Command.TheVariants.{Format, Session}
 use Rattle.jv_cmd.specs.declared.words.request.SessionOptions.{SessionOptions}
-use Rattle.jv_cmd.specs.declared.words.request.TheConstants.{MAX_BUFFER, MAX_CACHE, MAX_UPLOADS, MIN_BUFFER}
 use Rattle.jv_cmd.specs.declared.words.request.WordsFault.{WordsFault}
 use Rattle.jv_cmd.specs.declared.words.request.WordsFault.TheVariants.{Refused, Memory}
 use Rattle.jv_cmd.specs.declared.words.read.BadValue.{BadValue}
@@ -50,7 +51,7 @@ setting_fields_in rows = do
   days ← value_in (number_within 0 MAX_TRASH_DAYS) (codes "trash-days") rows
   name ← first_of (codes "name") rows
   bucket ← first_of (codes "bucket") rows
-  Some (record { version = 1; block = block; trash_days = days; capacity = capacity; inodes = inodes; hash = if is_given (codes "hash-prefix") rows then 1 else 0; name = name; bucket = bucket })
+  Some (record { version = ROWS_VERSION; block = block; trash_days = days; capacity = capacity; inodes = inodes; hash = if is_given (codes "hash-prefix") rows then 1 else 0; name = name; bucket = bucket })
 
 unfoldable pub stored_setting_in : List Row → Option Setting
 stored_setting_in rows = setting_fields_in rows >>= where_allowed
@@ -110,10 +111,10 @@ Answers command (Ok answer) = command ≡ Some answer
 Answers command (Err (Refused text)) = command ≡ None
 Answers command (Err Memory) = Unit {0}
 
--- the value, or `Off` where there is none
+-- the value, or `OutOfRange` where there is none
 abbrev pub Reads : {T : Type 0} → Result T BadValue → Option T → Type 0
 Reads (Ok value) meant = meant ≡ Some value
-Reads (Err bad.Off) meant = meant ≡ None
+Reads (Err bad.OutOfRange) meant = meant ≡ None
 Reads (Err bad.Memory) meant = Unit {0}
 
 -- the words of a parse: where `clap` finds no fault, the command is the one that it stopped at

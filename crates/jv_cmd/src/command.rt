@@ -14,7 +14,7 @@ use crate::drawn::run_drawn;
 use crate::ended::{Ended, report, say};
 use crate::format::run_format;
 use crate::lines::run_script;
-use crate::stage::{ObservedStage, Stage};
+use crate::stage::{ObservedStage, RunStage};
 use crate::volume::open_volume;
 use crate::words::{Command, SessionOptions, WordsFault, read_words};
 use crate::world::{Finish, Observed, World};
@@ -23,26 +23,27 @@ use jv_outside::{Clock, Depot, Keeper, Shelf, Sink, Source};
 use jv_yard::{Alone, Yard, YardDoor};
 use std::alloc::Global;
 
-/// Runs the command that the words are, over the devices of the world, with an emptied journal.
+/// Runs the command that the words are, over the devices of the world, with an emptied journal. JuiceFS, Command
+/// Reference: `format`, `mount`.
 ///
 /// `format` puts the rows of a fresh volume where the keeper has none, in one commit, and prints its name. `session`
-/// runs the script of the source over the rows of the volume, with the bytes of files in blocks of the depot, and prints
-/// an answer for each line that has one.
+/// runs the script of the source over the rows of the volume, with the bytes of files in blocks of the depot, and
+/// prints an answer for each line that has one.
 ///
 /// Once a session has read the volume's setting, it opens the depot and then the carrier at the setting's bucket, and
-/// then the shelf at the folder of `--cache-dir`. The first of them that isn't opened ends the run before its first line,
-/// and those after it aren't called. Then it lists the blocks on the shelf, and ends before its first line where that
-/// fails. `format` calls none of them. No command changes the blocks on the shelf.
+/// then the shelf at the folder of `--cache-dir`. The first of them that isn't opened ends the run before its first
+/// line, and those after it aren't called. Then it lists the blocks on the shelf, and ends before its first line where
+/// that fails. `format` calls none of them. No command changes the blocks on the shelf.
 ///
-/// The status is 0 if the command did its work: every line of the source was run, or the volume is formatted. It is 2 if
-/// the words are refused, 3 if the next line isn't run (a drawn script has no such line), 4 if there is no volume for a
-/// session, or one for `format`, or the row of its setting is of a later version, or a row that is read is malformed or
-/// names one that isn't there, 5 if a device failed, and 6 if the process is out of memory. A device that fails inside an
-/// operation of a script is answered `EIO`. Standard error has a text for each but the first, which ends with a line
-/// feed. Nothing after the end of the run is done, and everything before it is done, printed and in the journal. Where
-/// the clock fails or memory runs out on a line, the steps that the line made are in the journal, and it prints nothing.
-/// Apart from such answers, a device's count of faults rises only with status 5, by that device, and standard error's own
-/// faults are passed over.
+/// The status is 0 if the command did its work: every line of the source was run, or the volume is formatted. It is 2
+/// if the words are refused, 3 if the next line isn't run (a drawn script has no such line), 4 if there is no volume
+/// for a session, or one for `format`, or the row of its setting is of a later version, or a row that is read is
+/// malformed or names one that isn't there, 5 if a device failed, and 6 if the process is out of memory. A device that
+/// fails inside an operation of a script is answered `EIO`. Standard error has a text for each but the first, which
+/// ends with a line feed. Nothing after the end of the run is done, and everything before it is done, printed and in
+/// the journal. Where the clock fails or memory runs out on a line, the steps that the line made are in the journal,
+/// and it prints nothing. Apart from such answers, a device's count of faults rises only with status 5, by that device,
+/// and standard error's own faults are passed over.
 pub fn run<S: Source, O: Sink, E: Sink, K: Keeper, D: Depot, H: Shelf, C: Clock>(
     alloc: Global,
     words: &[String],
@@ -160,7 +161,7 @@ fn run_attached<S: Source, O: Sink, E: Sink, K: Keeper, D: Depot, H: Shelf, C: C
 {
     match Yard::start(alloc, world.depot, world.shelf, &setting) {
         Ok(yard) => {
-            let stage = Stage {
+            let stage = RunStage {
                 limits: limits_of(options, setting.block),
                 source: world.source,
                 out: world.out,
@@ -190,13 +191,13 @@ fn run_staged<S: Source, O: Sink, K: Keeper, D: Depot, H: Shelf, C: Clock>(
     alloc: Global,
     generate: Option<u64>,
     setting: Setting,
-    stage: Stage<S, O, K, D, H, C>,
-) -> (Ended, Stage<S, O, K, D, H, C>)
+    stage: RunStage<S, O, K, D, H, C>,
+) -> (Ended, RunStage<S, O, K, D, H, C>)
     requires empty { stage.journal.acts ≡ [] }
     requires buffer { MAX_DATA ≤ stage.limits.buffer }
     requires yard { let given = ⟦<Alone<D, H> as YardDoor<D, H>>⟧.given in
         IsSomeAnd (given stage.door) (IsFirst setting) }
-    ensures runs { let seen = ⟦<Stage<S, O, K, D, H, C> as ObservedStage>⟧.seen in
+    ensures runs { let seen = ⟦<RunStage<S, O, K, D, H, C> as ObservedStage>⟧.seen in
         EndsScript generate (seen stage) (seen result.1) result.0 }
     ensures yard { IsSome (⟦<Alone<D, H> as YardDoor<D, H>>⟧.given result.1.door) }
 {

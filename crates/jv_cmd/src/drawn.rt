@@ -2,33 +2,26 @@
 //! that keeps what they print, and their summary goes to the session's own out.
 ghost use Rattle.std.specs.Prelude.{◌≡◌, ◌≤◌, ◌++◌, ◌∷◌, [], codes, drop, IfOk, IsSome, IsSomeAnd, MatchOption, OnOk, Some};
 ghost use Rattle.jv_model.specs.declared.limits.TheConstants.{MAX_DATA};
-ghost use Rattle.jv_model.specs.script.Printed.{hex_pair, number_word};
+ghost use Rattle.jv_model.specs.script.Printed.{number_word};
 ghost use Rattle.jv_model.specs.script.ReplyText.{mode_digits};
+ghost use Rattle.jv_model.specs.client.OpForms.{is_read};
 ghost use Rattle.jv_generator.specs.Summary.{totals_of, with_reply};
 ghost use Rattle.jv_generator.specs.Script.{script};
-ghost use Rattle.jv_cmd.specs.Generating.{EndsScript, PrintsSummary, SumsUp, create_words, is_read, is_read_op, line_text, operation_text, read_words, repeated_text, replies_said, reply_said, script_text, spelled_bytes, summary_of, write_words};
+ghost use Rattle.jv_cmd.specs.Generating.{EndsScript, PrintsSummary, SumsUp, create_words, is_read_line, line_text, operation_text, read_words, repeated_text, replies_said, reply_said, script_text, spelled_bytes, summary_of, write_words};
 ghost use Rattle.jv_cmd.specs.Stages.{IsFirst};
 ghost use Rattle.jv_cmd.specs.Texts.{texts_of};
 
-use crate::ended::{Ended, hex_pair};
+use crate::ended::Ended;
 use crate::lines::{discard, run_script};
 use crate::reader::feed_in;
-use crate::stage::{ObservedStage, Stage};
+use crate::stage::{ObservedStage, RunStage};
 use itoa::Buffer;
 use jv_generator::{Generator, Totals};
 use jv_model::{Bytes, Fault, Line, Op, Reply, Setting};
 use jv_outside::{Clock, Depot, Keeper, NeverSink, NeverSource, Shelf, Sink, Source, write_whole};
-use jv_script::{BadLine, read_data};
+use jv_script::{BadLine, hex_pair, octal_digit, push_number, read_data};
 use jv_yard::{Alone, YardDoor};
 use std::alloc::{AllocError, Global};
-
-/// Adds a space and a number.
-fn push_number(text: &mut Vec<u8>, number: u64) -> Result<(), AllocError>
-    ensures { OnOk result (text.new.items ≡ text.old.items ++ number_word number) }
-{
-    text.push(b' ')?;
-    text.extend_from_slice(Buffer::new().format(number).as_bytes())
-}
 
 /// Adds the bytes of a write, all of which are the first one.
 fn push_repeated(text: &mut Vec<u8>, bytes: &[u8]) -> Result<(), AllocError>
@@ -47,10 +40,10 @@ fn mode_digits(mode: u16) -> [u8; 4]
     ensures { result ≡ mode_digits mode }
 {
     [
-        b'0' + (mode / 512 % 8) as u8,
-        b'0' + (mode / 64 % 8) as u8,
-        b'0' + (mode / 8 % 8) as u8,
-        b'0' + (mode % 8) as u8,
+        octal_digit(mode / 512),
+        octal_digit(mode / 64),
+        octal_digit(mode / 8),
+        octal_digit(mode),
     ]
 }
 
@@ -160,17 +153,17 @@ fn spelled_bytes(alloc: Global, digits: &[u8]) -> Result<Bytes, AllocError>
     }
 }
 
-fn is_read_op(op: &Op) -> bool
-    ensures { result ≡ is_read_op op.now }
+fn is_read(op: &Op) -> bool
+    ensures { result ≡ is_read op.now }
 {
     matches!(op, Op::Read { .. })
 }
 
-fn is_read(line: &Line) -> bool
-    ensures { result ≡ is_read line.now }
+fn is_read_line(line: &Line) -> bool
+    ensures { result ≡ is_read_line line.now }
 {
     match line {
-        Line::Do(_, op) => is_read_op(op),
+        Line::Do(_, op) => is_read(op),
         _ => false,
     }
 }
@@ -193,7 +186,7 @@ fn reply_said(alloc: Global, line: &Line, answer: &[u8]) -> Result<Reply, AllocE
     if answer.first() != Some(&b'o') {
         return Ok(Reply::Refused(Fault::NotFound));
     }
-    if !is_read(line) {
+    if !is_read_line(line) {
         return Ok(Reply::Done);
     }
     let bytes = spelled_bytes(alloc, after_ok(answer))?;
@@ -294,13 +287,13 @@ pub(crate) fn run_drawn<S: Source, O: Sink, K: Keeper, D: Depot, H: Shelf, C: Cl
     alloc: Global,
     seed: u64,
     setting: Setting,
-    stage: Stage<S, O, K, D, H, C>,
-) -> (Ended, Stage<S, O, K, D, H, C>)
+    stage: RunStage<S, O, K, D, H, C>,
+) -> (Ended, RunStage<S, O, K, D, H, C>)
     requires empty { stage.journal.acts ≡ [] }
     requires buffer { MAX_DATA ≤ stage.limits.buffer }
     requires yard { let given = ⟦<Alone<D, H> as YardDoor<D, H>>⟧.given in
         IsSomeAnd (given stage.door) (IsFirst setting) }
-    ensures runs { let seen = ⟦<Stage<S, O, K, D, H, C> as ObservedStage>⟧.seen in
+    ensures runs { let seen = ⟦<RunStage<S, O, K, D, H, C> as ObservedStage>⟧.seen in
         EndsScript (Some seed) (seen stage) (seen result.1) result.0 }
     ensures yard { IsSome (⟦<Alone<D, H> as YardDoor<D, H>>⟧.given result.1.door) }
 {
@@ -310,7 +303,7 @@ pub(crate) fn run_drawn<S: Source, O: Sink, K: Keeper, D: Depot, H: Shelf, C: Cl
     let script = NeverSource::new(text);
     let none = Bytes::new(alloc);
     let answers = NeverSink::new(none);
-    let mut lines = Stage {
+    let mut lines = RunStage {
         limits: stage.limits,
         source: script,
         out: answers,
@@ -323,7 +316,7 @@ pub(crate) fn run_drawn<S: Source, O: Sink, K: Keeper, D: Depot, H: Shelf, C: Cl
     let ran = run_script(alloc, setting, &mut lines);
     let mut out = stage.out;
     let ended = print_summary(alloc, seed, ran, &lines.out, &mut out);
-    let stage = Stage {
+    let stage = RunStage {
         limits: lines.limits,
         source: stage.source,
         out,

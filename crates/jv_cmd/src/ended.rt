@@ -8,6 +8,7 @@ ghost use Rattle.jv_outside.specs.Stream.{WritesAll};
 use itoa::Buffer;
 use jv_model::{Bytes, Down, RowKey};
 use jv_outside::{Sink, write_whole};
+use jv_script::hex_pair;
 
 /// How a command ended.
 #[derive(Debug, Drop, PartialEq, Eq)]
@@ -15,7 +16,7 @@ pub(crate) enum Ended {
     /// The command did its work; a session ran all lines of the source.
     Whole,
     /// The line of this number, from 1, isn't run.
-    OffLine(u32),
+    LineNotRun(u32),
     /// The keeper has no row of a setting.
     NoVolume,
     /// The keeper has a volume where one was to be formatted.
@@ -23,7 +24,7 @@ pub(crate) enum Ended {
     /// The rows are of this version, which is a later one.
     NewerVersion(u32),
     /// The row of the setting is malformed.
-    SettingOff,
+    MalformedSetting,
     /// The row at this key, which has these bytes, is malformed, or names one that isn't there.
     BadRow(RowKey, Bytes),
     SourceFailed,
@@ -44,8 +45,11 @@ impl Ended {
     {
         match self {
             Ended::Whole => 0,
-            Ended::OffLine(_) => 3,
-            Ended::NoVolume | Ended::VolumeExists | Ended::NewerVersion(_) | Ended::SettingOff => 4,
+            Ended::LineNotRun(_) => 3,
+            Ended::NoVolume
+            | Ended::VolumeExists
+            | Ended::NewerVersion(_)
+            | Ended::MalformedSetting => 4,
             Ended::BadRow(..) => 4,
             Ended::SourceFailed | Ended::OutFailed | Ended::ClockFailed | Ended::KeeperFailed => 5,
             Ended::DepotFailed | Ended::CarrierFailed | Ended::ShelfFailed => 5,
@@ -60,7 +64,7 @@ pub(crate) fn report<E: Sink>(ended: &Ended, err: &mut E)
 {
     match ended {
         Ended::Whole => {}
-        Ended::OffLine(number) => say_number(
+        Ended::LineNotRun(number) => say_number(
             b"juicevol: line ",
             *number,
             b": not a script line\n",
@@ -69,7 +73,7 @@ pub(crate) fn report<E: Sink>(ended: &Ended, err: &mut E)
         Ended::NoVolume => say(b"juicevol: no volume\n", err),
         Ended::VolumeExists => say(b"juicevol: volume exists\n", err),
         Ended::NewerVersion(version) => say_number(b"juicevol: version ", *version, b"\n", err),
-        Ended::SettingOff => say(b"juicevol: row 0 0 -: not a row\n", err),
+        Ended::MalformedSetting => say(b"juicevol: row 0 0 -: not a row\n", err),
         Ended::BadRow(key, _) => say_key(key, err),
         Ended::SourceFailed => say(b"juicevol: source failed\n", err),
         Ended::OutFailed => say(b"juicevol: out failed\n", err),
@@ -143,14 +147,4 @@ fn write_pairs<E: Sink>(bytes: &[u8], err: &mut E) -> Result<(), Down>
         write_whole(err, &hex_pair(*byte))?;
     }
     Ok(())
-}
-
-pub(crate) fn hex_pair(byte: u8) -> [u8; 2]
-    ensures { result ≡ hex_pair byte }
-{
-    const DIGITS: &[u8; 16] = b"0123456789abcdef";
-    [
-        DIGITS[usize::from(byte / 16)],
-        DIGITS[usize::from(byte % 16)],
-    ]
 }

@@ -1,16 +1,17 @@
-ghost use Rattle.std.specs.Prelude.{◌≡◌, ◌↔◌, ◌≤◌, ◌<◌, [], IsSome, IsSomeAnd, IsTrue, OnOk};
+ghost use Rattle.std.specs.Prelude.{◌≡◌, ◌↔◌, ◌≤◌, ◌<◌, [], None, IsSome, IsSomeAnd, IsTrue, OnOk};
 ghost use Rattle.std.specs.Io.KnownBytes.{prepend_known};
 ghost use Rattle.jv_model.specs.declared.limits.TheConstants.{MAX_DATA};
 ghost use Rattle.jv_model.specs.declared.op.Line.TheVariants.{Empty};
 ghost use Rattle.jv_client.specs.Built.{is_built_line};
 ghost use Rattle.jv_session.specs.Lines.{LineRuns};
 ghost use Rattle.jv_session.specs.Stands.{IsYardOf};
-ghost use Rattle.jv_cmd.specs.Steps.{TextReads, LineEnds, TextEnds, Going, EndsLines, Turns, used};
+ghost use Rattle.jv_cmd.specs.Generating.{EndsScript};
+ghost use Rattle.jv_cmd.specs.Steps.{TextReads, LineEnds, TextEnds, Going, Turns, used};
 ghost use Rattle.jv_cmd.specs.Stages.{IsFirst, StageValue};
 
 use crate::ended::Ended;
 use crate::reader::{LineReader, Next};
-use crate::stage::{ObservedStage, Stage};
+use crate::stage::{ObservedStage, RunStage};
 use jv_model::{Line, MAX_LINES, Setting};
 use jv_outside::{Clock, Depot, Keeper, Shelf, Sink, Source, write_whole};
 use jv_script::{BadLine, is_silent, read_line};
@@ -24,14 +25,14 @@ fn read_built(alloc: Global, number: u32, text: &[u8], schedule: &Schedule) -> R
 {
     let line = match read_line(alloc, text) {
         Ok(line) => line,
-        Err(BadLine::Off) => return Err(Ended::OffLine(number)),
+        Err(BadLine::Off) => return Err(Ended::LineNotRun(number)),
         Err(BadLine::Memory) => return Err(Ended::OutOfMemory),
     };
     if schedule.is_built(&line) {
         Ok(line)
     } else {
         discard(line);
-        Err(Ended::OffLine(number))
+        Err(Ended::LineNotRun(number))
     }
 }
 
@@ -45,12 +46,12 @@ fn make_line<S: Source, O: Sink, K: Keeper, D: Depot, H: Shelf, C: Clock>(
     line: Line,
     number: u32,
     schedule: &mut Schedule,
-    stage: &mut Stage<S, O, K, D, H, C>,
+    stage: &mut RunStage<S, O, K, D, H, C>,
 ) -> LineEnd
     requires built { IsTrue (is_built_line schedule.old.limits line) }
     requires yard { let given = ⟦<Alone<D, H> as YardDoor<D, H>>⟧.given in
         IsSomeAnd (given stage.old.door) (IsYardOf schedule.old) }
-    ensures runs { let seen = ⟦<Stage<S, O, K, D, H, C> as ObservedStage>⟧.seen in
+    ensures runs { let seen = ⟦<RunStage<S, O, K, D, H, C> as ObservedStage>⟧.seen in
         LineRuns line number (used (seen stage.old) schedule.old)
         (used (seen stage.new) schedule.new) result }
     ensures source { stage.new.source ≡ stage.old.source }
@@ -76,12 +77,12 @@ fn run_line<S: Source, O: Sink, K: Keeper, D: Depot, H: Shelf, C: Clock>(
     line: Line,
     number: u32,
     schedule: &mut Schedule,
-    stage: &mut Stage<S, O, K, D, H, C>,
+    stage: &mut RunStage<S, O, K, D, H, C>,
 ) -> Result<(), Ended>
     requires built { IsTrue (is_built_line schedule.old.limits line) }
     requires yard { let given = ⟦<Alone<D, H> as YardDoor<D, H>>⟧.given in
         IsSomeAnd (given stage.old.door) (IsYardOf schedule.old) }
-    ensures ends { let seen = ⟦<Stage<S, O, K, D, H, C> as ObservedStage>⟧.seen in
+    ensures ends { let seen = ⟦<RunStage<S, O, K, D, H, C> as ObservedStage>⟧.seen in
         LineEnds line number (seen stage.old) (seen stage.new) schedule.old schedule.new result }
     ensures source { stage.new.source ≡ stage.old.source }
     ensures yard { let given = ⟦<Alone<D, H> as YardDoor<D, H>>⟧.given in
@@ -105,11 +106,11 @@ fn run_text<S: Source, O: Sink, K: Keeper, D: Depot, H: Shelf, C: Clock>(
     number: u32,
     text: &[u8],
     schedule: &mut Schedule,
-    stage: &mut Stage<S, O, K, D, H, C>,
+    stage: &mut RunStage<S, O, K, D, H, C>,
 ) -> Result<(), Ended>
     requires yard { let given = ⟦<Alone<D, H> as YardDoor<D, H>>⟧.given in
         IsSomeAnd (given stage.old.door) (IsYardOf schedule.old) }
-    ensures ends { let seen = ⟦<Stage<S, O, K, D, H, C> as ObservedStage>⟧.seen in
+    ensures ends { let seen = ⟦<RunStage<S, O, K, D, H, C> as ObservedStage>⟧.seen in
         TextEnds number text.now (seen stage.old) (seen stage.new) schedule.old
         schedule.new result }
     ensures source { stage.new.source ≡ stage.old.source }
@@ -132,12 +133,12 @@ fn turn<S: Source, O: Sink, K: Keeper, D: Depot, H: Shelf, C: Clock>(
     done: u32,
     reader: &mut LineReader,
     schedule: &mut Schedule,
-    stage: &mut Stage<S, O, K, D, H, C>,
+    stage: &mut RunStage<S, O, K, D, H, C>,
 ) -> Result<(), Ended>
     requires few { done ≤ MAX_LINES }
     requires yard { let given = ⟦<Alone<D, H> as YardDoor<D, H>>⟧.given in
         IsSomeAnd (given stage.old.door) (IsYardOf schedule.old) }
-    ensures turns { let seen = ⟦<Stage<S, O, K, D, H, C> as ObservedStage>⟧.seen in
+    ensures turns { let seen = ⟦<RunStage<S, O, K, D, H, C> as ObservedStage>⟧.seen in
         (before : StageValue)
         → Going (prepend_known reader.old (seen stage.old).source.content) before (seen stage.old)
         done schedule.old
@@ -150,13 +151,13 @@ fn turn<S: Source, O: Sink, K: Keeper, D: Depot, H: Shelf, C: Clock>(
     match reader.next(&mut stage.source) {
         Ok(Next::Text(count)) => {
             if done == MAX_LINES {
-                return Err(Ended::OffLine(done + 1));
+                return Err(Ended::LineNotRun(done + 1));
             }
             let ran = run_text(alloc, done + 1, reader.front(count), schedule, stage);
             reader.pass(count);
             ran
         }
-        Ok(Next::TooLong) => Err(Ended::OffLine(done + 1)),
+        Ok(Next::TooLong) => Err(Ended::LineNotRun(done + 1)),
         Ok(Next::End) => Err(Ended::Whole),
         Err(_) => Err(Ended::SourceFailed),
     }
@@ -167,15 +168,15 @@ fn run_lines<S: Source, O: Sink, K: Keeper, D: Depot, H: Shelf, C: Clock>(
     alloc: Global,
     reader: &mut LineReader,
     schedule: &mut Schedule,
-    stage: &mut Stage<S, O, K, D, H, C>,
+    stage: &mut RunStage<S, O, K, D, H, C>,
 ) -> Ended
     requires yard { let given = ⟦<Alone<D, H> as YardDoor<D, H>>⟧.given in
         IsSomeAnd (given stage.old.door) (IsYardOf schedule.old) }
-    ensures runs { let seen = ⟦<Stage<S, O, K, D, H, C> as ObservedStage>⟧.seen in
+    ensures runs { let seen = ⟦<RunStage<S, O, K, D, H, C> as ObservedStage>⟧.seen in
         (before : StageValue)
         → Going (prepend_known reader.old (seen stage.old).source.content) before (seen stage.old)
         0 schedule.old
-        → EndsLines before (seen stage.new) result }
+        → EndsScript None before (seen stage.new) result }
     ensures yard { let given = ⟦<Alone<D, H> as YardDoor<D, H>>⟧.given in
         IsSomeAnd (given stage.new.door) (IsYardOf schedule.new) }
 {
@@ -193,14 +194,14 @@ fn run_lines<S: Source, O: Sink, K: Keeper, D: Depot, H: Shelf, C: Clock>(
 pub(crate) fn run_script<S: Source, O: Sink, K: Keeper, D: Depot, H: Shelf, C: Clock>(
     alloc: Global,
     setting: Setting,
-    stage: &mut Stage<S, O, K, D, H, C>,
+    stage: &mut RunStage<S, O, K, D, H, C>,
 ) -> Ended
     requires empty { stage.old.journal.acts ≡ [] }
     requires buffer { MAX_DATA ≤ stage.old.limits.buffer }
     requires yard { let given = ⟦<Alone<D, H> as YardDoor<D, H>>⟧.given in
         IsSomeAnd (given stage.old.door) (IsFirst setting) }
-    ensures runs { let seen = ⟦<Stage<S, O, K, D, H, C> as ObservedStage>⟧.seen in
-        EndsLines (seen stage.old) (seen stage.new) result }
+    ensures runs { let seen = ⟦<RunStage<S, O, K, D, H, C> as ObservedStage>⟧.seen in
+        EndsScript None (seen stage.old) (seen stage.new) result }
     ensures yard { IsSome (⟦<Alone<D, H> as YardDoor<D, H>>⟧.given stage.new.door) }
 {
     let Ok(mut reader) = LineReader::new(alloc) else {

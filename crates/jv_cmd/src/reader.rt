@@ -29,7 +29,7 @@ pub(crate) enum Next {
 }
 
 /// Bytes of a source that no line has taken yet. It has room for the longest line from the start, so that no line runs
-/// out of memory, and touches that room once a line is so long.
+/// out of memory, and touches that room only where a line needs it.
 #[derive(Drop)]
 pub(crate) struct LineReader {
     buffer: Vec<u8>,

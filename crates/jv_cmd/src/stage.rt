@@ -9,7 +9,7 @@ use jv_yard::{Alone, YardDoor};
 
 /// The devices of a world but for standard error, with its depot and its shelf in a yard.
 #[derive(Drop)]
-pub(crate) struct Stage<S, O, K, D, H, C> {
+pub(crate) struct RunStage<S, O, K, D, H, C> {
     pub(crate) limits: Limits,
     pub(crate) source: S,
     pub(crate) out: O,
@@ -28,7 +28,7 @@ pub trait ObservedStage {
 }
 
 impl<S: Source, O: Sink, K: Keeper, D: Depot, H: Shelf, C: Clock> ObservedStage
-    for Stage<S, O, K, D, H, C> {
+    for RunStage<S, O, K, D, H, C> {
     ghost use Rattle.jv_client.specs.Shared.{shared};
     ghost use Rattle.jv_cmd.specs.Stages.{stage_value, yard_at};
 
@@ -37,11 +37,11 @@ impl<S: Source, O: Sink, K: Keeper, D: Depot, H: Shelf, C: Clock> ObservedStage
         ((Carrier-box w.carrier).seen w.carrier.value)) (C.seen w.clock) w.journal.acts };
 }
 
-impl<S: Source, O: Sink, K: Keeper, D: Depot, H: Shelf, C: Clock> Stage<S, O, K, D, H, C> {
+impl<S: Source, O: Sink, K: Keeper, D: Depot, H: Shelf, C: Clock> RunStage<S, O, K, D, H, C> {
     /// The world with this standard error, whose depot and shelf are out of the yard again.
     pub(crate) fn into_world<E: Sink>(self, err: E) -> World<S, O, E, K, D, H, C>
         requires { IsSome (⟦<Alone<D, H> as YardDoor<D, H>>⟧.given self.door) }
-        ensures world { let stage = ⟦<Stage<S, O, K, D, H, C> as ObservedStage>⟧.seen in
+        ensures world { let stage = ⟦<RunStage<S, O, K, D, H, C> as ObservedStage>⟧.seen in
             let world = ⟦<World<S, O, E, K, D, H, C> as Observed>⟧.seen in
             world result ≡ world_of (E.seen err) (stage self) }
         ensures err { result.err ≡ err }

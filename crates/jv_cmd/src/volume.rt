@@ -3,13 +3,11 @@ ghost use Rattle.jv_cmd.specs.Faults.{UsesKeeper, ended_by};
 ghost use Rattle.jv_cmd.specs.Opening.{CannotRead, ReadsSetting, OpensVolume};
 
 use crate::ended::Ended;
+use jv_model::tables::ROWS_VERSION;
 use jv_model::{Down, RowFault, Setting, Text};
 use jv_outside::Keeper;
 use jv_rows::read_setting;
 use std::alloc::Global;
-
-/// The version of the rows that is known, and that `format` writes.
-pub(crate) const VERSION: u32 = 1;
 
 /// Opens the keeper at a place.
 fn attach<K: Keeper>(keeper: &mut K, place: &Text) -> Result<(), Ended>
@@ -36,7 +34,7 @@ pub(crate) fn stored_setting<K: Keeper>(
     attach(keeper, place)?;
     match read_setting(alloc, keeper) {
         Ok(found) => Ok(found),
-        Err(RowFault::Bad(_, _)) => Err(Ended::SettingOff),
+        Err(RowFault::Bad(_, _)) => Err(Ended::MalformedSetting),
         Err(RowFault::Failed) => Err(Ended::KeeperFailed),
         Err(RowFault::Memory) => Err(Ended::OutOfMemory),
     }
@@ -54,7 +52,7 @@ pub(crate) fn open_volume<K: Keeper>(
         return Err(Ended::NoVolume);
     };
     let version = setting.version;
-    if version > VERSION {
+    if version > ROWS_VERSION {
         return Err(Ended::NewerVersion(version));
     }
     Ok(setting)

@@ -5,6 +5,7 @@ use Rattle.std.specs.Prelude.{◌==◌, nat_lt, slice_index, unwrap_or, Contains
 use Rattle.std.proofs.lemmas.Bool.{cases_eq, eq-eqb, eqb-false}
 use Rattle.std.proofs.lemmas.List.Elements.{All-from_recursion, All-contains, All-contains_itself}
 use Rattle.std.proofs.lemmas.List.Sums.{count_by_more_yes, sum_by-take-le}
+use Rattle.jv_model.specs.declared.tables.TheConstants.{TABLE_OF_LISTS}
 use Rattle.jv_model.specs.declared.limits.TheConstants.{WINDOW}
 use Rattle.jv_model.specs.declared.row.RowKey.{RowKey}
 use Rattle.jv_model.specs.declared.row.SliceRow.{SliceRow}
@@ -23,7 +24,7 @@ use Rattle.jv_volume.specs.Views.{row_in, records_in, lists_of, slice_row_at}
 use Rattle.jv_volume.specs.TreeOf.{tree_of}
 use Rattle.jv_volume.specs.Slices.{listed, records_naming, named_by, count_in, slice_count, next_slice, place_in, WholeSlices}
 use Rattle.jv_contents.specs.Bytes.{spot_byte, bytes_of, tree_with}
-use Rattle.jv_contents.specs.Blocks.{Blocks, Grows, IsThere, HasBlocks, AreBelow, told_by}
+use Rattle.jv_contents.specs.Blocks.{Blocks, Grows, IsThere, HasBlocks, AreBelow, known_by}
 use Rattle.jv_contents.specs.Counts.{HadSize, KeepsOthers}
 use Rattle.jv_contents.proofs.PlaceLaws.{record_inside}
 use Rattle.jv_volume.proofs.FilesLaws.{nothing_shows}
@@ -40,9 +41,9 @@ pub there-grows : (before after : Blocks) (b : BlockId) → Grows before after �
 there-grows before after b grows there = record { bytes = there.bytes; is = grows b there.bytes there.is; long = there.long }
 
 -- the bytes of a block that is there stay
-pub told-grows : (block : ℕ) (before after : Blocks) → Grows before after → (id size at : ℕ) → IsThere before (block_at id size block (at / block))
-    → told_by block after id size at ≡ told_by block before id size at
-told-grows block before after grows id size at there =
+pub known-grows : (block : ℕ) (before after : Blocks) → Grows before after → (id size at : ℕ) → IsThere before (block_at id size block (at / block))
+    → known_by block after id size at ≡ known_by block before id size at
+known-grows block before after grows id size at there =
     ap (λ o. slice_index (unwrap_or o []) (at % block)) (grows (block_at id size block (at / block)) there.bytes there.is ∙ sym there.is)
 
 -- ---- the places that files show
@@ -72,7 +73,7 @@ naming-le rows id key = below (get rows key) (sum-remove _ names rows key)
 
     below : (o : Option Cell) → sum_over names (remove rows key) + share names key o ≡ sum_over names rows
         → records_naming id (listed key o) ≤ sum_over names rows
-    below None e = omega (arith, nothing (key.tab == 4))
+    below None e = omega (arith, nothing (key.tab == TABLE_OF_LISTS))
     below (Some cell) e = omega (arith, e)
 
 module _ (rows : Rows) (w : WholeSlices rows) where
@@ -130,29 +131,29 @@ module _ (rows : Rows) (w : WholeSlices rows) where
 
   -- the bytes of files stay when blocks are put
   pub bytes-grow : (block : ℕ) (before after : Blocks) → 0 < block → HasBlocks block rows before → Grows before after
-      → (inode p : ℕ) → bytes_of (told_by block after) rows inode p ≡ bytes_of (told_by block before) rows inode p
+      → (inode p : ℕ) → bytes_of (known_by block after) rows inode p ≡ bytes_of (known_by block before) rows inode p
   bytes-grow block before after some has grows inode p = by_spot (place_in (lists_of rows inode) p) refl
     where
-      by_spot : (spot : Spot) → place_in (lists_of rows inode) p ≡ spot → spot_byte (told_by block after) spot ≡ spot_byte (told_by block before) spot
+      by_spot : (spot : Spot) → place_in (lists_of rows inode) p ≡ spot → spot_byte (known_by block after) spot ≡ spot_byte (known_by block before) spot
       by_spot Zero e = refl
       by_spot (Slice id size at) e =
           let row = place_has_row inode p id size at e in
-          told-grows block before after grows id size at (subst (λ n. IsThere before (block_at id n block (at / block))) row.0.size_is
+          known-grows block before after grows id size at (subst (λ n. IsThere before (block_at id n block (at / block))) row.0.size_is
           (has id row.0.slice row.0.is (at / block) (index_below row.0.slice.size block at (at / block) some
           (subst (λ n. at < n) (sym row.0.size_is) row.1) (omega arith))))
 
   -- and so does the tree
   pub tree-grows : (block : ℕ) (before after : Blocks) → 0 < block → HasBlocks block rows before → Grows before after
-      → tree_with (told_by block after) rows ≡ tree_with (told_by block before) rows
+      → tree_with (known_by block after) rows ≡ tree_with (known_by block before) rows
   tree-grows block before after some has grows =
       ap (λ (bytes : ℕ → ℕ → ℕ). tree_of bytes rows) (λ i inode p. bytes-grow block before after some has grows inode p i)
 
   -- the bytes of files stay when blocks of slices without rows come or go
   pub bytes-apart : (block : ℕ) (before after : Blocks) → ((b : BlockId) → slice_row_at rows b.id ≢ None → after b ≡ before b)
-      → (inode p : ℕ) → bytes_of (told_by block after) rows inode p ≡ bytes_of (told_by block before) rows inode p
+      → (inode p : ℕ) → bytes_of (known_by block after) rows inode p ≡ bytes_of (known_by block before) rows inode p
   bytes-apart block before after same inode p = by_spot (place_in (lists_of rows inode) p) refl
     where
-      by_spot : (spot : Spot) → place_in (lists_of rows inode) p ≡ spot → spot_byte (told_by block after) spot ≡ spot_byte (told_by block before) spot
+      by_spot : (spot : Spot) → place_in (lists_of rows inode) p ≡ spot → spot_byte (known_by block after) spot ≡ spot_byte (known_by block before) spot
       by_spot Zero e = refl
       by_spot (Slice id size at) e =
           let row = place_has_row inode p id size at e in

@@ -8,6 +8,7 @@ use Rattle.std.proofs.lemmas.List.{length-append}
 use Rattle.std.proofs.lemmas.List.Sums.{count_by-le-length}
 use Rattle.std.proofs.lemmas.List.Elements.{recursion_from_All, All-weaker, All-contains_itself}
 use Rattle.std.proofs.lemmas.Option.{same_Some}
+use Rattle.jv_model.specs.declared.tables.TheConstants.{TABLE_OF_LISTS, TABLE_OF_SLICES, TABLE_OF_DEAD}
 use Rattle.jv_model.specs.declared.limits.TheConstants.{FULL_COUNT}
 use Rattle.jv_model.specs.declared.row.RowKey.{RowKey}
 use Rattle.jv_model.specs.declared.row.Row.TheVariants.{OfSlice, OfDead}
@@ -45,7 +46,7 @@ module _ (f : List Rec → ℕ) (nothing : f [] ≡ 0) where
   none_by false = nothing
 
   share_is : (key : RowKey) (o : Option Cell) → share (λ key cell. f (listed key (Some cell))) key o ≡ f (listed key o)
-  share_is key None = sym (none_by (key.tab == 4))
+  share_is key None = sym (none_by (key.tab == TABLE_OF_LISTS))
   share_is key (Some cell) = refl
 
   -- with other records at one key
@@ -53,7 +54,7 @@ module _ (f : List Rec → ℕ) (nothing : f [] ≡ 0) where
   sum-list rows key None =
       let sum = sum-remove row_key (λ key cell. f (listed key (Some cell))) rows key in
       let old = share_is key (get rows key) in
-      let new = none_by (key.tab == 4) in
+      let new = none_by (key.tab == TABLE_OF_LISTS) in
       omega (arith, sum, old, new)
   sum-list rows key (Some cell) =
       let sum = sum-insert row_key (λ key cell. f (listed key (Some cell))) rows key cell in
@@ -61,27 +62,27 @@ module _ (f : List Rec → ℕ) (nothing : f [] ≡ 0) where
       omega (arith, sum, old)
 
   -- rows with the same lists
-  sum-lists : (rows after : Rows) → ((key : RowKey) → (key.tab == 4) ≡ true → get after key ≡ get rows key) → sum_of f after ≡ sum_of f rows
+  sum-lists : (rows after : Rows) → ((key : RowKey) → (key.tab == TABLE_OF_LISTS) ≡ true → get after key ≡ get rows key) → sum_of f after ≡ sum_of f rows
   sum-lists rows after same =
-      sym (sum-retain_keys row_key (λ key cell. f (listed key (Some cell))) (λ key. key.tab == 4) no_list after)
-      ∙ ap (sum_of f) (same_maps (retain_keys (λ key. key.tab == 4) after) (retain_keys (λ key. key.tab == 4) rows) (λ key.
-      get-retain_keys after (λ key. key.tab == 4) key ∙ by_table key (key.tab == 4) refl ∙ sym (get-retain_keys rows (λ key. key.tab == 4) key)))
-      ∙ sum-retain_keys row_key (λ key cell. f (listed key (Some cell))) (λ key. key.tab == 4) no_list rows
+      sym (sum-retain_keys row_key (λ key cell. f (listed key (Some cell))) (λ key. key.tab == TABLE_OF_LISTS) no_list after)
+      ∙ ap (sum_of f) (same_maps (retain_keys (λ key. key.tab == TABLE_OF_LISTS) after) (retain_keys (λ key. key.tab == TABLE_OF_LISTS) rows) (λ key.
+      get-retain_keys after (λ key. key.tab == TABLE_OF_LISTS) key ∙ by_table key (key.tab == TABLE_OF_LISTS) refl ∙ sym (get-retain_keys rows (λ key. key.tab == TABLE_OF_LISTS) key)))
+      ∙ sum-retain_keys row_key (λ key cell. f (listed key (Some cell))) (λ key. key.tab == TABLE_OF_LISTS) no_list rows
     where
-      no_list : (key : RowKey) (cell : Cell) → (key.tab == 4) ≡ false → f (listed key (Some cell)) ≡ 0
+      no_list : (key : RowKey) (cell : Cell) → (key.tab == TABLE_OF_LISTS) ≡ false → f (listed key (Some cell)) ≡ 0
       no_list key cell other = ap (λ b. f (if b then records_in (row_in (Some cell)) else [])) other ∙ nothing
 
-      by_table : (key : RowKey) (b : Bool) → (key.tab == 4) ≡ b → cond b (get after key) None ≡ cond b (get rows key) None
+      by_table : (key : RowKey) (b : Bool) → (key.tab == TABLE_OF_LISTS) ≡ b → cond b (get after key) None ≡ cond b (get rows key) None
       by_table key true e = same key e
       by_table key false e = refl
 
 -- ---- rows with the same lists
 
-module _ (rows after : Rows) (same : (key : RowKey) → (key.tab == 4) ≡ true → get after key ≡ get rows key) where
+module _ (rows after : Rows) (same : (key : RowKey) → (key.tab == TABLE_OF_LISTS) ≡ true → get after key ≡ get rows key) where
   listed_same : (key : RowKey) → listed key (get after key) ≡ listed key (get rows key)
-  listed_same key = by_table (key.tab == 4) refl
+  listed_same key = by_table (key.tab == TABLE_OF_LISTS) refl
     where
-      by_table : (b : Bool) → (key.tab == 4) ≡ b → (if b then records_in (row_in (get after key)) else []) ≡ (if b then records_in (row_in (get rows key)) else [])
+      by_table : (b : Bool) → (key.tab == TABLE_OF_LISTS) ≡ b → (if b then records_in (row_in (get after key)) else []) ≡ (if b then records_in (row_in (get rows key)) else [])
       by_table true e = ap (λ c. records_in (row_in c)) (same key e)
       by_table false e = refl
 
@@ -112,12 +113,12 @@ module _ (rows : Rows) (key : RowKey) (cell : Option Cell) where
       by_tie true e = subst (λ k. AllByRecursion P (listed k cell)) (sym (tied_same row_key key q e)) new
       by_tie false e = have q
 
-  module _ (table : key.tab ≡ 4) where
-    apart_from : (q : RowKey) → (q.tab == 4) ≡ false → q ≢ key
-    apart_from q other same = true≢false (sym (ap (λ (k : RowKey). k.tab == 4) same ∙ eq-eqb key.tab 4 table) ∙ other)
+  module _ (table : key.tab ≡ TABLE_OF_LISTS) where
+    apart_from : (q : RowKey) → (q.tab == TABLE_OF_LISTS) ≡ false → q ≢ key
+    apart_from q other same = true≢false (sym (ap (λ (k : RowKey). k.tab == TABLE_OF_LISTS) same ∙ eq-eqb key.tab TABLE_OF_LISTS table) ∙ other)
 
     -- rows of other tables stay
-    pub others-list : (q : RowKey) → (q.tab == 4) ≡ false → get (alter rows key cell) q ≡ get rows q
+    pub others-list : (q : RowKey) → (q.tab == TABLE_OF_LISTS) ≡ false → get (alter rows key cell) q ≡ get rows q
     others-list q other = get-alter-apart row_key rows key cell q (apart_from q other)
 
     pub behind-list : (gone added : List Rec) → Behind rows gone added
@@ -158,7 +159,7 @@ move-none rows w = record {
 }
 
 -- one more has
-pub move-list : (rows middle : Rows) (gone added : List Rec) (key : RowKey) (cell : Option Cell) → key.tab ≡ 4 → ListsMove rows middle gone added
+pub move-list : (rows middle : Rows) (gone added : List Rec) (key : RowKey) (cell : Option Cell) → key.tab ≡ TABLE_OF_LISTS → ListsMove rows middle gone added
     → AllByRecursion IsRecord (listed key cell) → AllByRecursion (λ r. r.id ≢ 0 → HadSize rows r.id r.size) (listed key cell)
     → ListsMove rows (alter middle key cell) (gone ++ listed key (get middle key)) (added ++ listed key cell)
 move-list rows middle gone added key cell table m records names = record {
@@ -210,14 +211,14 @@ module _ (gone added : List Rec) (due : ℕ) (rows after : Rows) (a : Adjusted g
       by_name false e = Stays e (ap (λ c. slice_in (row_in c)) (a.others (slice_key id) e)) (ap (λ c. dead_in (row_in c)) (a.others (dead_key id) e))
 
   -- rows of other tables stay
-  pub others-adjusted : (key : RowKey) → (key.tab == 5) ≡ false → (key.tab == 9) ≡ false → get after key ≡ get rows key
-  others-adjusted key five nine = a.others key (and_left (((key.tab == 5) || (key.tab == 9)) && is_nil key.b) (is_named gone added key.a)
-      (and_left ((key.tab == 5) || (key.tab == 9)) (is_nil key.b) (ap (λ b. b || (key.tab == 9)) five ∙ nine)))
+  pub others-adjusted : (key : RowKey) → (key.tab == TABLE_OF_SLICES) ≡ false → (key.tab == TABLE_OF_DEAD) ≡ false → get after key ≡ get rows key
+  others-adjusted key five nine = a.others key (and_left (((key.tab == TABLE_OF_SLICES) || (key.tab == TABLE_OF_DEAD)) && is_nil key.b) (is_named gone added key.a)
+      (and_left ((key.tab == TABLE_OF_SLICES) || (key.tab == TABLE_OF_DEAD)) (is_nil key.b) (ap (λ b. b || (key.tab == TABLE_OF_DEAD)) five ∙ nine)))
 
-  lists-adjusted : (key : RowKey) → (key.tab == 4) ≡ true → get after key ≡ get rows key
+  lists-adjusted : (key : RowKey) → (key.tab == TABLE_OF_LISTS) ≡ true → get after key ≡ get rows key
   lists-adjusted key four =
-      let tab = eqb-true key.tab 4 four in
-      others-adjusted key (ne_eqb key.tab 5 (λ e. omega (arith, tab, e))) (ne_eqb key.tab 9 (λ e. omega (arith, tab, e)))
+      let tab = eqb-true key.tab TABLE_OF_LISTS four in
+      others-adjusted key (ne_eqb key.tab TABLE_OF_SLICES (λ e. omega (arith, tab, e))) (ne_eqb key.tab TABLE_OF_DEAD (λ e. omega (arith, tab, e)))
 
   -- counts are exact again
   pub exact-adjusted : Behind rows gone added → (id : ℕ) → 0 < id → slice_count after id ≡ named_by after id

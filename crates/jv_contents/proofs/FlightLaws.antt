@@ -6,14 +6,13 @@ use Rattle.std.proofs.lemmas.Bool.{cases_eq, cases_lt}
 use Rattle.std.proofs.lemmas.Nat.{div-add-mod', mod_below}
 use Rattle.jv_model.specs.declared.slice.Rec.{Rec}
 use Rattle.jv_model.specs.declared.slice.BlockId.{BlockId}
-use Rattle.jv_model.specs.blocks.Slices.{block_at, block_count, block_length}
+use Rattle.jv_model.specs.blocks.Slices.{block_at, block_count, block_length, shown}
 use Rattle.jv_slices.proofs.BlockLaws.{index_below}
 use Rattle.jv_volume.specs.TypedRows.{Rows}
 use Rattle.jv_volume.specs.Slices.{IsUnknown, next_slice}
-use Rattle.jv_contents.specs.Places.{shown}
 use Rattle.jv_contents.specs.Bytes.{spot_byte}
 use Rattle.jv_contents.specs.Counts.{KeepsOthers}
-use Rattle.jv_contents.specs.Blocks.{Blocks, Grows, IsThere, IsPut, AreBelow, told_by}
+use Rattle.jv_contents.specs.Blocks.{Blocks, Grows, IsThere, IsPut, AreBelow, known_by}
 use Rattle.jv_contents.specs.Flights.{Flight, InFlight, IsComplete, flight_block, flight_bytes}
 use Rattle.jv_contents.proofs.ByteLaws.{shown-slice}
 
@@ -37,8 +36,8 @@ module _ (block : ℕ) (rows : Rows) (blocks : Blocks) (f : Flight) (flies : InF
     complete-there index low = flight-there index (subst (λ n. index < n) (sym complete) low)
 
     -- and have its bytes
-    pub complete-told : (k : ℕ) → k < length f.bytes → told_by block blocks f.id (length f.bytes) k ≡ slice_index f.bytes k
-    complete-told k low =
+    pub complete-known : (k : ℕ) → k < length f.bytes → known_by block blocks f.id (length f.bytes) k ≡ slice_index f.bytes k
+    complete-known k low =
         ap (λ o. slice_index (unwrap_or o []) (k % block)) (flies.those (k / block) put)
         ∙ part_byte f.bytes block (k / block) (k % block) (mod_below k block some) ∙ ap (slice_index f.bytes) (div-add-mod' k block)
       where
@@ -47,14 +46,14 @@ module _ (block : ℕ) (rows : Rows) (blocks : Blocks) (f : Flight) (flies : InF
 
     -- so a record of a part of it shows those
     pub complete-shows : (r : Rec) → r.id ≡ f.id → r.size ≡ length f.bytes → r.off + r.len ≤ length f.bytes
-        → (n : ℕ) → n < r.len → spot_byte (told_by block blocks) (shown r n) ≡ slice_index f.bytes (r.off + n)
+        → (n : ℕ) → n < r.len → spot_byte (known_by block blocks) (shown r n) ≡ slice_index f.bytes (r.off + n)
     complete-shows r own long inside n low =
-        ap (spot_byte (told_by block blocks)) (shown-slice r n (λ none. (let some = flies.some in absurd (omega (arith, some, own, none)))))
-        ∙ (λ i. told_by block blocks (own i) (long i) (r.off + n)) ∙ complete-told (r.off + n) (omega (arith, low, inside))
+        ap (spot_byte (known_by block blocks)) (shown-slice r n (λ none. (let some = flies.some in absurd (omega (arith, some, own, none)))))
+        ∙ (λ i. known_by block blocks (own i) (long i) (r.off + n)) ∙ complete-known (r.off + n) (omega (arith, low, inside))
 
     -- and a record of the whole shows all of them
     pub complete-shown : (r : Rec) → r.id ≡ f.id → r.size ≡ length f.bytes → r.off ≡ 0 → r.len ≡ length f.bytes
-        → (n : ℕ) → n < r.len → spot_byte (told_by block blocks) (shown r n) ≡ slice_index f.bytes n
+        → (n : ℕ) → n < r.len → spot_byte (known_by block blocks) (shown r n) ≡ slice_index f.bytes n
     complete-shown r own long first whole n low =
         complete-shows r own long (omega (arith, first, whole)) n low ∙ ap (slice_index f.bytes) (omega (arith, first))
 

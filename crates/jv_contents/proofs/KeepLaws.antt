@@ -1,31 +1,24 @@
 -- What changes that leave lists and slices alone keep: counts of records, unknown slices, blocks. So do changes on metadata, and the
 -- giving of a number.
-use Rattle.std.proofs.Common.{◌≡◌, ℕ, ◌+◌, ◌≤◌, ◌^◌, ◌⊎◌, inl, inr, Bool, true, false, true≢false, cond, List, [], length, Option, None, Some, refl, sym, ap, ◌∙◌, arith}
-use Rattle.std.specs.Prelude.{◌==◌, ◌||◌, nat_lt, if◌then◌else◌}
+use Rattle.std.proofs.Common.{◌≡◌, ℕ, ◌+◌, ◌≤◌, ◌⊎◌, inl, inr, true, false, true≢false, List, [], length, Option, None, Some, refl, sym, ap, ◌∙◌, arith}
+use Rattle.jv_model.specs.declared.tables.TheConstants.{TABLE_OF_LISTS, TABLE_OF_SLICES, TABLE_OF_DEAD}
 use Rattle.jv_model.specs.declared.row.RowKey.{RowKey}
 use Rattle.jv_model.specs.declared.row.SliceRow.{SliceRow}
-use Rattle.jv_model.specs.declared.slice.Rec.{Rec}
 use Rattle.jv_model.specs.declared.slice.BlockId.{BlockId}
-use Rattle.jv_model.specs.FiniteMap.{get, retain_keys, sum_over}
-use Rattle.jv_model.specs.rows.RowKeys.{row_key}
-use Rattle.jv_model.specs.rows.RowPlaces.{counters_key, list_key, slice_key, dead_key}
-use Rattle.jv_model.proofs.FiniteMapLaws.{get-retain_keys, same_maps}
-use Rattle.jv_volume.specs.TypedRows.{Cell, Rows}
-use Rattle.jv_volume.specs.Views.{row_in, records_in, lists_of, slice_in, slice_row_at, dead_in, dead_at}
-use Rattle.jv_volume.specs.Slices.{IsUnknown, listed, named_by, next_slice, records_naming}
-use Rattle.jv_volume.specs.Whole.{is_of_slices, Quiet}
-use Rattle.jv_volume.proofs.QuietLaws.{sum-retain_keys}
-use Rattle.jv_contents.specs.Bytes.{Told, spot_byte, bytes_of}
+use Rattle.jv_model.specs.FiniteMap.{get}
+use Rattle.jv_model.specs.rows.RowPlaces.{counters_key}
+use Rattle.jv_volume.specs.TypedRows.{Rows}
+use Rattle.jv_volume.specs.Views.{lists_of, slice_row_at}
+use Rattle.jv_volume.specs.Slices.{IsUnknown, next_slice}
+use Rattle.jv_volume.specs.Whole.{is_of_slices, Quiet, SlicesStay}
+use Rattle.jv_volume.proofs.QuietLaws.{sum-stay, named_by-stay, slice_row-stay, dead-stay, lists_of-stay}
+use Rattle.jv_contents.specs.Bytes.{KnownBytes, spot_byte, bytes_of}
 use Rattle.jv_contents.specs.Blocks.{Blocks, Grows, HasBlocks, AreBelow}
 use Rattle.jv_contents.specs.Flights.{Flight, InFlight}
-use Rattle.jv_contents.specs.Stays.{SlicesStay}
 use Rattle.jv_contents.specs.Counts.{HasDied, KeepsOthers, record_count}
 use Rattle.jv_contents.proofs.PlaceLaws.{place_in-same}
 use Rattle.jv_contents.proofs.FlightLaws.{flies-still}
 use Rattle.jv_contents.proofs.BlockLaws.{has_blocks-still, below-rows}
-
-abbrev is_list_key : RowKey → Bool
-is_list_key key = key.tab == 4
 
 -- ---- changes that leave lists and slices
 
@@ -39,56 +32,24 @@ stay-counters rows after others key is = elim (others key) [
 -- ---- what they keep
 
 module _ (rows after : Rows) (stay : SlicesStay rows after) where
-  kept_lists : retain_keys is_list_key after ≡ retain_keys is_list_key rows
-  kept_lists = same_maps (retain_keys is_list_key after) (retain_keys is_list_key rows) (λ key.
-      get-retain_keys after is_list_key key ∙ by_table key (is_list_key key) refl ∙ sym (get-retain_keys rows is_list_key key))
-    where
-      by_table : (key : RowKey) (b : Bool) → is_list_key key ≡ b → cond b (get after key) None ≡ cond b (get rows key) None
-      by_table key true e = stay key (ap (λ b. b || (key.tab == 5) || (key.tab == 9)) e)
-      by_table key false e = refl
-
-  -- a sum over lists stays
-  pub sum-stay : (f : List Rec → ℕ) → f [] ≡ 0 → sum_over (λ key cell. f (listed key (Some cell))) after ≡ sum_over (λ key cell. f (listed key (Some cell))) rows
-  sum-stay f none =
-      sym (sum-retain_keys row_key (λ key cell. f (listed key (Some cell))) is_list_key nothing after)
-      ∙ ap (sum_over (λ key cell. f (listed key (Some cell)))) kept_lists
-      ∙ sum-retain_keys row_key (λ key cell. f (listed key (Some cell))) is_list_key nothing rows
-    where
-      nothing : (key : RowKey) (cell : Cell) → is_list_key key ≡ false → f (listed key (Some cell)) ≡ 0
-      nothing key cell other = ap (λ b. f (if b then records_in (row_in (Some cell)) else [])) other ∙ none
-
-  pub named_by-stay : (id : ℕ) → named_by after id ≡ named_by rows id
-  unfolding named_by
-  named_by-stay id = sum-stay (records_naming id) refl
-
   pub record_count-stay : record_count after ≡ record_count rows
   unfolding record_count
-  record_count-stay = sum-stay length refl
-
-  pub slice_row-stay : (id : ℕ) → slice_row_at after id ≡ slice_row_at rows id
-  slice_row-stay id = ap (λ c. slice_in (row_in c)) (stay (slice_key id) refl)
-
-  pub dead-stay : (id : ℕ) → dead_at after id ≡ dead_at rows id
-  dead-stay id = ap (λ c. dead_in (row_in c)) (stay (dead_key id) refl)
+  record_count-stay = sum-stay rows after stay length refl
 
   pub unknown-stay : (id : ℕ) → IsUnknown rows id → IsUnknown after id
   unknown-stay id u = record {
-    unnamed = named_by-stay id ∙ u.unnamed;
-    no_row = slice_row-stay id ∙ u.no_row;
-    not_dead = dead-stay id ∙ u.not_dead;
+    unnamed = named_by-stay rows after stay id ∙ u.unnamed;
+    no_row = slice_row-stay rows after stay id ∙ u.no_row;
+    not_dead = dead-stay rows after stay id ∙ u.not_dead;
   }
 
   -- what lists show stays
-  pub lists_of-stay : (inode window : ℕ) → lists_of after inode window ≡ lists_of rows inode window
-  unfolding lists_of
-  lists_of-stay inode window = ap (λ c. if nat_lt window (2 ^ 32) then records_in (row_in c) else []) (stay (list_key inode window) refl)
-
-  pub bytes-stay : (told : Told) (inode p : ℕ) → bytes_of told after inode p ≡ bytes_of told rows inode p
-  bytes-stay told inode p = ap (spot_byte told) (place_in-same (lists_of after inode) (lists_of rows inode) (λ w. lists_of-stay inode w) p)
+  pub bytes-stay : (known_bytes : KnownBytes) (inode p : ℕ) → bytes_of known_bytes after inode p ≡ bytes_of known_bytes rows inode p
+  bytes-stay known_bytes inode p = ap (spot_byte known_bytes) (place_in-same (lists_of after inode) (lists_of rows inode) (λ w. lists_of-stay rows after stay inode w) p)
 
   -- and so do all blocks, blocks that are below the next number, and flights, also where the next number is a greater one
   pub has_blocks-stay : (block : ℕ) (blocks : Blocks) → HasBlocks block rows blocks → HasBlocks block after blocks
-  has_blocks-stay block blocks has = has_blocks-still block rows after blocks slice_row-stay has
+  has_blocks-stay block blocks has = has_blocks-still block rows after blocks (slice_row-stay rows after stay) has
 
   pub flies-stay : (block : ℕ) (blocks blocks' : Blocks) (f : Flight) → InFlight block rows blocks f → next_slice rows ≤ next_slice after
       → Grows blocks blocks' → ((b : BlockId) (bytes : List ℕ) → b.id ≡ f.id → blocks' b ≡ Some bytes → blocks b ≡ Some bytes)
@@ -100,9 +61,9 @@ module _ (rows after : Rows) (stay : SlicesStay rows after) where
   keeps-stay own more next = record {
     next = next;
     unknown = λ id some apart u. unknown-stay id u;
-    had = λ id slice apart there. record { slice = slice; is = sym (slice_row-stay id) ∙ there; size_is = refl };
-    dies = λ id slice there gone. (let same = slice_row-stay id in absurd (cc));
-    dead = λ id dead there. dead-stay id ∙ there;
+    had = λ id slice apart there. record { slice = slice; is = sym (slice_row-stay rows after stay id) ∙ there; size_is = refl };
+    dies = λ id slice there gone. (let same = slice_row-stay rows after stay id in absurd (cc));
+    dead = λ id dead there. dead-stay rows after stay id ∙ there;
     records = (let same = record_count-stay in omega (arith, same));
   }
 

@@ -6,12 +6,12 @@ use Rattle.jv_model.specs.declared.limits.TheConstants.{WINDOW}
 use Rattle.jv_model.specs.declared.slice.Rec.{Rec}
 use Rattle.jv_model.specs.declared.slice.Spot.TheVariants.{Zero, Slice}
 use Rattle.jv_model.specs.declared.slice.Piece.{Piece}
-use Rattle.jv_model.specs.blocks.Slices.{stored_place}
+use Rattle.jv_model.specs.blocks.Slices.{stored_place, shown}
 use Rattle.jv_volume.specs.Slices.{place_in}
-use Rattle.jv_contents.specs.Places.{Lists, with_list, shown, put_over, zero_record, cut_list}
+use Rattle.jv_contents.specs.Places.{Lists, with_list, put_over, zero_record, cut_list}
 use Rattle.jv_contents.specs.Fills.{records_of_plan}
 use Rattle.jv_contents.specs.Bytes.{spot_byte}
-use Rattle.jv_contents.specs.Blocks.{Blocks, told_by}
+use Rattle.jv_contents.specs.Blocks.{Blocks, known_by}
 
 -- on an `unfolding` line: computes the places of what is written out
 unfoldable pub places_on_literals : ⊤
@@ -73,7 +73,7 @@ abbrev pub stored : Blocks
 stored b = (if b.id == 7 && b.index == 0 && b.size == 4 then Some (70 ∷ 71 ∷ 72 ∷ 73 ∷ [])
     else if b.id == 7 && b.index == 1 && b.size == 1 then Some (74 ∷ []) else None)
 
-pub bytes : (spot_byte (told_by 4 stored) (place_in written 3) ≡ 70) × (spot_byte (told_by 4 stored) (place_in written 6) ≡ 73)
-    × (spot_byte (told_by 4 stored) (place_in written 7) ≡ 74) × (spot_byte (told_by 4 stored) (place_in written 9) ≡ 0)
+pub bytes : (spot_byte (known_by 4 stored) (place_in written 3) ≡ 70) × (spot_byte (known_by 4 stored) (place_in written 6) ≡ 73)
+    × (spot_byte (known_by 4 stored) (place_in written 7) ≡ 74) × (spot_byte (known_by 4 stored) (place_in written 9) ≡ 0)
 unfolding places_on_literals
 bytes = (refl, refl, refl, refl)

@@ -8,9 +8,9 @@ use Rattle.jv_model.specs.declared.limits.TheConstants.{WINDOW}
 use Rattle.jv_model.specs.declared.slice.Rec.{Rec}
 use Rattle.jv_model.specs.declared.slice.Spot.{Spot}
 use Rattle.jv_model.specs.declared.slice.Spot.TheVariants.{Zero}
-use Rattle.jv_model.specs.blocks.Slices.{IsRecord, is_part, covers, visible, place_by, stored_place}
+use Rattle.jv_model.specs.blocks.Slices.{IsRecord, is_part, covers, visible, place_by, stored_place, shown}
 use Rattle.jv_volume.specs.Slices.{place_in}
-use Rattle.jv_contents.specs.Places.{Lists, with_list, shown, put_over, cut_at, zero_record, cut_list}
+use Rattle.jv_contents.specs.Places.{Lists, with_list, put_over, cut_at, zero_record, cut_list}
 use Rattle.jv_volume.proofs.FilesLaws.{nothing_shows}
 
 -- a record has a position

@@ -3,6 +3,7 @@ use Rattle.std.proofs.Common.{◌≡◌, ◌≢◌, ℕ, ◌+◌, ◌<◌, ◌�
 use Rattle.std.specs.List.{AllByRecursion}
 use Rattle.std.proofs.lemmas.Bool.{cases_eq}
 use Rattle.std.proofs.lemmas.Option.{same_Some}
+use Rattle.jv_model.specs.declared.tables.TheConstants.{TABLE_OF_LISTS}
 use Rattle.jv_model.specs.declared.limits.TheConstants.{FILE_END, FULL_COUNT, WINDOW}
 use Rattle.jv_model.specs.declared.row.RowKey.{RowKey}
 use Rattle.jv_model.specs.declared.row.Node.{Node as NodeRow}
@@ -115,7 +116,7 @@ pub record FileGoes (inode : ℕ) (rows after : Rows) : Type 0 where
   pub own : (p : ℕ) → node.length ≤ p → place_in (lists_of after inode) p ≡ Zero
   pub others : (i : ℕ) → i ≢ inode → node_row_at after i ≡ node_row_at rows i
   pub places : (i : ℕ) → i ≢ inode → (p : ℕ) → place_in (lists_of after i) p ≡ place_in (lists_of rows i) p
-  pub lists : (key : RowKey) → key.tab ≡ 4 → get after key ≢ None → (get rows key ≢ None) ⊎ (key.a ≡ inode)
+  pub lists : (key : RowKey) → key.tab ≡ TABLE_OF_LISTS → get after key ≢ None → (get rows key ≢ None) ⊎ (key.a ≡ inode)
   pub dropped : (i : ℕ) → dropped_at after i ≡ dropped_at rows i
   pub next : (counters_of after).inode ≡ (counters_of rows).inode
 

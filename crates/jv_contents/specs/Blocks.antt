@@ -6,7 +6,7 @@ use Rattle.jv_model.specs.blocks.Slices.{block_at, block_count}
 use Rattle.jv_volume.specs.TypedRows.{Rows}
 use Rattle.jv_volume.specs.Views.{slice_row_at}
 use Rattle.jv_volume.specs.Slices.{next_slice}
-use Rattle.jv_contents.specs.Bytes.{Told}
+use Rattle.jv_contents.specs.Bytes.{KnownBytes}
 
 -- the bytes of blocks, where they are there
 abbrev pub Blocks : Type 0
@@ -17,8 +17,8 @@ abbrev pub Grows : Blocks → Blocks → Type 0
 Grows before after = (b : BlockId) (bytes : List ℕ) → before b ≡ Some bytes → after b ≡ Some bytes
 
 -- the bytes that slices have by blocks of this length
-abbrev pub told_by : ℕ → Blocks → Told
-told_by block blocks id size at = slice_index (unwrap_or (blocks (block_at id size block (at / block))) []) (at % block)
+abbrev pub known_by : ℕ → Blocks → KnownBytes
+known_by block blocks id size at = slice_index (unwrap_or (blocks (block_at id size block (at / block))) []) (at % block)
 
 -- a block is there, and has the length of its name
 pub record IsThere (blocks : Blocks) (b : BlockId) : Type 0 where

@@ -9,18 +9,18 @@ use Rattle.jv_volume.specs.Slices.{place_in}
 use Rattle.jv_volume.specs.TreeOf.{tree_of}
 
 -- the byte at a place of a slice, by the slice's number, its size, and the place
-abbrev pub Told : Type 0
-Told = ℕ → ℕ → ℕ → ℕ
+abbrev pub KnownBytes : Type 0
+KnownBytes = ℕ → ℕ → ℕ → ℕ
 
 -- the byte at a place
-abbrev pub spot_byte : Told → Spot → ℕ
-spot_byte told Zero = 0
-spot_byte told (Slice id size at) = told id size at
+abbrev pub spot_byte : KnownBytes → Spot → ℕ
+spot_byte known_bytes Zero = 0
+spot_byte known_bytes (Slice id size at) = known_bytes id size at
 
 -- the bytes that rows have, by inode and position
-abbrev pub bytes_of : Told → Rows → ℕ → ℕ → ℕ
-bytes_of told rows inode position = spot_byte told (place_in (lists_of rows inode) position)
+abbrev pub bytes_of : KnownBytes → Rows → ℕ → ℕ → ℕ
+bytes_of known_bytes rows inode position = spot_byte known_bytes (place_in (lists_of rows inode) position)
 
 -- the tree of rows, with the bytes of files
-abbrev pub tree_with : Told → Rows → Tree
-tree_with told rows = tree_of (bytes_of told rows) rows
+abbrev pub tree_with : KnownBytes → Rows → Tree
+tree_with known_bytes rows = tree_of (bytes_of known_bytes rows) rows

@@ -4,8 +4,7 @@ use Rattle.jv_model.specs.declared.slice.Rec.{Rec}
 use Rattle.jv_model.specs.declared.slice.Spot.{Spot}
 use Rattle.jv_model.specs.declared.slice.Spot.TheVariants.{Zero, Slice}
 use Rattle.jv_model.specs.declared.slice.Piece.{Piece}
-use Rattle.jv_model.specs.blocks.Slices.{IsRecord}
-use Rattle.jv_contents.specs.Places.{shown}
+use Rattle.jv_model.specs.blocks.Slices.{IsRecord, shown}
 
 -- Records that follow one another from a position of a window to another, and show these places there.
 abbrev pub Fills : (ℕ → Spot) → ℕ → ℕ → List Rec → Type 0

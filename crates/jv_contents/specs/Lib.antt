@@ -5,4 +5,3 @@ pub mod Bytes
 pub mod Counts
 pub mod Blocks
 pub mod Flights
-pub mod Stays

@@ -1,10 +1,11 @@
 -- Where the bytes of a file lie: each position has a place, by the lists of the file's windows (JuiceFS, Internals: chunks, slices
 -- and blocks). Laws on bytes are equations between functions from position to place.
-use Rattle.std.specs.Prelude.{ℕ, ◌+◌, ◌-◌, ◌*◌, ◌&&◌, ◌==◌, nat_le, nat_lt, if◌then◌else◌, List, [], ◌∷◌, ◌++◌}
+use Rattle.std.specs.Prelude.{ℕ, ◌+◌, ◌-◌, ◌*◌, ◌==◌, nat_le, nat_lt, if◌then◌else◌, List, [], ◌∷◌, ◌++◌}
 use Rattle.jv_model.specs.declared.limits.TheConstants.{WINDOW}
 use Rattle.jv_model.specs.declared.slice.Rec.{Rec}
 use Rattle.jv_model.specs.declared.slice.Spot.{Spot}
-use Rattle.jv_model.specs.declared.slice.Spot.TheVariants.{Zero, Slice}
+use Rattle.jv_model.specs.declared.slice.Spot.TheVariants.{Zero}
+use Rattle.jv_model.specs.Ranges.{in_range}
 
 -- the lists of a file, by window
 abbrev pub Lists : Type 0
@@ -14,13 +15,9 @@ Lists = ℕ → List Rec
 abbrev pub with_list : ℕ → List Rec → Lists → Lists
 with_list window records lists w = (if w == window then records else lists w)
 
--- the place that a record shows at a distance from its first position
-abbrev pub shown : Rec → ℕ → Spot
-shown r distance = (if r.id == 0 then Zero else Slice r.id r.size (r.off + distance))
-
 -- places with others over a range, each by its distance from there
 abbrev pub put_over : (ℕ → Spot) → ℕ → ℕ → (ℕ → Spot) → ℕ → Spot
-put_over places from len new position = (if nat_le from position && nat_lt position (from + len) then new (position - from) else places position)
+put_over places from len new position = (if in_range from len position then new (position - from) else places position)
 
 -- places up to a length
 abbrev pub cut_at : (ℕ → Spot) → ℕ → ℕ → Spot

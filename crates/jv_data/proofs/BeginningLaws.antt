@@ -11,19 +11,19 @@ use Rattle.jv_model.specs.FiniteMap.{get}
 use Rattle.jv_model.specs.rows.RowKeys.{RowMap}
 use Rattle.jv_model.specs.rows.RowPlaces.{node_key}
 use Rattle.jv_model.specs.tree.Attempt.{◌>>=◌, require}
-use Rattle.jv_model.specs.tree.FileBytes.{committed}
-use Rattle.jv_model.specs.tree.Changes.{empty_content, overwritten, with_content}
+use Rattle.jv_model.specs.tree.FileBytes.{committed, length_seen, commit_of}
+use Rattle.jv_model.specs.tree.Changes.{empty_content, overwritten, with_content, content_of}
 use Rattle.jv_model.specs.tree.Tree.{Tree, Content, content_at, fits}
 use Rattle.jv_outside.specs.declared.batch.Change.{Change}
 use Rattle.jv_outside.specs.Store.{Store}
 use Rattle.jv_rows.proofs.TransactionLaws.{Past, past-start, past-as, past-looks, past-ends, of_known}
 use Rattle.jv_volume.specs.TypedRows.{typed}
-use Rattle.jv_volume.specs.TreeOf.{content_of, tree_of}
+use Rattle.jv_volume.specs.TreeOf.{tree_of}
 use Rattle.jv_volume.specs.Views.{row_in, node_in, node_row_at}
 use Rattle.jv_volume.specs.Whole.{Whole}
 use Rattle.jv_volume.proofs.StoredLaws.{found_node, whole-stored}
 use Rattle.jv_rows.specs.Drafts.{drafted}
-use Rattle.jv_data.specs.Committing.{HasFile, Begun, BeginsCommit, commit_of, length_seen}
+use Rattle.jv_data.specs.Committing.{HasFile, Begun, BeginsCommit}
 use Rattle.jv_data.specs.Resizing.{AreSized, ResizesFile}
 use Rattle.jv_data.specs.Truncating.{LeaveSlices}
 

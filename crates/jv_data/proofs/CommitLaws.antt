@@ -8,7 +8,7 @@ use Rattle.jv_model.specs.declared.fault.TxFault.{TxFault}
 use Rattle.jv_model.specs.declared.fault.TxFault.TheVariants.{Refused, Moved, Rows as OfRows}
 use Rattle.jv_model.specs.declared.lifetimes.TheConstants.{UPLOAD_LIFE}
 use Rattle.jv_model.specs.tree.Attempt.{◌>>=◌, require}
-use Rattle.jv_model.specs.tree.FileBytes.{committed}
+use Rattle.jv_model.specs.tree.FileBytes.{committed, length_seen, commit_of}
 use Rattle.jv_model.specs.tree.Tree.{Tree, fits}
 use Rattle.jv_outside.specs.declared.batch.Change.{Change}
 use Rattle.jv_outside.specs.Store.{Store}
@@ -16,7 +16,7 @@ use Rattle.jv_rows.specs.Transactions.{Agrees, Looks}
 use Rattle.jv_rows.proofs.TransactionLaws.{Past, Fails, past-ends, past-fails}
 use Rattle.jv_volume.specs.TypedRows.{typed}
 use Rattle.jv_volume.specs.TreeOf.{tree_of}
-use Rattle.jv_data.specs.Committing.{BeginsCommit, commit_of, length_seen}
+use Rattle.jv_data.specs.Committing.{BeginsCommit}
 
 -- ---- a commit that began
 

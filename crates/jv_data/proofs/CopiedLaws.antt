@@ -2,6 +2,7 @@
 use Rattle.std.proofs.Common.{◌≡◌, ◌≢◌, ℕ, ◌+◌, ◌<◌, ◌≤◌, ◌^◌, ◌⊎◌, inl, inr, true, false, List, [], length, None, Some, refl, sym, ap, subst, ◌∙◌, arith}
 use Rattle.std.specs.Prelude.{◌==◌, ◌||◌, max, nat_lt, if◌then◌else◌}
 use Rattle.std.proofs.lemmas.Bool.{cases_eq, eq-eqb, ne_eqb, eqb-true, or_parts}
+use Rattle.jv_model.specs.declared.tables.TheConstants.{TABLE_OF_LISTS, TABLE_OF_SLICES, TABLE_OF_DEAD}
 use Rattle.jv_model.specs.declared.limits.TheConstants.{FILE_END, FULL_COUNT}
 use Rattle.jv_model.specs.declared.row.Counters.{Counters}
 use Rattle.jv_model.specs.declared.row.Node.{Node as NodeRow}
@@ -12,24 +13,23 @@ use Rattle.jv_model.specs.declared.slice.Spot.{Spot}
 use Rattle.jv_model.specs.declared.slice.Spot.TheVariants.{Zero, Slice}
 use Rattle.jv_model.specs.FiniteMap.{get}
 use Rattle.jv_model.specs.rows.RowPlaces.{list_key}
-use Rattle.jv_model.specs.tree.Changes.{copied_over, with_content}
+use Rattle.jv_model.specs.tree.Changes.{copied_over, with_content, content_of}
 use Rattle.jv_rows.specs.Counts.{IsFull, Adjusted}
 use Rattle.jv_volume.specs.TypedRows.{Rows}
 use Rattle.jv_volume.specs.Views.{row_in, records_in, node_row_at, counters_at, lists_of, slice_row_at}
-use Rattle.jv_volume.specs.TreeOf.{content_of}
 use Rattle.jv_volume.specs.Slices.{records_naming, place_in, next_slice, WholeSlices}
 use Rattle.jv_volume.specs.Whole.{Quiet, Whole, is_of_slices}
-use Rattle.jv_volume.proofs.QuietLaws.{quiet-slices, quiet-lists_of}
-use Rattle.jv_contents.specs.Bytes.{Told, bytes_of, tree_with}
+use Rattle.jv_volume.proofs.QuietLaws.{quiet-slices, lists_of-stay, slice_row-stay}
+use Rattle.jv_contents.specs.Bytes.{KnownBytes, bytes_of, tree_with}
 use Rattle.jv_contents.specs.Counts.{HadSize, KeepsOthers, record_count}
 use Rattle.jv_contents.specs.Places.{put_over}
 use Rattle.jv_contents.proofs.BlockLaws.{place_has_row}
 use Rattle.jv_contents.proofs.ByteLaws.{past-put_over}
 use Rattle.jv_contents.proofs.CountLaws.{ListsMove, move-none, others-adjusted, go-adjusted, lives-added, full-many}
-use Rattle.jv_contents.proofs.KeepLaws.{record_count-stay, slice_row-stay}
+use Rattle.jv_contents.proofs.KeepLaws.{record_count-stay}
 use Rattle.jv_contents.proofs.PlaceLaws.{place_in-same}
 use Rattle.jv_contents.proofs.WholeLaws.{SlicesGo}
-use Rattle.jv_data.specs.declared.copying.Course.{Course}
+use Rattle.jv_data.specs.declared.copying.CopyCourse.{CopyCourse}
 use Rattle.jv_data.specs.Changing.{may_change}
 use Rattle.jv_data.specs.Copying.{rows_copied, Copying, GetsPieces}
 use Rattle.jv_data.proofs.BesideLaws.{Beside, beside-then}
@@ -39,7 +39,7 @@ use Rattle.jv_data.proofs.RestLaws.{rest-then}
 use Rattle.jv_data.proofs.SameTreeLaws.{beside-adjusted}
 use Rattle.jv_data.proofs.SizedLaws.{sized_rows, quiet-sized}
 
-module _ (rows : Rows) (course : Course) (was : NodeRow) (c : Counters) (now end : ℕ) (whole : Whole rows)
+module _ (rows : Rows) (course : CopyCourse) (was : NodeRow) (c : Counters) (now end : ℕ) (whole : Whole rows)
     (there : node_row_at rows course.target ≡ Some was) (file : was.kind ≡ 1) (counters : counters_at rows ≡ Some c)
     (small : end ≤ FILE_END) (long : max was.length (course.to + course.len) ≡ end)
     (with_parts : Rows) (added : List Rec) (copying : Copying course course.len rows (sized_rows rows course.target was c now end whole there file counters) with_parts added) where
@@ -53,7 +53,7 @@ module _ (rows : Rows) (course : Course) (was : NodeRow) (c : Counters) (now end
   quiet = quiet-sized rows course.target was c now end whole there file counters
 
   list_same : (i u : ℕ) → lists_of middle i u ≡ lists_of rows i u
-  list_same i u = quiet-lists_of rows middle quiet i u
+  list_same i u = lists_of-stay rows middle quiet.apart i u
 
   within : course.to + course.len ≤ FILE_END
   within = omega (arith, long, small)
@@ -88,10 +88,10 @@ module _ (rows : Rows) (course : Course) (was : NodeRow) (c : Counters) (now end
     pub lives-copied : (id : ℕ) (slice : SliceRow) → slice_row_at rows id ≡ Some slice → slice_row_at last id ≡ None → ⊥
     lives-copied id slice here none = lives-added added due with_parts last adjusted id slice (move.slices id ∙ slice_row-stay rows middle quiet.apart id ∙ here) none
 
-    get_last : (key : RowKey) → (key.tab == 4) ≡ true → get last key ≡ get (rows_copied rows course parts middle) key
+    get_last : (key : RowKey) → (key.tab == TABLE_OF_LISTS) ≡ true → get last key ≡ get (rows_copied rows course parts middle) key
     get_last key four =
-        let tab = eqb-true key.tab 4 four in
-        others-adjusted [] added due with_parts last adjusted key (ne_eqb key.tab 5 (λ e. omega (arith, tab, e))) (ne_eqb key.tab 9 (λ e. omega (arith, tab, e)))
+        let tab = eqb-true key.tab TABLE_OF_LISTS four in
+        others-adjusted [] added due with_parts last adjusted key (ne_eqb key.tab TABLE_OF_SLICES (λ e. omega (arith, tab, e))) (ne_eqb key.tab TABLE_OF_DEAD (λ e. omega (arith, tab, e)))
         ∙ ap (λ (x : Rows). get x key) copying.is
 
     lists_last : (i u : ℕ) → lists_of last i u ≡ lists_of (rows_copied rows course parts middle) i u
@@ -134,12 +134,12 @@ module _ (rows : Rows) (course : Course) (was : NodeRow) (c : Counters) (now end
     -- all rows that it may not change are as before
     pub rest-copied : (key : RowKey) → may_change course.target key ≡ false → get last key ≡ get rows key
     rest-copied = rest-then rows course.target was c now end whole there file counters last rest
-        (λ key four apart. get_last key (eq-eqb key.tab 4 four) ∙ get-copied-file rows course middle parts key apart)
+        (λ key four apart. get_last key (eq-eqb key.tab TABLE_OF_LISTS four) ∙ get-copied-file rows course middle parts key apart)
 
-    owners : (key : RowKey) → key.tab ≡ 4 → get last key ≢ None → (get rows key ≢ None) ⊎ (key.a ≡ course.target)
+    owners : (key : RowKey) → key.tab ≡ TABLE_OF_LISTS → get last key ≢ None → (get rows key ≢ None) ⊎ (key.a ≡ course.target)
     owners key four is = elim (cases_eq key.a course.target) [
       | inl same ↦ inr same
-      | inr apart ↦ inl (λ none. is (get_last key (eq-eqb key.tab 4 four) ∙ get-copied-file rows course middle parts key apart
+      | inr apart ↦ inl (λ none. is (get_last key (eq-eqb key.tab TABLE_OF_LISTS four) ∙ get-copied-file rows course middle parts key apart
           ∙ quiet.apart key (ap is_of_slices four) ∙ none))
     ]
 
@@ -165,9 +165,9 @@ module _ (rows : Rows) (course : Course) (was : NodeRow) (c : Counters) (now end
       others-copied = others-changed rows course.target was c now end whole there file counters small given more last change
 
     -- the tree, where the source is a file
-    pub tree-copied_lists : (told : Told) (source : NodeRow) → node_row_at rows course.source ≡ Some source → source.kind ≡ 1
-        → tree_with told last ≡ with_content (tree_with told rows) now course.target (copied_over (content_of source.length (bytes_of told rows course.source)) course.from
-        (content_of was.length (bytes_of told rows course.target)) course.to course.len)
-    tree-copied_lists told source source_there source_file =
-        tree-copied rows course.target was c now end whole there file counters more last change told source.length (place_in (lists_of rows course.source))
+    pub tree-copied_lists : (known_bytes : KnownBytes) (source : NodeRow) → node_row_at rows course.source ≡ Some source → source.kind ≡ 1
+        → tree_with known_bytes last ≡ with_content (tree_with known_bytes rows) now course.target (copied_over (content_of source.length (bytes_of known_bytes rows course.source)) course.from
+        (content_of was.length (bytes_of known_bytes rows course.target)) course.to course.len)
+    tree-copied_lists known_bytes source source_there source_file =
+        tree-copied rows course.target was c now end whole there file counters more last change known_bytes source.length (place_in (lists_of rows course.source))
         (whole.files.past course.source source source_there source_file) course.from course.to course.len long shows

@@ -3,11 +3,11 @@ use Rattle.std.proofs.Common.{◌≡◌, ◌≢◌, ℕ, ◌+◌, ◌-◌, ◌<�
 use Rattle.std.specs.Prelude.{◌==◌, ◌&&◌, not, min, max, nat_le, is_some, IfErr, IsTrue}
 use Rattle.std.specs.Option.{option_map}
 use Rattle.std.proofs.lemmas.Option.{same_Some}
-use Rattle.std.proofs.lemmas.Bool.{and_from, or_right, le-leb, leb-true, eqb-false, ne_eqb}
+use Rattle.std.proofs.lemmas.Bool.{and_from, leb-true, eqb-false, ne_eqb}
 use Rattle.jv_model.specs.declared.fault.Down.{Down}
 use Rattle.jv_model.specs.declared.fault.Fault.{Fault}
 use Rattle.jv_model.specs.declared.fault.Fault.TheVariants.{FileTooLarge, Invalid, NoSpace, Stale}
-use Rattle.jv_model.specs.declared.fault.Gone.TheVariants.{Session, Node as GoneNode}
+use Rattle.jv_model.specs.declared.fault.Gone.TheVariants.{Node as GoneNode}
 use Rattle.jv_model.specs.declared.fault.RowFault.TheVariants.{Bad, Failed, Memory}
 use Rattle.jv_model.specs.declared.fault.TxFault.{TxFault}
 use Rattle.jv_model.specs.declared.fault.TxFault.TheVariants.{Refused, Moved, Rows as OfRows}
@@ -24,10 +24,10 @@ use Rattle.jv_model.specs.rows.RowFaults.{row_fault}
 use Rattle.jv_model.specs.rows.RowKeys.{RowMap}
 use Rattle.jv_model.specs.rows.RowPlaces.{node_key, slice_key}
 use Rattle.jv_model.specs.tree.Attempt.{◌>>=◌, require, some_or}
-use Rattle.jv_model.specs.tree.Caller.{Caller, Outcome, answered}
-use Rattle.jv_model.specs.tree.Changes.{copied_over, with_content}
-use Rattle.jv_model.specs.tree.FileBytes.{copied, overlap, copy}
-use Rattle.jv_model.specs.tree.Tree.{Tree, Content, content_at, fits, sum_fits, space_limit, used_space, inode_limit, used_inodes}
+use Rattle.jv_model.specs.tree.Caller.{Caller, Outcome, answered, session_there}
+use Rattle.jv_model.specs.tree.Changes.{copied_over, with_content, content_of}
+use Rattle.jv_model.specs.tree.FileBytes.{copied, overlap, copy, length_seen}
+use Rattle.jv_model.specs.tree.Tree.{Tree, Content, content_at, fits, space_limit, used_space, inode_limit, used_inodes}
 use Rattle.jv_outside.specs.declared.batch.Change.{Change}
 use Rattle.jv_outside.specs.Rows.{applied}
 use Rattle.jv_outside.specs.Store.{Store, Commits}
@@ -35,16 +35,16 @@ use Rattle.jv_rows.specs.Counts.{is_named, IsFull as CountIsFull, FailsToRecount
 use Rattle.jv_rows.specs.Drafts.{drafted, IsNoRow}
 use Rattle.jv_rows.specs.Transactions.{BadFault, IsFor, Looks, TransactionCounts}
 use Rattle.jv_rows.proofs.TransactionLaws.{Past, if_known, of_known, past-start, past-as, past-calm, past-ends, past-fails, past-looks, past-refuses, past-stops, fails-commit}
-use Rattle.jv_volume.specs.TreeOf.{content_of, tree_of}
+use Rattle.jv_volume.specs.TreeOf.{tree_of}
 use Rattle.jv_volume.specs.TypedRows.{Rows, typed}
 use Rattle.jv_volume.specs.Views.{row_in, node_in, node_row_at, lists_of}
 use Rattle.jv_volume.specs.Slices.{records_naming}
 use Rattle.jv_volume.specs.Whole.{Whole}
-use Rattle.jv_contents.specs.Bytes.{Told, bytes_of, tree_with}
+use Rattle.jv_contents.specs.Bytes.{KnownBytes, bytes_of, tree_with}
 use Rattle.jv_contents.proofs.KeepLaws.{keeps-stay}
-use Rattle.jv_data.specs.declared.copying.Course.{Course}
-use Rattle.jv_data.specs.Changing.{Makes, AnyTold, IsCrowded, IsFull, Changed, LandsChanged, Changes, count_in, may_change, KeepsRest}
-use Rattle.jv_data.specs.Committing.{HasFile, length_seen}
+use Rattle.jv_data.specs.declared.copying.CopyCourse.{CopyCourse}
+use Rattle.jv_data.specs.Changing.{Makes, AnyBytes, IsCrowded, IsFull, Changed, LandsChanged, Changes, count_in, may_change, KeepsRest}
+use Rattle.jv_data.specs.Committing.{HasFile}
 use Rattle.jv_data.specs.Copying.{Copying, CopiesLists, GetsPieces, AddsPieces}
 use Rattle.jv_data.specs.Resizing.{ResizesFile, AreSized}
 use Rattle.jv_data.specs.Truncating.{HasSlice, HaveSlices}
@@ -56,6 +56,7 @@ use Rattle.jv_data.proofs.RefusedLaws.{changes-refused}
 use Rattle.jv_data.proofs.RestLaws.{of_left}
 use Rattle.jv_data.proofs.SizedLaws.{sized_rows}
 use Rattle.jv_data.proofs.TruncateLaws.{has_named}
+use Rattle.jv_data.proofs.CountersLaws.{fits-same}
 
 -- ---- the model's copy, by its steps
 
@@ -71,10 +72,8 @@ two_files true (Some source) (Some target) f g h rest = refl
 
 -- a tree fits in place of itself
 fits_same : (t : Tree) → fits t t ≡ true
-fits_same t = and_from _ _ (same (space_limit t.setting) (used_space t)) (same (inode_limit t.setting) (used_inodes t))
-  where
-    same : (limit n : ℕ) → sum_fits limit n n ≡ true
-    same limit n = or_right (nat_le n limit) (nat_le n n) (le-leb n n (omega arith))
+fits_same t =
+    and_from _ _ (fits-same (space_limit t.setting) (used_space t)) (fits-same (inode_limit t.setting) (used_inodes t))
 
 -- the bytes of a file that a range of a file is copied to
 abbrev bytes_copied : Option Content → Option Content → (from to n : ℕ) → ℕ → ℕ
@@ -122,7 +121,7 @@ module _ (sid now src dst from to len : ℕ) (due : Setting → ℕ) where
   -- of two files that a session sees
   abbrev pub act : Tree → Result Outcome Fault
   act t = do
-    _ ← require (is_some (get t.sessions sid)) (Stale (Session sid))
+    _ ← session_there t sid
     source ← some_or (content_at t src) (Stale (GoneNode src))
     _ ← some_or (content_at t dst) (Stale (GoneNode dst))
     starting (min len (source.length - from)) t
@@ -131,7 +130,7 @@ module _ (sid now src dst from to len : ℕ) (due : Setting → ℕ) where
   with_target t n = length_seen sid dst t >>= (λ m. starting (min len (n - from)) t)
 
   abbrev pub Ends : Store → Store → Result ℕ TxFault → Type 0
-  Ends before after result = Changes {A = ℕ} (makes (count_in result)) AnyTold (IsCrowded FILE_END) before after result (λ n. Count n) act
+  Ends before after result = Changes {A = ℕ} (makes (count_in result)) AnyBytes (IsCrowded FILE_END) before after result (λ n. Count n) act
 
   ends-refused : (before after : Store) (fault : TxFault) → Looks {A = Outcome} before after (Err fault) act → Ends before after (Err fault)
   ends-refused before after fault l = changes-refused {A = ℕ} (makes 0) (IsCrowded FILE_END) (λ n. Count n) before after act fault l
@@ -203,16 +202,16 @@ module _ (sid now src dst from to len : ℕ) (due : Setting → ℕ) where
             opened_at = past_within.opened_at;
             counts = past_within.calm;
             undone = tt;
-            lands = λ known is whole told ready. record {
+            lands = λ known is whole known_bytes ready. record {
               left = known;
               is = past_within.rows_are ∙ is;
               whole = whole;
               others = keeps-stay (typed known) (typed known) (λ key of. refl) 0 0 refl;
               size = λ slice here. (let no = whole.slices.none in absurd (cc));
               dies = λ setting set id slice here gone. absurd (cc);
-              model = past_within.goes_on known is whole (bytes_of told (typed known))
-                  ∙ ap (λ m. fitting m (tree_with told (typed known))) none
-                  ∙ ap (λ b. require b NoSpace >>= (λ unit. answered (tree_with told (typed known)) (Count 0))) (fits_same (tree_with told (typed known)));
+              model = past_within.goes_on known is whole (bytes_of known_bytes (typed known))
+                  ∙ ap (λ m. fitting m (tree_with known_bytes (typed known))) none
+                  ∙ ap (λ b. require b NoSpace >>= (λ unit. answered (tree_with known_bytes (typed known)) (Count 0))) (fits_same (tree_with known_bytes (typed known)));
             };
             bad = tt;
           }
@@ -231,7 +230,7 @@ module _ (sid now src dst from to len : ℕ) (due : Setting → ℕ) where
             abbrev length : ℕ
             length = max target.length (to + n)
 
-            abbrev course : Course
+            abbrev course : CopyCourse
             course = record { source = src; from = from; target = dst; to = to; len = n }
 
             -- the content that the target gets
@@ -327,9 +326,9 @@ module _ (sid now src dst from to len : ℕ) (due : Setting → ℕ) where
                   y : Copying course n (typed known) sized_known (drafted d2 known) added
                   y = subst (λ (rows : Rows). Copying course n (typed known) rows (drafted d2 known) added) s.is (z.copied known (at_sized known is))
 
-                  crowded : (told : Told) (fault : Fault) → FailsToRecount [] added d2 lists.rows (Refused fault)
-                      → IsFull (IsCrowded FILE_END) (typed known) fault (act (tree_with told (typed known)))
-                  crowded told fault f = record {
+                  crowded : (known_bytes : KnownBytes) (fault : Fault) → FailsToRecount [] added d2 lists.rows (Refused fault)
+                      → IsFull (IsCrowded FILE_END) (typed known) fault (act (tree_with known_bytes (typed known)))
+                  crowded known_bytes fault f = record {
                     fault_is = f.why.0;
                     full =
                         (let p = named_is added f.id f.named in
@@ -339,17 +338,17 @@ module _ (sid now src dst from to len : ℕ) (due : Setting → ℕ) where
                         let end = leb-true (to + n) FILE_END within in
                         omega (arith, many, end));
                     otherwise = subst (λ (r : Result Outcome Fault). IfErr r (λ other. other ≡ NoSpace))
-                        (sym (past_lists.goes_on known is whole (bytes_of told (typed known)))) tt;
+                        (sym (past_lists.goes_on known is whole (bytes_of known_bytes (typed known)))) tt;
                   }
 
                 -- counts that didn't follow
                 lands_uncounted : (after : Store) (fault : TxFault) → RefusesAdjust [] added d2 lists.rows fault → (known : RowMap) → before.rows ≡ Some known → Whole (typed known)
-                    → (told : Told) → LandsChanged {A = ℕ} (makes 0) (IsCrowded FILE_END) known after.rows told (λ n. Count n) act (Err fault)
-                lands_uncounted after (Refused fault) f known is whole told = inr (crowded known is whole told fault f)
-                lands_uncounted after (Moved list) f known is whole told = f
-                lands_uncounted after (OfRows (Bad at bad)) f known is whole told = never_bad at bad f known (at_lists known is)
-                lands_uncounted after (OfRows Failed) f known is whole told = tt
-                lands_uncounted after (OfRows Memory) f known is whole told = tt
+                    → (known_bytes : KnownBytes) → LandsChanged {A = ℕ} (makes 0) (IsCrowded FILE_END) known after.rows known_bytes (λ n. Count n) act (Err fault)
+                lands_uncounted after (Refused fault) f known is whole known_bytes = inr (crowded known is whole known_bytes fault f)
+                lands_uncounted after (Moved list) f known is whole known_bytes = f
+                lands_uncounted after (OfRows (Bad at bad)) f known is whole known_bytes = never_bad at bad f known (at_lists known is)
+                lands_uncounted after (OfRows Failed) f known is whole known_bytes = tt
+                lands_uncounted after (OfRows Memory) f known is whole known_bytes = tt
 
                 bad_uncounted : (fault : TxFault) → RefusesAdjust [] added d2 lists.rows fault → (known : RowMap) → before.rows ≡ Some known → BadFault (typed known) fault
                 bad_uncounted (Refused fault) f known is = tt
@@ -363,7 +362,7 @@ module _ (sid now src dst from to len : ℕ) (due : Setting → ℕ) where
                   opened_at = a.opened_at ∙ past_lists.opened_at;
                   counts = subst (λ m. TransactionCounts {A = ℕ} m after.faults (Err fault)) past_lists.calm a.counts;
                   undone = a.rows_are ∙ past_lists.rows_are;
-                  lands = λ known is whole told ready. lands_uncounted after fault a.refused known is whole told;
+                  lands = λ known is whole known_bytes ready. lands_uncounted after fault a.refused known is whole known_bytes;
                   bad = if_known (λ known. BadFault (typed known) fault) before.rows (λ known is. bad_uncounted fault a.refused known is);
                 }
 
@@ -403,9 +402,9 @@ module _ (sid now src dst from to len : ℕ) (due : Setting → ℕ) where
                     stands : last.rows ≡ Some (applied d3 known)
                     stands = commits.rows_are ∙ ap (option_map (applied d3)) (past_counted.rows_are ∙ is)
 
-                    changed : (told : Told) → Changed (makes n) known last.rows told (Count n) act
+                    changed : (known_bytes : KnownBytes) → Changed (makes n) known last.rows known_bytes (Count n) act
                     unfolding drafted
-                    changed told = record {
+                    changed known_bytes = record {
                       left = applied d3 known;
                       is = stands;
                       whole = whole_left;
@@ -414,10 +413,10 @@ module _ (sid now src dst from to len : ℕ) (due : Setting → ℕ) where
                       size = λ slice here. (let none = whole_left.slices.none in absurd (cc));
                       dies = λ setting set id slice here gone. absurd (lives-copied (typed known) course target t_sized.counters now length whole (target_there known is) g.file
                           t_sized.there (small known is whole) refl (drafted d2 known) added (y known is whole) n 0 enough left adjusted id slice here gone);
-                      model = past_counted.goes_on known is whole (bytes_of told (typed known))
-                          ∙ ap (λ (x : Tree). answered x (Count n)) (copied_is known is whole (bytes_of told (typed known))
+                      model = past_counted.goes_on known is whole (bytes_of known_bytes (typed known))
+                          ∙ ap (λ (x : Tree). answered x (Count n)) (copied_is known is whole (bytes_of known_bytes (typed known))
                           ∙ sym (tree-copied_lists (typed known) course target t_sized.counters now length whole (target_there known is) g.file t_sized.there (small known is whole) refl
-                          (drafted d2 known) added (y known is whole) n 0 enough left adjusted told source (source_there known is) h.file));
+                          (drafted d2 known) added (y known is whole) n 0 enough left adjusted known_bytes source (source_there known is) h.file));
                     }
 
                   pub copy-done : (last : Store) → Commits counted last (Ok tt) d3 → Ends before last (Ok n)
@@ -425,7 +424,7 @@ module _ (sid now src dst from to len : ℕ) (due : Setting → ℕ) where
                     opened_at = commits.opened_at ∙ past_counted.opened_at;
                     counts = commits.calm ∙ past_counted.calm;
                     undone = tt;
-                    lands = λ known is whole told ready. changed last commits known is whole told;
+                    lands = λ known is whole known_bytes ready. changed last commits known is whole known_bytes;
                     bad = tt;
                   }
 
@@ -450,8 +449,8 @@ copy-as t caller sid now src dst from to len due s n i o = λ k. act (s k) (n k)
 pub ends-as : (who : Who) (src dst from to len now : ℕ) (due : Setting → ℕ) (before after : Store) (result : Result ℕ TxFault) → now ≡ who.now
     → Ends who.sid now src dst from to len due before after result
     → (caller : Caller) → IsFor who caller → caller.inode ≡ src → caller.other ≡ dst
-    → Changes {A = ℕ} (record { own = 0; size = 0; more = count_in result; due = due }) AnyTold (IsCrowded FILE_END) before after result (λ n. Count n) (λ t. copy t caller from to len)
+    → Changes {A = ℕ} (record { own = 0; size = 0; more = count_in result; due = due }) AnyBytes (IsCrowded FILE_END) before after result (λ n. Count n) (λ t. copy t caller from to len)
 ends-as who src dst from to len now due before after result now_is e caller for of to_other =
     subst (λ (act : Tree → Result Outcome Fault).
-    Changes {A = ℕ} (record { own = 0; size = 0; more = count_in result; due = due }) AnyTold (IsCrowded FILE_END) before after result (λ n. Count n) act)
+    Changes {A = ℕ} (record { own = 0; size = 0; more = count_in result; due = due }) AnyBytes (IsCrowded FILE_END) before after result (λ n. Count n) act)
     (λ i t. sym (copy-as t caller who.sid now src dst from to len due for.sid (for.now ∙ sym now_is) of to_other) i) e

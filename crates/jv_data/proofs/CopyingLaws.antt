@@ -18,32 +18,29 @@ use Rattle.jv_rows.specs.Transactions.{Looks}
 use Rattle.jv_rows.proofs.TransactionLaws.{of_known}
 use Rattle.jv_volume.specs.TypedRows.{typed}
 use Rattle.jv_volume.specs.Views.{lists_of}
-use Rattle.jv_data.specs.declared.copying.Course.{Course}
+use Rattle.jv_data.specs.declared.copying.CopyCourse.{CopyCourse}
 use Rattle.jv_data.specs.Copying.{ShowsRange, part_len, window_at, rows_added, CopiesPart, Copying, CopiesLists}
 use Rattle.jv_data.specs.Records.{HasRecords}
 use Rattle.jv_data.proofs.TruncateLaws.{looks-then}
 
+-- records that are allowed pass the test
+pub all_allowed : (list : List Rec) → AllByRecursion IsRecord list → list_all is_record list ≡ true
+all_allowed [] all = refl
+all_allowed (r ∷ rs) all = (λ i. all.0 i && all_allowed rs all.1 i)
+
 -- a list with more records is one that the grammar allows
 pub is_list-append : (list more : List Rec) → AllByRecursion IsRecord list → AllByRecursion IsRecord more → 0 < length more → IsTrue (is_list (list ++ more))
 is_list-append [] [] all come some = absurd (omega (arith, some))
-is_list-append [] (r ∷ rs) all come some = records (r ∷ rs) come
-  where
-    records : (list : List Rec) → AllByRecursion IsRecord list → list_all is_record list ≡ true
-    records [] all = refl
-    records (r ∷ rs) all = (λ i. all.0 i && records rs all.1 i)
+is_list-append [] (r ∷ rs) all come some = all_allowed (r ∷ rs) come
 is_list-append (x ∷ xs) more all come some = (λ i. all.0 i && records xs all.1 i)
   where
-    those : (list : List Rec) → AllByRecursion IsRecord list → list_all is_record list ≡ true
-    those [] all = refl
-    those (r ∷ rs) all = (λ i. all.0 i && those rs all.1 i)
-
     records : (list : List Rec) → AllByRecursion IsRecord list → list_all is_record (list ++ more) ≡ true
-    records [] all = those more come
+    records [] all = all_allowed more come
     records (r ∷ rs) all = (λ i. all.0 i && records rs all.1 i)
 
 -- ---- one part
 
-module _ (c : Course) (done : ℕ) (before : Store) (changes : List Change) where
+module _ (c : CopyCourse) (done : ℕ) (before : Store) (changes : List Change) where
   abbrev pos : ℕ
   pos = (c.to + done) % WINDOW
 
@@ -72,11 +69,11 @@ module _ (c : Course) (done : ℕ) (before : Store) (changes : List Change) wher
 -- ---- one part after another
 
 -- `done` bytes are copied
-pub record IsCopying (c : Course) (before now : Store) (changes changed : List Change) (done : ℕ) (added : List Rec) : Type 0 where
+pub record IsCopying (c : CopyCourse) (before now : Store) (changes changed : List Change) (done : ℕ) (added : List Rec) : Type 0 where
   pub looks : Looks {A = Unit {0}} before now (Ok tt) (λ t. Ok tt)
   pub so_far : (known : RowMap) → before.rows ≡ Some known → Copying c done (typed known) (drafted changes known) (drafted changed known) added
 
-module _ (c : Course) (before now : Store) (changes changed : List Change) (done : ℕ) (added : List Rec) (p : IsCopying c before now changes changed done added) where
+module _ (c : CopyCourse) (before now : Store) (changes changed : List Change) (done : ℕ) (added : List Rec) (p : IsCopying c before now changes changed done added) where
   pub copying-fails : (after : Store) (last : List Change) (fault : TxFault) → CopiesPart c done now after changed last (Err fault)
       → CopiesLists c before after changes last (Err fault)
   copying-fails after last fault z = record { looks = looks-then before now after (Err fault) p.looks z.looks; copied = tt }

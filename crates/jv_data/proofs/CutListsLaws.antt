@@ -4,6 +4,7 @@ use Rattle.std.specs.Prelude.{◌==◌, ◌&&◌, ◌||◌, not, nat_le, nat_lt,
 use Rattle.std.specs.List.{AllByRecursion}
 use Rattle.std.proofs.lemmas.Bool.{cases_eq, cases_lt, cond-true, cond-false, lt-leb, le-leb, eq-eqb, ne_eqb}
 use Rattle.std.proofs.lemmas.List.{length-append}
+use Rattle.jv_model.specs.declared.tables.TheConstants.{TABLE_OF_LISTS, TABLE_OF_SLICES, TABLE_OF_DEAD}
 use Rattle.jv_model.specs.declared.limits.TheConstants.{WINDOW}
 use Rattle.jv_model.specs.declared.row.RowKey.{RowKey}
 use Rattle.jv_model.specs.declared.row.Row.TheVariants.{OfList}
@@ -62,7 +63,7 @@ module _ (inode window pos : ℕ) (middle : Rows) where
   abbrev ended : List Rec → Rows
   ended l = rows_ended inode window pos l middle
 
-  pub get-ended : (l : List Rec) (k : RowKey) → (k.tab == 4) ≡ false → get (ended l) k ≡ get middle k
+  pub get-ended : (l : List Rec) (k : RowKey) → (k.tab == TABLE_OF_LISTS) ≡ false → get (ended l) k ≡ get middle k
   get-ended [] k other = refl
   get-ended (r ∷ rs) k other = by_pos (pos == 0)
     where
@@ -176,7 +177,7 @@ pub adjusted-came : (gone came : List Rec) (due : ℕ) (rows after : Rows) → (
     → Adjusted gone [] due rows after → Adjusted gone came due rows after
 adjusted-came gone came due rows after none a = record {
   named = λ id is. by_zero id (cases_eq id 0) is;
-  others = λ key other. a.others key (sym (ap (λ b. ((key.tab == 5) || (key.tab == 9)) && is_nil key.b && b) (same key.a (cases_eq key.a 0))) ∙ other);
+  others = λ key other. a.others key (sym (ap (λ b. ((key.tab == TABLE_OF_SLICES) || (key.tab == TABLE_OF_DEAD)) && is_nil key.b && b) (same key.a (cases_eq key.a 0))) ∙ other);
 }
   where
     same : (id : ℕ) → (id ≡ 0) ⊎ (id ≢ 0) → is_named gone came id ≡ is_named gone [] id

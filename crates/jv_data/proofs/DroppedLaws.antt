@@ -3,6 +3,7 @@ use Rattle.std.proofs.Common.{◌≡◌, ◌≢◌, ℕ, ◌<◌, ◌≤◌, ◌
 use Rattle.std.specs.Prelude.{◌==◌, nat_lt, if◌then◌else◌}
 use Rattle.std.proofs.lemmas.Bool.{cases_eq, cases_lt, cond-true, cond-false, lt-ltb, le-ltb, ltb-false, eq-eqb, ne_eqb}
 use Rattle.std.proofs.lemmas.List.{append-nil}
+use Rattle.jv_model.specs.declared.tables.TheConstants.{TABLE_OF_LISTS}
 use Rattle.jv_model.specs.declared.row.RowKey.{RowKey}
 use Rattle.jv_model.specs.declared.slice.Rec.{Rec}
 use Rattle.jv_model.specs.FiniteMap.{get}
@@ -33,7 +34,7 @@ past-first rows inode last (d ∷ ds) f window p = past-first rows inode last ds
 -- ---- lists that are dropped
 
 -- rows of other tables, and of other files
-pub get-without : (inode : ℕ) (ds : List (ℕ × List Rec)) (rows : Rows) (key : RowKey) → (key.tab == 4) ≡ false → get (rows_without inode ds rows) key ≡ get rows key
+pub get-without : (inode : ℕ) (ds : List (ℕ × List Rec)) (rows : Rows) (key : RowKey) → (key.tab == TABLE_OF_LISTS) ≡ false → get (rows_without inode ds rows) key ≡ get rows key
 get-without inode [] rows key other = refl
 get-without inode (d ∷ ds) rows key other = get-other (rows_without inode ds rows) (list_key inode d.0) None key other ∙ get-without inode ds rows key other
 

@@ -2,6 +2,7 @@
 -- the tree is that of the model's truncate or copy.
 use Rattle.std.proofs.Common.{◌≡◌, ◌≢◌, ℕ, ◌+◌, ◌<◌, ◌≤◌, ◌⊎◌, false, None, Some, refl, sym, ap, subst, ◌∙◌}
 use Rattle.std.specs.Prelude.{max}
+use Rattle.jv_model.specs.declared.tables.TheConstants.{TABLE_OF_LISTS}
 use Rattle.jv_model.specs.declared.limits.TheConstants.{FILE_END}
 use Rattle.jv_model.specs.declared.row.Counters.{Counters}
 use Rattle.jv_model.specs.declared.row.Node.{Node as NodeRow}
@@ -11,16 +12,16 @@ use Rattle.jv_model.specs.declared.slice.Spot.TheVariants.{Zero}
 use Rattle.jv_model.specs.FiniteMap.{get}
 use Rattle.jv_model.specs.rows.RowPlaces.{counters_key, node_key, dropped_key}
 use Rattle.jv_model.specs.tree.Tree.{Tree, Content}
-use Rattle.jv_model.specs.tree.Changes.{resized, copied_over, with_content}
+use Rattle.jv_model.specs.tree.Changes.{resized, copied_over, with_content, content_of}
 use Rattle.jv_model.specs.tree.FileBytes.{truncated}
 use Rattle.jv_volume.specs.TypedRows.{Rows}
 use Rattle.jv_volume.specs.Views.{row_in, counters_in, counters_at, node_in, node_row_at, dropped_in, dropped_at, lists_of}
-use Rattle.jv_volume.specs.TreeOf.{content_of, counters_of, or_no_counters}
+use Rattle.jv_volume.specs.TreeOf.{counters_of, or_no_counters}
 use Rattle.jv_volume.specs.Slices.{next_slice, place_in, WholeSlices}
 use Rattle.jv_volume.specs.Whole.{Quiet, Whole, is_of_slices}
 use Rattle.jv_volume.proofs.QuietLaws.{quiet-slices}
 use Rattle.jv_contents.specs.Places.{put_over, cut_at}
-use Rattle.jv_contents.specs.Bytes.{Told, spot_byte, bytes_of, tree_with}
+use Rattle.jv_contents.specs.Bytes.{KnownBytes, spot_byte, bytes_of, tree_with}
 use Rattle.jv_contents.specs.Counts.{KeepsOthers}
 use Rattle.jv_contents.proofs.ByteLaws.{byte-cut, byte-copied}
 use Rattle.jv_contents.proofs.KeepLaws.{keeps-stay_then}
@@ -45,7 +46,7 @@ module _ (rows : Rows) (inode : ℕ) (was : NodeRow) (c : Counters) (now length 
     pub go : SlicesGo more middle last
     pub others : (i : ℕ) → i ≢ inode → (p : ℕ) → place_in (lists_of last i) p ≡ place_in (lists_of rows i) p
     pub past : (p : ℕ) → length ≤ p → place_in (lists_of last inode) p ≡ Zero
-    pub lists : (key : RowKey) → key.tab ≡ 4 → get last key ≢ None → (get rows key ≢ None) ⊎ (key.a ≡ inode)
+    pub lists : (key : RowKey) → key.tab ≡ TABLE_OF_LISTS → get last key ≢ None → (get rows key ≢ None) ⊎ (key.a ≡ inode)
 
   module _ (small : length ≤ FILE_END) (given : 0 < next_slice rows) (more : ℕ) (last : Rows) (l : ListsChange more last) where
     node_then : (i : ℕ) → node_row_at last i ≡ node_row_at middle i
@@ -95,33 +96,33 @@ module _ (rows : Rows) (inode : ℕ) (was : NodeRow) (c : Counters) (now length 
 
   -- ---- what is shown
 
-  module _ (more : ℕ) (last : Rows) (l : ListsChange more last) (told : Told) where
+  module _ (more : ℕ) (last : Rows) (l : ListsChange more last) (known_bytes : KnownBytes) where
     abbrev t : Tree
-    t = tree_with told rows
+    t = tree_with known_bytes rows
 
     abbrev places : ℕ → Spot
     places = place_in (lists_of rows inode)
 
     abbrev content : Content
-    content = content_of was.length (bytes_of told rows inode)
+    content = content_of was.length (bytes_of known_bytes rows inode)
 
     past_was : (p : ℕ) → was.length ≤ p → places p ≡ Zero
     past_was = whole.files.past inode was there file
 
     truncated_is : truncated t now inode length ≡ with_content t now inode (resized content length)
     truncated_is = ap (λ o. elim o as (λ _. Tree) [ None ↦ t | Some old ↦ with_content t now inode (resized old length) ])
-        (content_was rows inode was c now length whole there file counters (bytes_of told rows))
+        (content_was rows inode was c now length whole there file counters (bytes_of known_bytes rows))
 
     -- a file that is cut
-    pub tree-cut : ((p : ℕ) → place_in (lists_of last inode) p ≡ cut_at places length p) → tree_with told last ≡ truncated t now inode length
-    tree-cut shows = tree-changed rows inode was c now length whole there file counters last l.beside told (resized content length) refl l.others l.past
-        (λ p. ap (spot_byte told) (shows p) ∙ byte-cut told was.length places past_was length p) ∙ sym truncated_is
+    pub tree-cut : ((p : ℕ) → place_in (lists_of last inode) p ≡ cut_at places length p) → tree_with known_bytes last ≡ truncated t now inode length
+    tree-cut shows = tree-changed rows inode was c now length whole there file counters last l.beside known_bytes (resized content length) refl l.others l.past
+        (λ p. ap (spot_byte known_bytes) (shows p) ∙ byte-cut known_bytes was.length places past_was length p) ∙ sym truncated_is
 
     -- a file with a range of a file, as that was
     pub tree-copied : (other : ℕ) (source : ℕ → Spot) → ((p : ℕ) → other ≤ p → source p ≡ Zero) → (from to len : ℕ) → max was.length (to + len) ≡ length
         → ((p : ℕ) → place_in (lists_of last inode) p ≡ put_over places to len (λ k. source (from + k)) p)
-        → tree_with told last ≡ with_content t now inode (copied_over (content_of other (λ p. spot_byte told (source p))) from content to len)
+        → tree_with known_bytes last ≡ with_content t now inode (copied_over (content_of other (λ p. spot_byte known_bytes (source p))) from content to len)
     tree-copied other source ends from to len long shows =
-        tree-changed rows inode was c now length whole there file counters last l.beside told
-        (copied_over (content_of other (λ p. spot_byte told (source p))) from content to len) long l.others l.past
-        (λ p. ap (spot_byte told) (shows p) ∙ byte-copied told was.length places past_was other source ends from to len p)
+        tree-changed rows inode was c now length whole there file counters last l.beside known_bytes
+        (copied_over (content_of other (λ p. spot_byte known_bytes (source p))) from content to len) long l.others l.past
+        (λ p. ap (spot_byte known_bytes) (shows p) ∙ byte-copied known_bytes was.length places past_was other source ends from to len p)

@@ -5,6 +5,7 @@ use Rattle.std.proofs.lemmas.Nat.{from_be_bytes-to_be_bytes_4}
 use Rattle.std.specs.Int.{w32, from_be_bytes}
 use Rattle.std.specs.Prelude.{◌==◌, nat_lt, if◌then◌else◌}
 use Rattle.std.specs.List.{AllByRecursion}
+use Rattle.jv_model.specs.declared.tables.TheConstants.{TABLE_OF_LISTS}
 use Rattle.jv_model.specs.declared.row.RowKey.{RowKey}
 use Rattle.jv_model.specs.declared.slice.Rec.{Rec}
 use Rattle.jv_model.specs.FiniteMap.{KeyOrder, Map, get, alter, sum_over}
@@ -37,7 +38,7 @@ over_lists f key cell = f (listed key (Some cell))
 
 module _ (f : List Rec → ℕ) (nothing : f [] ≡ 0) where
   share_is : (key : RowKey) (cell : Option Cell) → share (over_lists f) key cell ≡ f (listed key cell)
-  share_is key None = sym (ap f (by_table (key.tab == 4)) ∙ nothing)
+  share_is key None = sym (ap f (by_table (key.tab == TABLE_OF_LISTS)) ∙ nothing)
     where
       by_table : (b : Bool) → (let l : List Rec = (if b then [] else []) in l) ≡ []
       by_table true = refl
@@ -56,18 +57,18 @@ module _ (f : List Rec → ℕ) (nothing : f [] ≡ 0) where
   pub share-sum : (rows : Rows) (key : RowKey) → f (listed key (get rows key)) ≤ sum_over (over_lists f) rows
   share-sum rows key =
       let all = sum-list rows key None in
-      let none = ap f (not_there (key.tab == 4)) ∙ nothing in
+      let none = ap f (not_there (key.tab == TABLE_OF_LISTS)) ∙ nothing in
       omega (arith, all, none)
     where
       not_there : (b : Bool) → (let l : List Rec = (if b then [] else []) in l) ≡ []
       not_there true = refl
       not_there false = refl
 
-not_list : (key : RowKey) (cell : Option Cell) → (key.tab == 4) ≡ false → listed key cell ≡ []
+not_list : (key : RowKey) (cell : Option Cell) → (key.tab == TABLE_OF_LISTS) ≡ false → listed key cell ≡ []
 not_list key cell other = ap (λ b. if b then records_in (row_in cell) else []) other
 
 -- another table's row changes neither
-pub named_by-other : (rows : Rows) (key : RowKey) (cell : Option Cell) → (key.tab == 4) ≡ false → (id : ℕ)
+pub named_by-other : (rows : Rows) (key : RowKey) (cell : Option Cell) → (key.tab == TABLE_OF_LISTS) ≡ false → (id : ℕ)
     → named_by (alter rows key cell) id ≡ named_by rows id
 unfolding named_by
 named_by-other rows key cell other id =
@@ -76,7 +77,7 @@ named_by-other rows key cell other id =
     let is = ap (records_naming id) (not_list key cell other) in
     omega (arith, all, was, is)
 
-pub record_count-other : (rows : Rows) (key : RowKey) (cell : Option Cell) → (key.tab == 4) ≡ false
+pub record_count-other : (rows : Rows) (key : RowKey) (cell : Option Cell) → (key.tab == TABLE_OF_LISTS) ≡ false
     → record_count (alter rows key cell) ≡ record_count rows
 unfolding record_count
 record_count-other rows key cell other =
@@ -85,16 +86,16 @@ record_count-other rows key cell other =
     let is = ap (λ (l : List Rec). length l) (not_list key cell other) in
     omega (arith, all, was, is)
 
-pub lists_of-other : (rows : Rows) (key : RowKey) (cell : Option Cell) → (key.tab == 4) ≡ false → (inode window : ℕ)
+pub lists_of-other : (rows : Rows) (key : RowKey) (cell : Option Cell) → (key.tab == TABLE_OF_LISTS) ≡ false → (inode window : ℕ)
     → lists_of (alter rows key cell) inode window ≡ lists_of rows inode window
 unfolding lists_of
 lists_of-other rows key cell other inode window =
     ap (λ c. if nat_lt window (2 ^ 32) then records_in (row_in c) else []) (get-alter-apart row_key rows key cell (list_key inode window) apart)
   where
     apart : list_key inode window ≢ key
-    apart same = (let is : true ≡ false = ap (λ (k : RowKey). k.tab == 4) same ∙ other in absurd (cc))
+    apart same = (let is : true ≡ false = ap (λ (k : RowKey). k.tab == TABLE_OF_LISTS) same ∙ other in absurd (cc))
 
-pub listed-other : (P : Rec → Type 0) (rows : Rows) (key : RowKey) (cell : Option Cell) → (key.tab == 4) ≡ false
+pub listed-other : (P : Rec → Type 0) (rows : Rows) (key : RowKey) (cell : Option Cell) → (key.tab == TABLE_OF_LISTS) ≡ false
     → ListsHave P rows → ListsHave P (alter rows key cell)
 listed-other P rows key cell other all k = elim (same_or_apart row_key k key) [
   | inl same ↦ subst (AllByRecursion P) (sym (ap (λ (x : RowKey). listed x (get (alter rows key cell) k)) same ∙ not_list key (get (alter rows key cell) k) other)) tt

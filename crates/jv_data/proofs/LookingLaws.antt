@@ -15,16 +15,17 @@ use Rattle.jv_model.specs.rows.RowPlaces.{node_key}
 use Rattle.jv_model.specs.rows.RowKeys.{RowMap}
 use Rattle.jv_model.specs.tree.Attempt.{◌>>=◌, some_or}
 use Rattle.jv_model.specs.tree.Tree.{Tree, content_at, content_of as content_in}
+use Rattle.jv_model.specs.tree.FileBytes.{length_seen}
+use Rattle.jv_model.specs.tree.Changes.{content_of}
 use Rattle.jv_outside.specs.Store.{Store}
 use Rattle.jv_volume.specs.TypedRows.{typed}
-use Rattle.jv_volume.specs.TreeOf.{content_of}
 use Rattle.jv_volume.specs.Views.{row_in, node_in, node_row_at}
 use Rattle.jv_volume.proofs.StoredLaws.{found_node, no_node, whole-stored}
 use Rattle.jv_rows.specs.Drafts.{Sees, cell, drafted}
 use Rattle.jv_rows.specs.Transactions.{Looks}
 use Rattle.jv_rows.proofs.NeedingLaws.{session_is}
 use Rattle.jv_rows.proofs.TransactionLaws.{Past, if_known, past-start, past-as, past-calm, past-looks, past-fails, past-gives, past-refuses, drafted-none, fails-sees, stands-sees}
-use Rattle.jv_data.specs.Committing.{HasFile, length_seen}
+use Rattle.jv_data.specs.Committing.{HasFile}
 
 -- what a look does once its session is there
 abbrev pub length_at : ℕ → Tree → Result ℕ Fault

@@ -6,6 +6,7 @@ use Rattle.std.proofs.lemmas.List.Sums.{sum_by-cons}
 use Rattle.std.proofs.lemmas.Option.{same_Some}
 use Rattle.std.specs.Prelude.{◌==◌, if◌then◌else◌}
 use Rattle.std.specs.List.{AllByRecursion}
+use Rattle.jv_model.specs.declared.tables.TheConstants.{TABLE_OF_LISTS, TABLE_OF_SLICES}
 use Rattle.jv_model.specs.declared.limits.TheConstants.{WINDOW, FULL_COUNT}
 use Rattle.jv_model.specs.declared.row.RowKey.{RowKey}
 use Rattle.jv_model.specs.declared.row.Node.{Node as NodeRow}
@@ -14,7 +15,7 @@ use Rattle.jv_model.specs.declared.row.Row.TheVariants.{OfList, OfSlice}
 use Rattle.jv_model.specs.declared.slice.Rec.{Rec}
 use Rattle.jv_model.specs.declared.slice.Spot.TheVariants.{Zero}
 use Rattle.jv_model.specs.FiniteMap.{get, alter}
-use Rattle.jv_model.specs.blocks.Slices.{IsRecord}
+use Rattle.jv_model.specs.blocks.Slices.{IsRecord, shown}
 use Rattle.jv_model.specs.rows.RowKeys.{row_key}
 use Rattle.jv_model.specs.rows.RowPlaces.{counters_key, node_key, list_key, slice_key, dropped_key, dead_key}
 use Rattle.jv_volume.specs.TypedRows.{Cell, Rows}
@@ -23,7 +24,7 @@ use Rattle.jv_volume.specs.TreeOf.{or_no_counters, counters_of}
 use Rattle.jv_volume.specs.Slices.{listed, records_naming, named_by, count_in, slice_count, next_slice, place_in, ListsHave, IsUnknown, WholeSlices, HasLists, OfFile, OfDropped, WholeFiles}
 use Rattle.jv_volume.proofs.MapLaws.{get-alter-here, get-alter-apart}
 use Rattle.jv_volume.proofs.ShapeMapLaws.{same_or_apart}
-use Rattle.jv_contents.specs.Places.{with_list, shown, put_over}
+use Rattle.jv_contents.specs.Places.{with_list, put_over}
 use Rattle.jv_contents.specs.Counts.{record_count, KeepsOthers}
 use Rattle.jv_contents.proofs.BehindLaws.{naming-append}
 use Rattle.jv_contents.proofs.CutLaws.{all-append}
@@ -87,12 +88,12 @@ module _ (rows : Rows) (inode window : ℕ) (low : window < 2 ^ 32) (rec : Rec) 
   -- ---- views
 
   -- a row that is neither a list nor a slice
-  pub other_same : (key : RowKey) → (key.tab == 4) ≡ false → (key.tab == 5) ≡ false → get recorded_rows key ≡ get rows key
+  pub other_same : (key : RowKey) → (key.tab == TABLE_OF_LISTS) ≡ false → (key.tab == TABLE_OF_SLICES) ≡ false → get recorded_rows key ≡ get rows key
   other_same key no_list no_slice =
       get-other listed_rows (slice_key rec.id) slice_cell key no_slice ∙ get-other rows (list_key inode window) list_cell key no_list
 
   -- a list of another file
-  pub list_beside : (key : RowKey) → key.tab ≡ 4 → key.a ≢ inode → get recorded_rows key ≡ get rows key
+  pub list_beside : (key : RowKey) → key.tab ≡ TABLE_OF_LISTS → key.a ≢ inode → get recorded_rows key ≡ get rows key
   list_beside key four apart = get-other listed_rows (slice_key rec.id) slice_cell key (ap (λ n. n == 5) four)
       ∙ get-alter-apart row_key rows (list_key inode window) list_cell key (λ same. apart (ap (λ (k : RowKey). k.a) same))
 
@@ -254,7 +255,7 @@ module _ (rows : Rows) (inode window : ℕ) (low : window < 2 ^ 32) (rec : Rec) 
     kept i (OfFile was here kind) = OfFile was (node_same i ∙ here) kind
     kept i (OfDropped here) = OfDropped (λ none. here (sym (dropped_same i) ∙ none))
 
-    owned : (key : RowKey) → key.tab ≡ 4 → get recorded_rows key ≢ None → HasLists recorded_rows key.a
+    owned : (key : RowKey) → key.tab ≡ TABLE_OF_LISTS → get recorded_rows key ≢ None → HasLists recorded_rows key.a
     owned key tab here = elim (same_or_apart row_key key (list_key inode window)) [
       | inl same ↦ subst (λ (k : RowKey). HasLists recorded_rows k.a) (sym same) (OfFile node (node_same inode ∙ there) file)
       | inr apart ↦ kept key.a (w.owned key tab (λ none. here (

@@ -4,6 +4,7 @@ use Rattle.std.proofs.lemmas.Bool.{and_parts}
 use Rattle.std.proofs.lemmas.Option.{same_Some}
 use Rattle.std.specs.Prelude.{◌==◌, ◌&&◌, IsTrue, nat_le, nat_lt}
 use Rattle.std.specs.Option.{option_map}
+use Rattle.jv_model.specs.declared.tables.TheConstants.{TABLE_OF_COUNTERS}
 use Rattle.jv_model.specs.declared.fault.Fault.{Fault}
 use Rattle.jv_model.specs.declared.fault.Fault.TheVariants.{NoSpace}
 use Rattle.jv_model.specs.declared.fault.RowFault.TheVariants.{Bad, Failed, Memory}
@@ -54,7 +55,7 @@ module _ (rows : Rows) (c : Counters) (whole : Whole rows) (there : counters_at 
   abbrev pub numbered_rows : Rows
   numbered_rows = alter rows counters_key put
 
-  same_row : (key : RowKey) → (key.tab == 1) ≡ false → get numbered_rows key ≡ get rows key
+  same_row : (key : RowKey) → (key.tab == TABLE_OF_COUNTERS) ≡ false → get numbered_rows key ≡ get rows key
   same_row key other = get-other rows counters_key put key other
 
   counters_then : counters_of numbered_rows ≡ next

@@ -4,6 +4,7 @@ use Rattle.std.specs.Prelude.{◌==◌, nat_lt, if◌then◌else◌}
 use Rattle.std.specs.List.{AllByRecursion}
 use Rattle.std.proofs.lemmas.Bool.{cases_eq, cases_lt, cond-true, cond-false, eq-eqb, ne_eqb}
 use Rattle.std.proofs.lemmas.List.{length-append, append-nil}
+use Rattle.jv_model.specs.declared.tables.TheConstants.{TABLE_OF_LISTS}
 use Rattle.jv_model.specs.declared.limits.TheConstants.{FILE_END, WINDOW}
 use Rattle.jv_model.specs.declared.row.RowKey.{RowKey}
 use Rattle.jv_model.specs.declared.row.Row.TheVariants.{OfList}
@@ -26,7 +27,7 @@ use Rattle.jv_contents.proofs.CountLaws.{ListsMove, move-list}
 use Rattle.jv_contents.proofs.CutLaws.{all-append}
 use Rattle.jv_contents.proofs.FillLaws.{over-none, fills-are, fills-few, fills-name}
 use Rattle.jv_contents.proofs.PlaceLaws.{place_in-same}
-use Rattle.jv_data.specs.declared.copying.Course.{Course}
+use Rattle.jv_data.specs.declared.copying.CopyCourse.{CopyCourse}
 use Rattle.jv_data.specs.Copying.{ArePieces, part_len, window_at, AreParts, rows_copied, bytes_before, bytes_in, GetsPieces}
 use Rattle.jv_data.specs.Truncating.{HaveSlices, records_of}
 use Rattle.jv_data.proofs.BesideLaws.{Beside, beside-none, beside-then, beside-alter, list_is_row}
@@ -36,30 +37,30 @@ use Rattle.jv_data.proofs.ShownLaws.{pieces-none}
 -- ---- numbers
 
 -- a part that leaves more to do ends where its window does
-pub part-ends : (c : Course) (before done : ℕ) → done ≡ before + part_len c before → done < c.len → c.to + done ≡ window_at c before * WINDOW + WINDOW
+pub part-ends : (c : CopyCourse) (before done : ℕ) → done ≡ before + part_len c before → done < c.len → c.to + done ≡ window_at c before * WINDOW + WINDOW
 part-ends c before done is less = omega (arith, is, less)
 
 -- a part has a byte, and lies in one window
-pub part-some : (c : Course) (done : ℕ) → done < c.len → 0 < part_len c done
+pub part-some : (c : CopyCourse) (done : ℕ) → done < c.len → 0 < part_len c done
 part-some c done less = omega (arith, less)
 
-pub part-within : (c : Course) (done : ℕ) → done < c.len → done + part_len c done ≤ c.len
+pub part-within : (c : CopyCourse) (done : ℕ) → done < c.len → done + part_len c done ≤ c.len
 part-within c done less = omega (arith, less)
 
-pub window-low : (c : Course) (done : ℕ) → done < c.len → c.to + c.len ≤ FILE_END → window_at c done < 2 ^ 32
+pub window-low : (c : CopyCourse) (done : ℕ) → done < c.len → c.to + c.len ≤ FILE_END → window_at c done < 2 ^ 32
 window-low c done less small = omega (arith, less, small)
 
 -- what is before a part, and in it, by its window
-part-before : (c : Course) (done u : ℕ) → u ≡ window_at c done → (done ≡ 0) ⊎ (c.to + done ≤ window_at c done * WINDOW) → done ≡ bytes_before c.to u
+part-before : (c : CopyCourse) (done u : ℕ) → u ≡ window_at c done → (done ≡ 0) ⊎ (c.to + done ≤ window_at c done * WINDOW) → done ≡ bytes_before c.to u
 part-before c done u here (inl none) = omega (arith, here, none)
 part-before c done u here (inr high) = omega (arith, here, high)
 
-part-in : (c : Course) (before done u : ℕ) → before < c.len → done ≡ before + part_len c before → u ≡ window_at c before → before ≡ bytes_before c.to u
+part-in : (c : CopyCourse) (before done u : ℕ) → before < c.len → done ≡ before + part_len c before → u ≡ window_at c before → before ≡ bytes_before c.to u
     → part_len c before ≡ bytes_in c.to done u
 part-in c before done u less is here low = omega (arith, less, is, here, low)
 
 -- other windows have no more with it
-part-beside : (c : Course) (before done u : ℕ) → before < c.len → done ≡ before + part_len c before → u ≢ window_at c before
+part-beside : (c : CopyCourse) (before done u : ℕ) → before < c.len → done ≡ before + part_len c before → u ≢ window_at c before
     → bytes_in c.to before u ≡ bytes_in c.to done u
 part-beside c before done u less is apart = elim (cases_lt u (window_at c before)) [
   | inl low ↦ omega (arith, less, is, low)
@@ -78,8 +79,8 @@ gets-none rows src from dst to len u none = record {
 -- ---- records that are added to a list
 
 -- counts lag behind by them
-pub move-append : (start middle : Rows) (added : List Rec) (key : RowKey) (old new : List Rec) → key.tab ≡ 4 → ListsMove start middle [] added
-    → listed key (get middle key) ≡ old → (four : (key.tab == 4) ≡ true)
+pub move-append : (start middle : Rows) (added : List Rec) (key : RowKey) (old new : List Rec) → key.tab ≡ TABLE_OF_LISTS → ListsMove start middle [] added
+    → listed key (get middle key) ≡ old → (four : (key.tab == TABLE_OF_LISTS) ≡ true)
     → AllByRecursion IsRecord new → AllByRecursion (λ r. r.id ≢ 0 → HadSize start r.id r.size) new
     → ListsMove start (alter middle key (Some (Ok (OfList (old ++ new))))) [] (added ++ new)
 move-append start middle added key old new tab m stood four are names = record {
@@ -120,7 +121,7 @@ move-append start middle added key old new tab m stood four are names = record {
 
 -- ---- parts
 
-module _ (rows : Rows) (c : Course) (middle : Rows) where
+module _ (rows : Rows) (c : CopyCourse) (middle : Rows) where
   abbrev copied : List (ℕ × List Rec) → Rows
   copied parts = rows_copied rows c parts middle
 
@@ -130,7 +131,7 @@ module _ (rows : Rows) (c : Course) (middle : Rows) where
   abbrev cell : ℕ → List Rec → Option Cell
   cell done shown = Some (Ok (OfList (lists_of rows c.target (window_at c done) ++ shown)))
 
-  pub get-copied : (parts : List (ℕ × List Rec)) (k : RowKey) → (k.tab == 4) ≡ false → get (copied parts) k ≡ get middle k
+  pub get-copied : (parts : List (ℕ × List Rec)) (k : RowKey) → (k.tab == TABLE_OF_LISTS) ≡ false → get (copied parts) k ≡ get middle k
   get-copied [] k other = refl
   get-copied (d ∷ ds) k other = get-other (copied ds) (key d.0) (cell d.0 d.1) k other ∙ get-copied ds k other
 
@@ -245,7 +246,7 @@ module _ (rows : Rows) (c : Course) (middle : Rows) where
           (fills-name (HadSize start) places pos (pos + part_len c d.0) d.1 shows.fills (λ k id size at low high e. has (c.from + d.0 + (k - pos)) id size at e))
 
 -- a record is of a byte at least
-pub few-copied : (rows : Rows) (c : Course) (parts : List (ℕ × List Rec)) (done : ℕ) → AreParts rows c parts done → length (records_of parts) ≤ done
+pub few-copied : (rows : Rows) (c : CopyCourse) (parts : List (ℕ × List Rec)) (done : ℕ) → AreParts rows c parts done → length (records_of parts) ≤ done
 few-copied rows c [] done none = omega arith
 few-copied rows c (d ∷ ds) done (less, is, shows, rest) =
     let before = few-copied rows c ds d.0 rest in
@@ -255,6 +256,6 @@ few-copied rows c (d ∷ ds) done (less, is, shows, rest) =
     omega (arith, before, these, all, is)
 
 -- and its slice has a row
-pub have-copied : (rows : Rows) (c : Course) (parts : List (ℕ × List Rec)) (done : ℕ) → AreParts rows c parts done → HaveSlices rows (records_of parts)
+pub have-copied : (rows : Rows) (c : CopyCourse) (parts : List (ℕ × List Rec)) (done : ℕ) → AreParts rows c parts done → HaveSlices rows (records_of parts)
 have-copied rows c [] done none = tt
 have-copied rows c (d ∷ ds) done (less, is, shows, rest) = all-append _ (records_of ds) d.1 (have-copied rows c ds d.0 rest) shows.slices

@@ -23,6 +23,7 @@ use Rattle.jv_model.specs.rows.RowPlaces.{list_key, slice_key}
 use Rattle.jv_model.specs.tree.Attempt.{◌>>=◌}
 use Rattle.jv_model.specs.tree.Caller.{done}
 use Rattle.jv_model.specs.tree.Tree.{Tree}
+use Rattle.jv_model.specs.tree.FileBytes.{commit_of}
 use Rattle.jv_outside.specs.declared.batch.Change.{Change}
 use Rattle.jv_outside.specs.Rows.{applied}
 use Rattle.jv_outside.specs.Store.{Store, Commits}
@@ -33,10 +34,10 @@ use Rattle.jv_rows.proofs.TransactionLaws.{Fails, FailsBy, of_known, fails-memor
 use Rattle.jv_volume.specs.TypedRows.{Rows, typed}
 use Rattle.jv_volume.specs.Views.{row_in, node_in, node_row_at, slice_row_at, lists_of}
 use Rattle.jv_volume.specs.Whole.{Whole}
-use Rattle.jv_contents.specs.Bytes.{Told, bytes_of, tree_with}
+use Rattle.jv_contents.specs.Bytes.{KnownBytes, bytes_of, tree_with}
 use Rattle.jv_contents.specs.Counts.{KeepsOthers}
 use Rattle.jv_data.specs.Changing.{Makes, Never, Changed, LandsChanged, may_change, KeepsRest}
-use Rattle.jv_data.specs.Committing.{BeginsCommit, Begun, commit_of}
+use Rattle.jv_data.specs.Committing.{BeginsCommit, Begun}
 use Rattle.jv_data.specs.Resizing.{rows_sized}
 use Rattle.jv_data.specs.Records.{HasRecords, IsNew, CommitsRecord, committing}
 use Rattle.jv_data.proofs.CommitLaws.{RefusedBy, began, commit-unbegun, commit-reads, commit-fails}
@@ -73,14 +74,14 @@ module _ (sid now inode window : ℕ) (rec : Rec) (started : ℕ) where
 
   -- ---- one that is refused
 
-  lands_refused : (fault : TxFault) (known : RowMap) (after : Option RowMap) (told : Told) (bytes : List ℕ) (due : Setting → ℕ)
-      → Agrees {A = Tree} (Err fault) (commit_of sid inode from bytes started now (tree_with told (typed known)))
-      → LandsChanged {A = Unit {0}} (makes due) Never known after told (λ unit. Done) (committing sid inode from bytes started now) (Err fault)
-  lands_refused (Refused fault) known after told bytes due h = inl (ap (λ r. r >>= (λ left. done left)) h)
-  lands_refused (Moved list) known after told bytes due h = h
-  lands_refused (OfRows (Bad at bad)) known after told bytes due h = h
-  lands_refused (OfRows Failed) known after told bytes due h = tt
-  lands_refused (OfRows Memory) known after told bytes due h = tt
+  lands_refused : (fault : TxFault) (known : RowMap) (after : Option RowMap) (known_bytes : KnownBytes) (bytes : List ℕ) (due : Setting → ℕ)
+      → Agrees {A = Tree} (Err fault) (commit_of sid inode from bytes started now (tree_with known_bytes (typed known)))
+      → LandsChanged {A = Unit {0}} (makes due) Never known after known_bytes (λ unit. Done) (committing sid inode from bytes started now) (Err fault)
+  lands_refused (Refused fault) known after known_bytes bytes due h = inl (ap (λ r. r >>= (λ left. done left)) h)
+  lands_refused (Moved list) known after known_bytes bytes due h = h
+  lands_refused (OfRows (Bad at bad)) known after known_bytes bytes due h = h
+  lands_refused (OfRows Failed) known after known_bytes bytes due h = tt
+  lands_refused (OfRows Memory) known after known_bytes bytes due h = tt
 
   pub record-refused : (before after : Store) (fault : TxFault) → RefusedBy sid now inode end started before after fault
       → CommitsRecord sid now inode window rec started before after (Err fault)
@@ -90,8 +91,8 @@ module _ (sid now inode window : ℕ) (rec : Rec) (started : ℕ) where
         opened_at = any.opened_at;
         counts = any.counts;
         undone = any.rows_are;
-        lands = λ known is whole told new. lands_refused fault known after.rows told bytes due
-            ((looks from bytes (ap (λ n. from + n) new.shows.long)).agrees known is whole (bytes_of told (typed known)));
+        lands = λ known is whole known_bytes new. lands_refused fault known after.rows known_bytes bytes due
+            ((looks from bytes (ap (λ n. from + n) new.shows.long)).agrees known is whole (bytes_of known_bytes (typed known)));
         bad = any.bad;
       }
 
@@ -163,10 +164,10 @@ module _ (sid now inode window : ℕ) (rec : Rec) (started : ℕ) where
             ∙ rest-last (typed known) inode window low begun.was begun.sized.counters now rec list whole there begun.file begun.sized.there list_is is_rec some small within
             key other
 
-        changed : (told : Told) (bytes : List ℕ) (due : Setting → ℕ) → IsNew rec bytes (typed known) told → (last_rows : Option RowMap) → last_rows ≡ Some (applied d2 known)
-            → Changed (makes due) known last_rows told Done (committing sid inode from bytes started now)
+        changed : (known_bytes : KnownBytes) (bytes : List ℕ) (due : Setting → ℕ) → IsNew rec bytes (typed known) known_bytes → (last_rows : Option RowMap) → last_rows ≡ Some (applied d2 known)
+            → Changed (makes due) known last_rows known_bytes Done (committing sid inode from bytes started now)
         unfolding drafted
-        changed told bytes due new last_rows stands = record {
+        changed known_bytes bytes due new last_rows stands = record {
           left = applied d2 known;
           is = stands;
           whole = subst Whole (sym rows_are) (whole-last (typed known) inode window low begun.was begun.sized.counters now rec list whole there begun.file
@@ -178,9 +179,9 @@ module _ (sid now inode window : ℕ) (rec : Rec) (started : ℕ) where
           dies = λ setting set id old here none. absurd (lives-last (typed known) inode window low begun.was begun.sized.counters now rec list whole there begun.file
               begun.sized.there list_is is_rec some small within id old here (ap (λ (rows : Rows). slice_row_at rows id) (sym rows_are) ∙ none));
           model = ap (λ r. r >>= (λ left. done left)) ((began sid now inode end started before middle begun_by b from bytes (ap (λ n. from + n) new.shows.long)).goes_on
-              known is whole (bytes_of told (typed known)))
+              known is whole (bytes_of known_bytes (typed known)))
               ∙ ap done (sym (tree-last (typed known) inode window low begun.was begun.sized.counters now rec list whole there begun.file
-              begun.sized.there list_is is_rec some small within told bytes new.shows.long new.shows.each) ∙ ap (tree_with told) (sym rows_are));
+              begun.sized.there list_is is_rec some small within known_bytes bytes new.shows.long new.shows.each) ∙ ap (tree_with known_bytes) (sym rows_are));
         }
 
       -- all is committed
@@ -191,7 +192,7 @@ module _ (sid now inode window : ℕ) (rec : Rec) (started : ℕ) where
             opened_at = commits.opened_at ∙ r.looks.opened_at ∙ so_far.opened_at;
             counts = commits.calm ∙ r.looks.counts ∙ so_far.calm;
             undone = tt;
-            lands = λ known is whole told new. changed known is whole told bytes due new last_store.rows
+            lands = λ known is whole known_bytes new. changed known is whole known_bytes bytes due new last_store.rows
                 (commits.rows_are ∙ ap (option_map (applied d2)) (r.looks.rows_are ∙ so_far.rows_are ∙ is));
             bad = tt;
           }

@@ -12,22 +12,21 @@ use Rattle.jv_model.specs.declared.row.SliceRow.{SliceRow}
 use Rattle.jv_model.specs.declared.slice.Rec.{Rec}
 use Rattle.jv_model.specs.declared.slice.Spot.TheVariants.{Zero}
 use Rattle.jv_model.specs.FiniteMap.{get}
-use Rattle.jv_model.specs.blocks.Slices.{IsRecord}
+use Rattle.jv_model.specs.blocks.Slices.{IsRecord, shown}
 use Rattle.jv_model.specs.rows.RowPlaces.{list_key, slice_key}
 use Rattle.jv_model.specs.tree.Tree.{Tree, Content}
-use Rattle.jv_model.specs.tree.Changes.{overwritten, with_content}
+use Rattle.jv_model.specs.tree.Changes.{overwritten, with_content, content_of}
 use Rattle.jv_model.specs.tree.FileBytes.{committed}
 use Rattle.jv_volume.specs.TypedRows.{Cell, Rows}
 use Rattle.jv_volume.specs.Views.{lists_of, node_row_at, slice_row_at, counters_at}
-use Rattle.jv_volume.specs.TreeOf.{content_of}
 use Rattle.jv_volume.specs.Slices.{IsUnknown, next_slice, place_in}
 use Rattle.jv_volume.specs.Whole.{IsRowAt, Quiet, Whole}
-use Rattle.jv_volume.proofs.QuietLaws.{quiet-lists_of}
-use Rattle.jv_contents.specs.Places.{shown, put_over}
-use Rattle.jv_contents.specs.Bytes.{Told, spot_byte, bytes_of, tree_with}
+use Rattle.jv_volume.proofs.QuietLaws.{lists_of-stay, slice_row-stay}
+use Rattle.jv_contents.specs.Places.{put_over}
+use Rattle.jv_contents.specs.Bytes.{KnownBytes, spot_byte, bytes_of, tree_with}
 use Rattle.jv_contents.specs.Counts.{KeepsOthers}
 use Rattle.jv_contents.proofs.ByteLaws.{byte-committed, past-put_over}
-use Rattle.jv_contents.proofs.KeepLaws.{unknown-stay, slice_row-stay, keeps-stay_then}
+use Rattle.jv_contents.proofs.KeepLaws.{unknown-stay, keeps-stay_then}
 use Rattle.jv_contents.proofs.PlaceLaws.{place_in-same}
 use Rattle.jv_data.specs.Changing.{may_change}
 use Rattle.jv_data.proofs.BesideLaws.{Beside, beside-alter, beside-then, formed-beside, list_is_row, whole-formed}
@@ -57,7 +56,7 @@ module _ (rows : Rows) (inode window : ℕ) (low : window < 2 ^ 32) (was : NodeR
   quiet = quiet-sized rows inode was c now end whole there file counters
 
   pub same_list : list ≡ lists_of middle inode window
-  same_list = list_is ∙ sym (quiet-lists_of rows middle quiet inode window)
+  same_list = list_is ∙ sym (lists_of-stay rows middle quiet.apart inode window)
 
   abbrev pub last : Rows
   last = recorded_rows middle inode window low rec list same_list is some small
@@ -115,7 +114,7 @@ module _ (rows : Rows) (inode window : ℕ) (low : window < 2 ^ 32) (was : NodeR
 
   -- what lists show
   lists_middle : (i p : ℕ) → place_in (lists_of middle i) p ≡ place_in (lists_of rows i) p
-  lists_middle i p = place_in-same (lists_of middle i) (lists_of rows i) (λ u. quiet-lists_of rows middle quiet i u) p
+  lists_middle i p = place_in-same (lists_of middle i) (lists_of rows i) (λ u. lists_of-stay rows middle quiet.apart i u) p
 
   own_places : (p : ℕ) → place_in (lists_of last inode) p ≡ put_over (place_in (lists_of rows inode)) from rec.len (shown rec) p
   own_places p = places-recorded middle inode window low rec list same_list is some small p
@@ -124,24 +123,24 @@ module _ (rows : Rows) (inode window : ℕ) (low : window < 2 ^ 32) (was : NodeR
   other_places : (i : ℕ) → i ≢ inode → (p : ℕ) → place_in (lists_of last i) p ≡ place_in (lists_of rows i) p
   other_places i apart p = places-beside middle inode window low rec list same_list is some small i apart p ∙ lists_middle i p
 
-  module _ (told : Told) (bytes : List ℕ) (long : length bytes ≡ rec.len) (shows : (n : ℕ) → n < rec.len → spot_byte told (shown rec n) ≡ slice_index bytes n) where
+  module _ (known_bytes : KnownBytes) (bytes : List ℕ) (long : length bytes ≡ rec.len) (shows : (n : ℕ) → n < rec.len → spot_byte known_bytes (shown rec n) ≡ slice_index bytes n) where
     abbrev content : Content
-    content = content_of was.length (bytes_of told rows inode)
+    content = content_of was.length (bytes_of known_bytes rows inode)
 
     abbrev t : Tree
-    t = tree_with told rows
+    t = tree_with known_bytes rows
 
     past_was : (p : ℕ) → was.length ≤ p → place_in (lists_of rows inode) p ≡ Zero
     past_was = whole.files.past inode was there file
 
     pub committed_is : committed t now inode from bytes ≡ with_content t now inode (overwritten content from bytes)
     committed_is = ap (λ o. elim o as (λ _. Tree) [ None ↦ t | Some old ↦ with_content t now inode (overwritten old from bytes) ])
-        (content_was rows inode was c now end whole there file counters (bytes_of told rows))
+        (content_was rows inode was c now end whole there file counters (bytes_of known_bytes rows))
 
-    pub tree-last : tree_with told last ≡ committed t now inode from bytes
-    tree-last = tree-changed rows inode was c now end whole there file counters last beside-last told (overwritten content from bytes)
+    pub tree-last : tree_with known_bytes last ≡ committed t now inode from bytes
+    tree-last = tree-changed rows inode was c now end whole there file counters last beside-last known_bytes (overwritten content from bytes)
         (ap (λ n. max was.length (from + n)) long) other_places
         (λ p high. own_places p ∙ past-put_over was.length (place_in (lists_of rows inode)) past_was from rec.len (shown rec) end longer (omega arith) p high)
-        (λ p. ap (spot_byte told) (own_places p ∙ ap (λ n. put_over (place_in (lists_of rows inode)) from n (shown rec) p) (sym long))
-        ∙ byte-committed told was.length (place_in (lists_of rows inode)) past_was from bytes (shown rec) (λ k low. shows k (subst (λ n. k < n) long low)) p)
+        (λ p. ap (spot_byte known_bytes) (own_places p ∙ ap (λ n. put_over (place_in (lists_of rows inode)) from n (shown rec) p) (sym long))
+        ∙ byte-committed known_bytes was.length (place_in (lists_of rows inode)) past_was from bytes (shown rec) (λ k low. shows k (subst (λ n. k < n) long low)) p)
         ∙ sym committed_is

@@ -15,6 +15,7 @@ use Rattle.jv_model.specs.blocks.Slices.{IsRecord, is_record}
 use Rattle.jv_model.specs.rows.RowGrammar.{is_list, list_of, list_bytes}
 use Rattle.jv_model.specs.rows.RowKeys.{RowMap}
 use Rattle.jv_model.specs.rows.RowPlaces.{list_key}
+use Rattle.jv_model.specs.tree.FileBytes.{length_seen}
 use Rattle.jv_outside.specs.declared.batch.Change.{Change}
 use Rattle.jv_outside.specs.Store.{Store}
 use Rattle.jv_volume.specs.TypedRows.{Rows, Cell, typed}
@@ -24,7 +25,7 @@ use Rattle.jv_rows.specs.Readings.{ReadsRow}
 use Rattle.jv_rows.specs.Tables.{list_row}
 use Rattle.jv_rows.proofs.DraftLaws.{sees_stored}
 use Rattle.jv_rows.proofs.TransactionLaws.{past-ends, if_known, fails-looks, fails-sees, stands-sees, drafted-none}
-use Rattle.jv_data.specs.Committing.{HasFile, length_seen}
+use Rattle.jv_data.specs.Committing.{HasFile}
 use Rattle.jv_data.specs.Records.{HasRecords, LooksAt}
 use Rattle.jv_data.proofs.CommitLaws.{looks-any}
 

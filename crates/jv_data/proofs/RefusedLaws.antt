@@ -11,24 +11,24 @@ use Rattle.jv_model.specs.tree.Tree.{Tree}
 use Rattle.jv_outside.specs.Store.{Store}
 use Rattle.jv_rows.specs.Transactions.{Agrees, Looks}
 use Rattle.jv_volume.specs.TypedRows.{Rows, typed}
-use Rattle.jv_contents.specs.Bytes.{Told, bytes_of, tree_with}
-use Rattle.jv_data.specs.Changing.{Makes, AnyTold, LandsChanged, Changes}
+use Rattle.jv_contents.specs.Bytes.{KnownBytes, bytes_of, tree_with}
+use Rattle.jv_data.specs.Changing.{Makes, AnyBytes, LandsChanged, Changes}
 
 module _ {A : Type 0} (makes : Makes) (crowded : Rows → Type 0) (reply : A → Reply) (before after : Store) (act : Tree → Result Outcome Fault) where
-  lands_refused : (fault : TxFault) (known : RowMap) (told : Told) → Agrees {A = Outcome} (Err fault) (act (tree_with told (typed known)))
-      → LandsChanged {A = A} makes crowded known after.rows told reply act (Err fault)
-  lands_refused (Refused fault) known told h = inl h
-  lands_refused (Moved list) known told h = h
-  lands_refused (OfRows (Bad at bytes)) known told h = h
-  lands_refused (OfRows Failed) known told h = tt
-  lands_refused (OfRows Memory) known told h = tt
+  lands_refused : (fault : TxFault) (known : RowMap) (known_bytes : KnownBytes) → Agrees {A = Outcome} (Err fault) (act (tree_with known_bytes (typed known)))
+      → LandsChanged {A = A} makes crowded known after.rows known_bytes reply act (Err fault)
+  lands_refused (Refused fault) known known_bytes h = inl h
+  lands_refused (Moved list) known known_bytes h = h
+  lands_refused (OfRows (Bad at bytes)) known known_bytes h = h
+  lands_refused (OfRows Failed) known known_bytes h = tt
+  lands_refused (OfRows Memory) known known_bytes h = tt
 
   pub changes-refused : (fault : TxFault) → Looks {A = Outcome} before after (Err fault) act
-      → Changes {A = A} makes AnyTold crowded before after (Err fault) reply act
+      → Changes {A = A} makes AnyBytes crowded before after (Err fault) reply act
   changes-refused fault l = record {
     opened_at = l.opened_at;
     counts = l.counts;
     undone = l.rows_are;
-    lands = λ known is whole told ready. lands_refused fault known told (l.agrees known is whole (bytes_of told (typed known)));
+    lands = λ known is whole known_bytes ready. lands_refused fault known known_bytes (l.agrees known is whole (bytes_of known_bytes (typed known)));
     bad = l.bad;
   }

@@ -1,6 +1,7 @@
 -- How a file gets another length: each exit, by what was read and what was changed.
 use Rattle.std.proofs.Common.{◌≡◌, ◌≢◌, ℕ, true, false, List, [], None, Some, Result, Ok, Err, refl, sym, ap, ◌∙◌}
 use Rattle.std.specs.Prelude.{◌||◌, ◌==◌, IsTrue}
+use Rattle.jv_model.specs.declared.tables.TheConstants.{TABLE_OF_SETTING}
 use Rattle.jv_model.specs.declared.fault.Fault.{Fault}
 use Rattle.jv_model.specs.declared.fault.Fault.TheVariants.{NoSpace}
 use Rattle.jv_model.specs.declared.fault.TxFault.{TxFault}
@@ -35,7 +36,7 @@ use Rattle.jv_data.proofs.CountersLaws.{put_again, used-same, counters-same, fit
 use Rattle.jv_data.proofs.SizedLaws.{fits-sized}
 
 -- setting, lists, slices and dead slices stay as they are where a file's row is put
-leave-node : (rows : Rows) (inode : ℕ) (node : NodeRow) (key : RowKey) → IsTrue ((key.tab == 0) || is_of_slices key.tab)
+leave-node : (rows : Rows) (inode : ℕ) (node : NodeRow) (key : RowKey) → IsTrue ((key.tab == TABLE_OF_SETTING) || is_of_slices key.tab)
     → get (insert rows (node_key inode) (Ok (OfNode node))) key ≡ get rows key
 leave-node rows inode node key of =
     get-alter-apart row_key rows (node_key inode) (Some (Ok (OfNode node))) key (λ same. absurd (apart (ap (λ (k : RowKey). k.tab) same) of))
@@ -51,7 +52,7 @@ keep-counters rows inode node = get-alter-apart row_key rows (node_key inode) (S
     apart same = (let tabs : counters_key.tab ≡ (node_key inode).tab = ap (λ (k : RowKey). k.tab) same in absurd (cc))
 
 -- setting, lists, slices and dead slices stay as they are where the counters are put
-leave-counters : (rows : Rows) (counters : Counters) (key : RowKey) → IsTrue ((key.tab == 0) || is_of_slices key.tab)
+leave-counters : (rows : Rows) (counters : Counters) (key : RowKey) → IsTrue ((key.tab == TABLE_OF_SETTING) || is_of_slices key.tab)
     → get (insert rows counters_key (Ok (OfCounters counters))) key ≡ get rows key
 leave-counters rows counters key of =
     get-alter-apart row_key rows counters_key (Some (Ok (OfCounters counters))) key (λ same. absurd (apart (ap (λ (k : RowKey). k.tab) same) of))

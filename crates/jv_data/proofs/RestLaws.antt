@@ -3,6 +3,7 @@ use Rattle.std.proofs.Common.{◌≡◌, ◌≢◌, ℕ, ◌⊎◌, inl, inr, Bo
 use Rattle.std.specs.Prelude.{◌==◌, ◌&&◌, ◌||◌}
 use Rattle.std.proofs.lemmas.Bool.{eq-eqb, eqb-true, or_parts}
 use Rattle.std.proofs.lemmas.Option.{same_Some}
+use Rattle.jv_model.specs.declared.tables.TheConstants.{TABLE_OF_LISTS, TABLE_OF_COUNTERS, TABLE_OF_SLICES, TABLE_OF_DEAD, TABLE_OF_NODES}
 use Rattle.jv_model.specs.declared.row.Counters.{Counters}
 use Rattle.jv_model.specs.declared.row.Node.{Node as NodeRow}
 use Rattle.jv_model.specs.declared.row.RowKey.{RowKey}
@@ -19,24 +20,24 @@ use Rattle.jv_data.specs.Changing.{may_change}
 use Rattle.jv_data.proofs.SizedLaws.{sized_rows, kept-sized}
 
 -- such a row is of no table of slices, or in the list of another file
-rest_parts : (inode : ℕ) (key : RowKey) → may_change inode key ≡ false → (is_of_slices key.tab ≡ false) ⊎ ((key.tab ≡ 4) × (key.a ≢ inode))
-rest_parts inode key other = by_tab (key.tab == 4) refl
+rest_parts : (inode : ℕ) (key : RowKey) → may_change inode key ≡ false → (is_of_slices key.tab ≡ false) ⊎ ((key.tab ≡ TABLE_OF_LISTS) × (key.a ≢ inode))
+rest_parts inode key other = by_tab (key.tab == TABLE_OF_LISTS) refl
   where
-    first : ((((key.tab == 1) || (key.tab == 5)) || (key.tab == 9)) ≡ false) × ((((key.tab == 4) || (key.tab == 2)) && (key.a == inode)) ≡ false)
-    first = or_parts (((key.tab == 1) || (key.tab == 5)) || (key.tab == 9)) (((key.tab == 4) || (key.tab == 2)) && (key.a == inode)) other
+    first : ((((key.tab == TABLE_OF_COUNTERS) || (key.tab == TABLE_OF_SLICES)) || (key.tab == TABLE_OF_DEAD)) ≡ false) × ((((key.tab == TABLE_OF_LISTS) || (key.tab == TABLE_OF_NODES)) && (key.a == inode)) ≡ false)
+    first = or_parts (((key.tab == TABLE_OF_COUNTERS) || (key.tab == TABLE_OF_SLICES)) || (key.tab == TABLE_OF_DEAD)) (((key.tab == TABLE_OF_LISTS) || (key.tab == TABLE_OF_NODES)) && (key.a == inode)) other
 
-    second : (((key.tab == 1) || (key.tab == 5)) ≡ false) × ((key.tab == 9) ≡ false)
-    second = or_parts ((key.tab == 1) || (key.tab == 5)) (key.tab == 9) first.0
+    second : (((key.tab == TABLE_OF_COUNTERS) || (key.tab == TABLE_OF_SLICES)) ≡ false) × ((key.tab == TABLE_OF_DEAD) ≡ false)
+    second = or_parts ((key.tab == TABLE_OF_COUNTERS) || (key.tab == TABLE_OF_SLICES)) (key.tab == TABLE_OF_DEAD) first.0
 
-    third : ((key.tab == 1) ≡ false) × ((key.tab == 5) ≡ false)
-    third = or_parts (key.tab == 1) (key.tab == 5) second.0
+    third : ((key.tab == TABLE_OF_COUNTERS) ≡ false) × ((key.tab == TABLE_OF_SLICES) ≡ false)
+    third = or_parts (key.tab == TABLE_OF_COUNTERS) (key.tab == TABLE_OF_SLICES) second.0
 
-    by_tab : (b : Bool) → (key.tab == 4) ≡ b → (is_of_slices key.tab ≡ false) ⊎ ((key.tab ≡ 4) × (key.a ≢ inode))
+    by_tab : (b : Bool) → (key.tab == TABLE_OF_LISTS) ≡ b → (is_of_slices key.tab ≡ false) ⊎ ((key.tab ≡ TABLE_OF_LISTS) × (key.a ≢ inode))
     by_tab false e = inl (λ i. (e i || third.1 i) || second.1 i)
     by_tab true e = inr (
-      eqb-true key.tab 4 e,
+      eqb-true key.tab TABLE_OF_LISTS e,
       λ same.
-          let named : (((key.tab == 4) || (key.tab == 2)) && (key.a == inode)) ≡ true = λ i. (e i || (key.tab == 2)) && eq-eqb key.a inode same i in
+          let named : (((key.tab == TABLE_OF_LISTS) || (key.tab == TABLE_OF_NODES)) && (key.a == inode)) ≡ true = λ i. (e i || (key.tab == TABLE_OF_NODES)) && eq-eqb key.a inode same i in
           let both : true ≡ false = sym named ∙ first.1 in
           absurd (cc),
     )
@@ -61,11 +62,11 @@ module _ (rows : Rows) (inode : ℕ) (was : NodeRow) (c : Counters) (now length 
 
   -- and a change of slices and of the file's lists leaves them so
   pub rest-then : (last : Rows) → ((key : RowKey) → is_of_slices key.tab ≡ false → get last key ≡ get middle key)
-      → ((key : RowKey) → key.tab ≡ 4 → key.a ≢ inode → get last key ≡ get middle key)
+      → ((key : RowKey) → key.tab ≡ TABLE_OF_LISTS → key.a ≢ inode → get last key ≡ get middle key)
       → (key : RowKey) → may_change inode key ≡ false → get last key ≡ get rows key
   rest-then last rest lists key other = by_parts (rest_parts inode key other) ∙ rest-sized key other
     where
-      by_parts : (is_of_slices key.tab ≡ false) ⊎ ((key.tab ≡ 4) × (key.a ≢ inode)) → get last key ≡ get middle key
+      by_parts : (is_of_slices key.tab ≡ false) ⊎ ((key.tab ≡ TABLE_OF_LISTS) × (key.a ≢ inode)) → get last key ≡ get middle key
       by_parts (inl no_slices) = rest key no_slices
       by_parts (inr list) = lists key list.0 list.1
 

@@ -3,6 +3,7 @@ use Rattle.std.proofs.Common.{◌≡◌, ℕ, ◌^◌, Bool, true, false, inl, i
 use Rattle.std.specs.Prelude.{◌==◌, ◌&&◌, ◌||◌, if◌then◌else◌}
 use Rattle.std.proofs.lemmas.Bool.{cases_lt, or_parts, eqb-true, and_parts}
 use Rattle.std.proofs.lemmas.Option.{same_Some}
+use Rattle.jv_model.specs.declared.tables.TheConstants.{TABLE_OF_SLICES, TABLE_OF_DEAD}
 use Rattle.jv_model.specs.declared.row.RowKey.{RowKey}
 use Rattle.jv_model.specs.declared.row.Row.TheVariants.{OfSlice, OfDead}
 use Rattle.jv_model.specs.declared.slice.Rec.{Rec}
@@ -81,27 +82,27 @@ module _ (gone added : List Rec) (due : ℕ) (rows after : Rows) (a : Adjusted g
   died_cell id size before x false was e = was e
 
   named_cell : AreRows rows → (tab id : ℕ) (b : List ℕ) (x : Cell) → get after (record { tab = tab; a = id; b = b }) ≡ Some x
-      → ((tab == 5) || (tab == 9)) ≡ true → b ≡ [] → Recounted id (records_naming id gone) (records_naming id added) due rows after
+      → ((tab == TABLE_OF_SLICES) || (tab == TABLE_OF_DEAD)) ≡ true → b ≡ [] → Recounted id (records_naming id gone) (records_naming id added) due rows after
       → IsRowAt (record { tab = tab; a = id; b = b }) x
-  named_cell all tab id b x e tabs none r = by_tab (tab == 5) refl
+  named_cell all tab id b x e tabs none r = by_tab (tab == TABLE_OF_SLICES) refl
     where
       count : ℕ
       count = recounted r.slice.count (records_naming id gone) (records_naming id added)
 
-      as_slice : tab ≡ 5 → IsRowAt (record { tab = tab; a = id; b = b }) x
+      as_slice : tab ≡ TABLE_OF_SLICES → IsRowAt (record { tab = tab; a = id; b = b }) x
       as_slice is =
           let key : ◌≡◌ {A = RowKey} (record { tab = tab; a = id; b = b }) (slice_key id) = (λ i. record { tab = is i; a = id; b = none i }) in
           subst (λ (k : RowKey). IsRowAt k x) (sym key) (row_cell id r.slice.size count x (count == 0) (sym r.row ∙ ap (get after) (sym key) ∙ e))
 
-      as_dead : tab ≡ 9 → IsRowAt (record { tab = tab; a = id; b = b }) x
+      as_dead : tab ≡ TABLE_OF_DEAD → IsRowAt (record { tab = tab; a = id; b = b }) x
       as_dead is =
           let key : ◌≡◌ {A = RowKey} (record { tab = tab; a = id; b = b }) (dead_key id) = (λ i. record { tab = is i; a = id; b = none i }) in
           subst (λ (k : RowKey). IsRowAt k x) (sym key)
           (died_cell id r.slice.size (get rows (dead_key id)) x (count == 0) (all (dead_key id) x) (sym r.dead ∙ ap (get after) (sym key) ∙ e))
 
-      by_tab : (c : Bool) → (tab == 5) ≡ c → IsRowAt (record { tab = tab; a = id; b = b }) x
-      by_tab true is = as_slice (eqb-true tab 5 is)
-      by_tab false is = as_dead (eqb-true tab 9 (sym (ap (λ c. c || (tab == 9)) is) ∙ tabs))
+      by_tab : (c : Bool) → (tab == TABLE_OF_SLICES) ≡ c → IsRowAt (record { tab = tab; a = id; b = b }) x
+      by_tab true is = as_slice (eqb-true tab TABLE_OF_SLICES is)
+      by_tab false is = as_dead (eqb-true tab TABLE_OF_DEAD (sym (ap (λ c. c || (tab == TABLE_OF_DEAD)) is) ∙ tabs))
 
   cells-adjusted : AreRows rows → AreRows after
   cells-adjusted all key x e = by_named (is_of_slice (is_named gone added) key) refl
@@ -109,8 +110,8 @@ module _ (gone added : List Rec) (due : ℕ) (rows after : Rows) (a : Adjusted g
       by_named : (c : Bool) → is_of_slice (is_named gone added) key ≡ c → IsRowAt key x
       by_named false n = all key x (sym (a.others key n) ∙ e)
       by_named true n =
-          let p = and_parts (((key.tab == 5) || (key.tab == 9)) && is_nil key.b) (is_named gone added key.a) n in
-          let q = and_parts ((key.tab == 5) || (key.tab == 9)) (is_nil key.b) p.0 in
+          let p = and_parts (((key.tab == TABLE_OF_SLICES) || (key.tab == TABLE_OF_DEAD)) && is_nil key.b) (is_named gone added key.a) n in
+          let q = and_parts ((key.tab == TABLE_OF_SLICES) || (key.tab == TABLE_OF_DEAD)) (is_nil key.b) p.0 in
           named_cell all key.tab key.a key.b x e q.0 (nil_is key.b q.1) (a.named key.a p.1)
 
   pub beside-adjusted : Beside rows after

@@ -15,12 +15,12 @@ use Rattle.jv_model.specs.declared.row.RowKey.{RowKey}
 use Rattle.jv_model.specs.rows.RowKeys.{row_key}
 use Rattle.jv_model.specs.rows.RowPlaces.{counters_key, node_key}
 use Rattle.jv_model.specs.tree.Tree.{Tree, Node, Kind, File, Directory, Symlink, Content, node_at, content_at, is_counted, paged, node_space, kind_space, used_space, used_inodes, space_limit, inode_limit, sum_fits, fits, root, trash_root}
-use Rattle.jv_model.specs.tree.Changes.{touched, put_node, set_node, with_content}
+use Rattle.jv_model.specs.tree.Changes.{touched, put_node, set_node, with_content, content_of}
 use Rattle.jv_model.proofs.FiniteMapLaws.{same_maps}
 use Rattle.jv_model.proofs.TestLaws.{and_true}
 use Rattle.jv_volume.specs.TypedRows.{Rows}
 use Rattle.jv_volume.specs.Views.{row_in, counters_in, counters_at, node_in, node_row_at, setting_at}
-use Rattle.jv_volume.specs.TreeOf.{content_of, node_of, tree_of}
+use Rattle.jv_volume.specs.TreeOf.{node_of, tree_of}
 use Rattle.jv_volume.specs.Shape.{WholeShape, Regular, form_of, is_there, shape_of}
 use Rattle.jv_volume.specs.Slices.{OfFile, WholeFiles}
 use Rattle.jv_volume.specs.Stored.{Stored}
@@ -37,7 +37,7 @@ use Rattle.jv_volume.proofs.StoredLaws.{HasNode, HasCounters, of_counters, found
 use Rattle.jv_volume.proofs.StoredStepLaws.{tree_of-length, stored-length}
 use Rattle.jv_volume.proofs.SumLaws.{node_space-counted, used_space-drop_node, used_space-with_content, used_inodes-with_content}
 use Rattle.jv_volume.proofs.TreeOfLaws.{node_at-tree_of}
-use Rattle.jv_data.specs.Resizing.{paged_space, used_after}
+use Rattle.jv_data.specs.Resizing.{used_after}
 use Rattle.jv_data.proofs.BesideLaws.{IsFormed}
 
 -- ---- bytes
@@ -236,7 +236,7 @@ module _ (rows : Rows) (inode : ℕ) (was : NodeRow) (c : Counters) (now length 
     put_is = ap (λ o. set_node before inode (option_map (λ (n : Node). record (touched now n) { kind = File content }) o)) (has bytes).there
 
     space_put : node_space inode put ≡ paged length
-    space_put = node_space-counted inode put (is_counted-file bytes) ∙ ap paged_space long
+    space_put = node_space-counted inode put (is_counted-file bytes) ∙ ap paged long
 
     used_put : used_space (with_content before now inode content) ≡ space
     used_put =

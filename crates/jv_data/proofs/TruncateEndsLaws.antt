@@ -6,7 +6,7 @@ use Rattle.std.proofs.lemmas.Option.{same_Some}
 use Rattle.std.proofs.lemmas.Bool.{cond-true, cond-false, le-leb, lt-leb, lt-ltb, le-ltb}
 use Rattle.jv_model.specs.declared.fault.Fault.{Fault}
 use Rattle.jv_model.specs.declared.fault.Fault.TheVariants.{FileTooLarge, NoSpace, Stale}
-use Rattle.jv_model.specs.declared.fault.Gone.TheVariants.{Session, Node as GoneNode}
+use Rattle.jv_model.specs.declared.fault.Gone.TheVariants.{Node as GoneNode}
 use Rattle.jv_model.specs.declared.fault.RowFault.TheVariants.{Bad, Failed, Memory}
 use Rattle.jv_model.specs.declared.fault.TxFault.{TxFault}
 use Rattle.jv_model.specs.declared.fault.TxFault.TheVariants.{Refused, Moved, Rows as OfRows}
@@ -15,16 +15,16 @@ use Rattle.jv_model.specs.declared.op.Reply.TheVariants.{Done}
 use Rattle.jv_model.specs.FiniteMap.{get}
 use Rattle.jv_model.specs.rows.RowKeys.{RowMap}
 use Rattle.jv_model.specs.tree.Attempt.{◌>>=◌, require, some_or}
-use Rattle.jv_model.specs.tree.Caller.{Caller, Outcome, done}
-use Rattle.jv_model.specs.tree.Changes.{resized, with_content}
-use Rattle.jv_model.specs.tree.FileBytes.{truncated, truncate}
+use Rattle.jv_model.specs.tree.Caller.{Caller, Outcome, done, session_there}
+use Rattle.jv_model.specs.tree.Changes.{resized, with_content, content_of}
+use Rattle.jv_model.specs.tree.FileBytes.{truncated, truncate, length_seen}
 use Rattle.jv_model.specs.tree.Tree.{Tree, Content, content_at, fits}
 use Rattle.jv_outside.specs.Store.{Store, Commits}
 use Rattle.jv_model.specs.declared.basics.Who.{Who}
 use Rattle.jv_rows.specs.Transactions.{Agrees, IsFor}
 use Rattle.jv_rows.proofs.TransactionLaws.{Past, of_known, past-as, past-calm, past-ends, past-fails, past-looks, past-refuses, past-stops, fails-commit}
 use Rattle.jv_data.specs.Resizing.{ResizesFile, AreSized}
-use Rattle.jv_data.specs.Truncating.{due_after, ListsCut, LeaveSlices, Cut, Kept, Shortens, list_after, CutsFile}
+use Rattle.jv_data.specs.Truncating.{ListsCut, LeaveSlices, Cut, Kept, Shortens, list_after, CutsFile}
 use Rattle.jv_data.proofs.BeginningLaws.{content_found}
 use Rattle.jv_data.proofs.CommitLaws.{looks-any}
 use Rattle.jv_outside.specs.Rows.{applied}
@@ -32,9 +32,9 @@ use Rattle.jv_rows.specs.Drafts.{drafted}
 use Rattle.jv_model.specs.declared.slice.Spot.TheVariants.{Zero}
 use Rattle.jv_contents.specs.Counts.{KeepsOthers}
 use Rattle.jv_contents.proofs.ByteLaws.{byte-grown}
-use Rattle.jv_contents.proofs.KeepLaws.{keeps-stay, slice_row-stay}
+use Rattle.jv_contents.proofs.KeepLaws.{keeps-stay}
 use Rattle.jv_contents.proofs.PlaceLaws.{place_in-same}
-use Rattle.jv_volume.proofs.QuietLaws.{quiet-lists_of}
+use Rattle.jv_volume.proofs.QuietLaws.{lists_of-stay, slice_row-stay}
 use Rattle.jv_volume.specs.Slices.{place_in}
 use Rattle.jv_data.proofs.BesideLaws.{beside-none}
 use Rattle.jv_data.proofs.ChangedLaws.{tree-changed}
@@ -52,16 +52,17 @@ use Rattle.jv_volume.specs.Whole.{Whole, Quiet}
 use Rattle.jv_model.specs.declared.row.Node.{Node as NodeRow}
 use Rattle.jv_model.specs.declared.row.RowKey.{RowKey}
 use Rattle.jv_model.specs.declared.row.SliceRow.{SliceRow}
-use Rattle.jv_volume.specs.TreeOf.{content_of, tree_of}
+use Rattle.jv_model.specs.tree.Trash.{due_after}
+use Rattle.jv_volume.specs.TreeOf.{tree_of}
 use Rattle.jv_volume.specs.TypedRows.{Rows, typed}
-use Rattle.jv_contents.specs.Bytes.{Told, spot_byte, bytes_of, tree_with}
-use Rattle.jv_data.specs.Changing.{Makes, DieUntil, AnyTold, Never, Changed, Changes, may_change, KeepsRest}
-use Rattle.jv_data.specs.Committing.{HasFile, length_seen}
+use Rattle.jv_contents.specs.Bytes.{KnownBytes, spot_byte, bytes_of, tree_with}
+use Rattle.jv_data.specs.Changing.{Makes, DieUntil, AnyBytes, Never, Changed, Changes, may_change, KeepsRest}
+use Rattle.jv_data.specs.Committing.{HasFile}
 
 -- the model's truncate of a file that a session sees
 abbrev pub truncating : (sid now inode len : ℕ) → Tree → Result Outcome Fault
 truncating sid now inode len t = do
-  _ ← require (is_some (get t.sessions sid)) (Stale (Session sid))
+  _ ← session_there t sid
   content ← some_or (content_at t inode) (Stale (GoneNode inode))
   _ ← require (nat_le len FILE_END) FileTooLarge
   _ ← require (fits t (truncated t now inode len)) NoSpace
@@ -94,7 +95,7 @@ module _ (sid now inode len : ℕ) where
   act = truncating sid now inode len
 
   abbrev pub Ends : Store → Store → Result (Unit {0}) TxFault → Type 0
-  Ends before after result = Changes {A = Unit {0}} (makes now) AnyTold Never before after result (λ unit. Done) act
+  Ends before after result = Changes {A = Unit {0}} (makes now) AnyBytes Never before after result (λ unit. Done) act
 
   -- the content that the file gets
   abbrev content : Tree → Content
@@ -237,40 +238,40 @@ module _ (sid now inode len : ℕ) where
               | Cut shorter c ↦ show_last (typed known) inode was s.counters now len whole (there known is) h.file s.there small left
                   (subst (λ (rows : Rows). ListsCut inode len now (typed known) rows left) s.is c) u
                   ∙ sym (cond-true _ _ _ (lt-ltb len was.length shorter))
-              | Kept longer same ↦ ap (λ (rows : Rows). lists_of rows inode u) (same ∙ s.is) ∙ quiet-lists_of (typed known) sized_known quiet inode u
+              | Kept longer same ↦ ap (λ (rows : Rows). lists_of rows inode u) (same ∙ s.is) ∙ lists_of-stay (typed known) sized_known quiet.apart inode u
                   ∙ sym (cond-false _ _ _ (le-ltb len was.length longer))
             ]
 
             stands : last.rows ≡ Some (applied d2 known)
             stands = commits.rows_are ∙ ap (option_map (applied d2)) (z.looks.rows_are ∙ at_sized)
 
-            tree_left : (told : Told) → tree_with told left ≡ truncated (tree_with told (typed known)) now inode len
-            tree_left told = by_lists (λ rows. tree_with told rows ≡ truncated (tree_with told (typed known)) now inode len)
-                (λ c. tree-cut_lists (typed known) inode was s.counters now len whole (there known is) h.file s.there small left c told)
-                (λ longer. tree-changed (typed known) inode was s.counters now len whole (there known is) h.file s.there sized_known (beside-none sized_known) told
-                (resized (content_of was.length (bytes_of told (typed known) inode)) len) refl
+            tree_left : (known_bytes : KnownBytes) → tree_with known_bytes left ≡ truncated (tree_with known_bytes (typed known)) now inode len
+            tree_left known_bytes = by_lists (λ rows. tree_with known_bytes rows ≡ truncated (tree_with known_bytes (typed known)) now inode len)
+                (λ c. tree-cut_lists (typed known) inode was s.counters now len whole (there known is) h.file s.there small left c known_bytes)
+                (λ longer. tree-changed (typed known) inode was s.counters now len whole (there known is) h.file s.there sized_known (beside-none sized_known) known_bytes
+                (resized (content_of was.length (bytes_of known_bytes (typed known) inode)) len) refl
                 (λ i apart p. shown i p)
                 (λ p high. shown inode p ∙ past_was p (omega (arith, longer, high)))
-                (λ p. ap (spot_byte told) (shown inode p) ∙ byte-grown told was.length (place_in (lists_of (typed known) inode)) past_was len longer p)
-                ∙ sym (ap (λ o. elim o as (λ _. Tree) [ None ↦ tree_with told (typed known) | Some old ↦ with_content (tree_with told (typed known)) now inode (resized old len) ])
-                (content_found known inode was whole (there known is) h.file (bytes_of told (typed known)))))
+                (λ p. ap (spot_byte known_bytes) (shown inode p) ∙ byte-grown known_bytes was.length (place_in (lists_of (typed known) inode)) past_was len longer p)
+                ∙ sym (ap (λ o. elim o as (λ _. Tree) [ None ↦ tree_with known_bytes (typed known) | Some old ↦ with_content (tree_with known_bytes (typed known)) now inode (resized old len) ])
+                (content_found known inode was whole (there known is) h.file (bytes_of known_bytes (typed known)))))
               where
                 shown : (i p : ℕ) → place_in (lists_of sized_known i) p ≡ place_in (lists_of (typed known) i) p
-                shown i p = place_in-same (lists_of sized_known i) (lists_of (typed known) i) (λ u. quiet-lists_of (typed known) sized_known quiet i u) p
+                shown i p = place_in-same (lists_of sized_known i) (lists_of (typed known) i) (λ u. lists_of-stay (typed known) sized_known quiet.apart i u) p
 
                 past_was : (p : ℕ) → was.length ≤ p → place_in (lists_of (typed known) inode) p ≡ Zero
                 past_was = whole.files.past inode was (there known is) h.file
 
-            changed : (told : Told) → Changed (makes now) known last.rows told Done act
+            changed : (known_bytes : KnownBytes) → Changed (makes now) known last.rows known_bytes Done act
             unfolding drafted
-            changed told = record {
+            changed known_bytes = record {
               left = applied d2 known;
               is = stands;
               whole = whole_left;
               others = others_left;
               size = λ slice here. (let none = whole_left.slices.none in absurd (cc));
               dies = dies_left;
-              model = past_cut.goes_on known is whole (bytes_of told (typed known)) ∙ ap done (sym (tree_left told));
+              model = past_cut.goes_on known is whole (bytes_of known_bytes (typed known)) ∙ ap done (sym (tree_left known_bytes));
             }
 
           pub truncate-done : (last : Store) → Commits cut last (Ok tt) d2 → Ends before last (Ok tt)
@@ -278,7 +279,7 @@ module _ (sid now inode len : ℕ) where
             opened_at = commits.opened_at ∙ past_cut.opened_at;
             counts = commits.calm ∙ past_cut.calm;
             undone = tt;
-            lands = λ known is whole told ready. changed last commits known is whole told;
+            lands = λ known is whole known_bytes ready. changed last commits known is whole known_bytes;
             bad = tt;
           }
 
@@ -298,8 +299,8 @@ module _ (sid now inode len : ℕ) where
 -- the same by the caller of the model
 pub ends-as : (who : Who) (inode len now : ℕ) (before after : Store) (result : Result (Unit {0}) TxFault) → now ≡ who.now → Ends who.sid now inode len before after result
     → (caller : Caller) → IsFor who caller → caller.inode ≡ inode
-    → Changes {A = Unit {0}} (makes who.now) AnyTold Never before after result (λ unit. Done) (λ t. truncate t caller len)
+    → Changes {A = Unit {0}} (makes who.now) AnyBytes Never before after result (λ unit. Done) (λ t. truncate t caller len)
 ends-as who inode len now before after result now_is e caller for of =
-    subst (λ (act : Tree → Result Outcome Fault). Changes {A = Unit {0}} (makes who.now) AnyTold Never before after result (λ unit. Done) act)
+    subst (λ (act : Tree → Result Outcome Fault). Changes {A = Unit {0}} (makes who.now) AnyBytes Never before after result (λ unit. Done) act)
     (λ i t. sym (truncate-as t caller who.sid who.now inode len for.sid for.now of) i)
     (subst (λ (n : ℕ). Ends who.sid n inode len before after result) now_is e)

@@ -17,7 +17,7 @@ use Rattle.jv_model.specs.declared.row.SliceRow.{SliceRow}
 use Rattle.jv_model.specs.declared.slice.Rec.{Rec}
 use Rattle.jv_model.specs.FiniteMap.{get, alter}
 use Rattle.jv_model.specs.rows.RowGrammar.{is_slice, slice_of, slice_bytes, list_bytes}
-use Rattle.jv_model.specs.rows.RowKeys.{RowMap, row_key}
+use Rattle.jv_model.specs.rows.RowKeys.{RowMap, row_key, is_key_of}
 use Rattle.jv_model.specs.rows.RowPlaces.{list_key, slice_key}
 use Rattle.jv_outside.specs.declared.batch.Change.{Change}
 use Rattle.jv_outside.specs.Store.{Store}
@@ -26,7 +26,7 @@ use Rattle.jv_rows.specs.Drafts.{drafted, IsNoRow, Sees}
 use Rattle.jv_rows.specs.Lists.{is_past, HasList, HasNoList, RefusesList, FindsList}
 use Rattle.jv_rows.specs.Readings.{ReadsRow}
 use Rattle.jv_rows.specs.Tables.{slice_row}
-use Rattle.jv_rows.specs.Transactions.{Agrees, BadFault, Looks, IsBad, Malformed, NamesNone, is_key_of}
+use Rattle.jv_rows.specs.Transactions.{Agrees, BadFault, Looks, IsBad, Malformed, NamesNone}
 use Rattle.jv_rows.proofs.DraftLaws.{sees_stored}
 use Rattle.jv_rows.proofs.TransactionLaws.{FailsBy, fails-memory, if_known, of_known, past-ends, fails-looks, fails-sees, stands-sees, drafted-none}
 use Rattle.jv_volume.specs.TypedRows.{Rows, typed}
@@ -39,7 +39,7 @@ use Rattle.jv_contents.proofs.BlockLaws.{naming-le}
 use Rattle.jv_contents.proofs.CutLaws.{all-push, all-append}
 use Rattle.jv_data.proofs.CutListsLaws.{get-ended}
 use Rattle.jv_data.proofs.DroppedLaws.{get-without}
-use Rattle.jv_data.specs.Truncating.{HasSlice, HaveSlices, records_of, Follow, ChecksSlice, ChecksSlices, Dropping, Dropped, DropsLists, IsLastBefore, LeaveSlices, TellsDue, EndsList, CutsLists}
+use Rattle.jv_data.specs.Truncating.{HasSlice, HaveSlices, records_of, Follow, ChecksSlice, ChecksSlices, Dropping, Dropped, DropsLists, IsLastBefore, LeaveSlices, SaysDue, EndsList, CutsLists}
 
 -- ---- readings of which the model sees nothing
 
@@ -324,7 +324,7 @@ module _ (gone : List Rec) (due : ℕ) (before after : Store) (changes changed :
   }
 
 module _ (inode len now due : ℕ) (start : Option ℕ) (before told ended dropped after : Store) (d0 d1 d2 d3 : List Change) (gone none : List Rec)
-    (leave : LeaveSlices before.rows d0) (last : IsLastBefore len start) (t : TellsDue now before told (Ok due)) (e : EndsList inode len told ended d0 d1 (Ok tt))
+    (leave : LeaveSlices before.rows d0) (last : IsLastBefore len start) (t : SaysDue now before told (Ok due)) (e : EndsList inode len told ended d0 d1 (Ok tt))
     (d : DropsLists inode start ended dropped d1 d2 (Ok gone)) where
   so_far : Looks {A = Unit {0}} before dropped (Ok tt) (λ t. Ok tt)
   so_far = looks-then before ended dropped (Ok tt) (looks-then before told ended (Ok tt) t.looks e.looks) d.looks

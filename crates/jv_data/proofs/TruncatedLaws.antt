@@ -2,6 +2,7 @@
 use Rattle.std.proofs.Common.{◌≡◌, ◌≢◌, ℕ, ◌*◌, ◌/◌, ◌%◌, ◌<◌, ◌≤◌, ◌^◌, ◌⊎◌, inl, inr, true, false, List, [], ◌∷◌, length, Option, None, Some, refl, sym, ap, subst, ◌∙◌, arith}
 use Rattle.std.specs.Prelude.{◌==◌, ◌||◌, nat_le, nat_lt, if◌then◌else◌}
 use Rattle.std.proofs.lemmas.Bool.{cases_eq, cond-true, cond-false, eq-eqb, ne_eqb, eqb-true, leb-true, or_parts}
+use Rattle.jv_model.specs.declared.tables.TheConstants.{TABLE_OF_LISTS, TABLE_OF_SLICES, TABLE_OF_DEAD}
 use Rattle.jv_model.specs.declared.limits.TheConstants.{FILE_END, WINDOW}
 use Rattle.jv_model.specs.declared.row.Counters.{Counters}
 use Rattle.jv_model.specs.declared.row.Node.{Node as NodeRow}
@@ -16,13 +17,12 @@ use Rattle.jv_volume.specs.TypedRows.{Cell, Rows, is_key}
 use Rattle.jv_volume.specs.Views.{row_in, records_in, node_row_at, counters_at, lists_of, slice_row_at, dead_at}
 use Rattle.jv_volume.specs.Slices.{place_in, next_slice, WholeSlices}
 use Rattle.jv_volume.specs.Whole.{Quiet, Whole, is_of_slices}
-use Rattle.jv_volume.proofs.QuietLaws.{quiet-slices, quiet-lists_of}
-use Rattle.jv_contents.specs.Bytes.{Told, tree_with}
+use Rattle.jv_volume.proofs.QuietLaws.{quiet-slices, lists_of-stay, slice_row-stay}
+use Rattle.jv_contents.specs.Bytes.{KnownBytes, tree_with}
 use Rattle.jv_contents.specs.Counts.{KeepsOthers}
 use Rattle.jv_contents.specs.Places.{with_list, cut_list, cut_at}
 use Rattle.jv_contents.proofs.ByteLaws.{past-cut}
 use Rattle.jv_contents.proofs.CountLaws.{ListsMove, move-none, others-adjusted, dead_after, go-adjusted}
-use Rattle.jv_contents.proofs.KeepLaws.{slice_row-stay}
 use Rattle.jv_contents.proofs.PlaceLaws.{place_in-same, place_in-cut}
 use Rattle.jv_contents.proofs.WholeLaws.{SlicesGo}
 use Rattle.jv_data.specs.Changing.{may_change}
@@ -39,7 +39,7 @@ use Rattle.jv_data.proofs.SizedLaws.{sized_rows, quiet-sized}
 pub whole-windows : (rows : Rows) → Whole rows → HaveWindows rows
 whole-windows rows whole key four there = by_cell (get rows key) refl
   where
-    long : (tab a : ℕ) (b : List ℕ) → tab ≡ 4 → is_key (record { tab = tab; a = a; b = b }) ≡ true → length b ≡ 4
+    long : (tab a : ℕ) (b : List ℕ) → tab ≡ TABLE_OF_LISTS → is_key (record { tab = tab; a = a; b = b }) ≡ true → length b ≡ 4
     long tab a b is k = eqb-true (length b) 4 (sym (ap (λ n. is_key (record { tab = n; a = a; b = b })) is) ∙ k)
 
     by_cell : (o : Option Cell) → get rows key ≡ o → length key.b ≡ 4
@@ -75,7 +75,7 @@ module _ (rows : Rows) (inode : ℕ) (was : NodeRow) (c : Counters) (now len : �
   quiet = quiet-sized rows inode was c now len whole there file counters
 
   list_same : (i u : ℕ) → lists_of middle i u ≡ lists_of rows i u
-  list_same i u = quiet-lists_of rows middle quiet i u
+  list_same i u = lists_of-stay rows middle quiet.apart i u
 
   low : window < 2 ^ 32
   low = grind (arith, small)
@@ -105,10 +105,10 @@ module _ (rows : Rows) (inode : ℕ) (was : NodeRow) (c : Counters) (now len : �
 
   -- ---- what is shown
 
-  get_last : (key : RowKey) → (key.tab == 4) ≡ true → get last key ≡ get (rows_without inode lists ended) key
+  get_last : (key : RowKey) → (key.tab == TABLE_OF_LISTS) ≡ true → get last key ≡ get (rows_without inode lists ended) key
   get_last key four =
-      let tab = eqb-true key.tab 4 four in
-      others-adjusted cut.gone [] _ cut.without last cut.adjusted key (ne_eqb key.tab 5 (λ e. omega (arith, tab, e))) (ne_eqb key.tab 9 (λ e. omega (arith, tab, e)))
+      let tab = eqb-true key.tab TABLE_OF_LISTS four in
+      others-adjusted cut.gone [] _ cut.without last cut.adjusted key (ne_eqb key.tab TABLE_OF_SLICES (λ e. omega (arith, tab, e))) (ne_eqb key.tab TABLE_OF_DEAD (λ e. omega (arith, tab, e)))
       ∙ ap (λ (x : Rows). get x key) cut.dropped.so_far.is
 
   lists_last : (i u : ℕ) → lists_of last i u ≡ lists_of (rows_without inode lists ended) i u
@@ -171,12 +171,12 @@ module _ (rows : Rows) (inode : ℕ) (was : NodeRow) (c : Counters) (now len : �
   -- all rows that it may not change are as before
   pub rest-cut : (key : RowKey) → may_change inode key ≡ false → get last key ≡ get rows key
   rest-cut = rest-then rows inode was c now len whole there file counters last rest
-      (λ key four apart. get_last key (eq-eqb key.tab 4 four) ∙ get-without-file inode lists ended key apart ∙ get-ended-file inode window pos middle inner key apart)
+      (λ key four apart. get_last key (eq-eqb key.tab TABLE_OF_LISTS four) ∙ get-without-file inode lists ended key apart ∙ get-ended-file inode window pos middle inner key apart)
 
-  owners : (key : RowKey) → key.tab ≡ 4 → get last key ≢ None → (get rows key ≢ None) ⊎ (key.a ≡ inode)
+  owners : (key : RowKey) → key.tab ≡ TABLE_OF_LISTS → get last key ≢ None → (get rows key ≢ None) ⊎ (key.a ≡ inode)
   owners key four is = elim (cases_eq key.a inode) [
     | inl same ↦ inr same
-    | inr apart ↦ inl (λ none. is (get_last key (eq-eqb key.tab 4 four) ∙ get-without-file inode lists ended key apart
+    | inr apart ↦ inl (λ none. is (get_last key (eq-eqb key.tab TABLE_OF_LISTS four) ∙ get-without-file inode lists ended key apart
         ∙ get-ended-file inode window pos middle inner key apart ∙ quiet.apart key (ap is_of_slices four) ∙ none))
   ]
 
@@ -197,5 +197,5 @@ module _ (rows : Rows) (inode : ℕ) (was : NodeRow) (c : Counters) (now len : �
     pub others-cut : KeepsOthers 0 1 rows last
     others-cut = others-changed rows inode was c now len whole there file counters small given 1 last change
 
-  pub tree-cut_lists : (told : Told) → tree_with told last ≡ truncated (tree_with told rows) now inode len
-  tree-cut_lists told = tree-cut rows inode was c now len whole there file counters 1 last change told shows
+  pub tree-cut_lists : (known_bytes : KnownBytes) → tree_with known_bytes last ≡ truncated (tree_with known_bytes rows) now inode len
+  tree-cut_lists known_bytes = tree-cut rows inode was c now len whole there file counters 1 last change known_bytes shows

@@ -1,19 +1,14 @@
 -- What a session reads of a file's row, and how a commit of bytes begins.
-use Rattle.std.specs.Prelude.{◌≡◌, ℕ, ◌+◌, max, nat_lt, List, length, is_some, Some, Result, Ok, Err, IfOk, OnOk, IsTrue}
-use Rattle.jv_model.specs.declared.fault.Fault.{Fault}
-use Rattle.jv_model.specs.declared.fault.Fault.TheVariants.{NoSpace, Stale, TimedOut}
-use Rattle.jv_model.specs.declared.fault.Gone.TheVariants.{Session, Node as GoneNode}
+use Rattle.std.specs.Prelude.{◌≡◌, ℕ, ◌+◌, max, List, length, Some, Result, Ok, Err, IfOk, OnOk, IsTrue}
 use Rattle.jv_model.specs.declared.fault.TxFault.{TxFault}
-use Rattle.jv_model.specs.declared.lifetimes.TheConstants.{UPLOAD_LIFE}
 use Rattle.jv_model.specs.declared.row.Node.{Node}
 use Rattle.jv_model.specs.declared.row.Row.TheVariants.{OfNode}
 use Rattle.jv_model.specs.FiniteMap.{get}
 use Rattle.jv_model.specs.rows.RowGrammar.{is_node}
 use Rattle.jv_model.specs.rows.RowKeys.{RowMap}
 use Rattle.jv_model.specs.rows.RowPlaces.{node_key}
-use Rattle.jv_model.specs.tree.Attempt.{◌>>=◌, require, some_or}
-use Rattle.jv_model.specs.tree.Tree.{Tree, content_at, fits}
-use Rattle.jv_model.specs.tree.FileBytes.{committed}
+use Rattle.jv_model.specs.tree.Attempt.{◌>>=◌}
+use Rattle.jv_model.specs.tree.FileBytes.{length_seen, commit_of}
 use Rattle.jv_outside.specs.declared.batch.Change.{Change}
 use Rattle.jv_outside.specs.Store.{Store}
 use Rattle.jv_rows.specs.Drafts.{drafted}
@@ -23,13 +18,6 @@ use Rattle.jv_volume.specs.TypedRows.{Rows, typed}
 use Rattle.jv_volume.specs.Whole.{Whole}
 use Rattle.jv_data.specs.Resizing.{AreSized}
 use Rattle.jv_data.specs.Truncating.{LeaveSlices}
-
--- the length of a file, as a session sees it
-abbrev pub length_seen : ℕ → ℕ → Tree → Result ℕ Fault
-length_seen sid inode t = do
-  _ ← require (is_some (get t.sessions sid)) (Stale (Session sid))
-  content ← some_or (content_at t inode) (Stale (GoneNode inode))
-  Ok content.length
 
 abbrev pub length_in : Result Node TxFault → Result ℕ TxFault
 length_in (Ok node) = Ok node.length
@@ -41,14 +29,6 @@ pub record HasFile (sid inode : ℕ) (before after : Store) (result : Result Nod
   pub stands : IfOk result (λ node. HasNodeRow after inode node)
   pub file : IfOk result (λ node. node.kind ≡ 1)
   pub allowed : IfOk result (λ node. IsTrue (is_node node))
-
--- the model's commit of bytes to a file, whose block was begun at a moment
-abbrev pub commit_of : (sid inode from : ℕ) → List ℕ → (started now : ℕ) → Tree → Result Tree Fault
-commit_of sid inode from patch started now t = do
-  _ ← length_seen sid inode t
-  _ ← require (nat_lt now (started + UPLOAD_LIFE)) (TimedOut started now)
-  _ ← require (fits t (committed t now inode from patch)) NoSpace
-  Ok (committed t now inode from patch)
 
 -- rows of a file that reaches at least to a position
 pub record Begun (rows after : Rows) (inode end now : ℕ) : Type 0 where

@@ -1,9 +1,8 @@
 -- Looks at a window, numbers for slices, and commits of a slice's record.
-use Rattle.std.specs.Prelude.{◌≡◌, ◌≢◌, ◌⊎◌, ℕ, ◌+◌, ◌*◌, ◌<◌, nat_lt, List, length, slice_index, is_some, Option, Some, Result, Ok, Err, IfOk, IfErr, IfSome, OnOk, OnErr}
+use Rattle.std.specs.Prelude.{◌≡◌, ◌≢◌, ◌⊎◌, ℕ, ◌+◌, ◌*◌, ◌<◌, nat_lt, List, length, slice_index, Option, Some, Result, Ok, Err, IfOk, IfErr, IfSome, OnOk, OnErr}
 use Rattle.std.specs.List.{AllByRecursion}
 use Rattle.jv_model.specs.declared.fault.Fault.{Fault}
-use Rattle.jv_model.specs.declared.fault.Fault.TheVariants.{NoSpace, Stale}
-use Rattle.jv_model.specs.declared.fault.Gone.TheVariants.{Session}
+use Rattle.jv_model.specs.declared.fault.Fault.TheVariants.{NoSpace}
 use Rattle.jv_model.specs.declared.fault.TxFault.{TxFault}
 use Rattle.jv_model.specs.declared.fault.TxFault.TheVariants.{Refused, Moved, Rows as OfRows}
 use Rattle.jv_model.specs.declared.fault.RowFault.TheVariants.{Bad, Failed, Memory}
@@ -13,12 +12,13 @@ use Rattle.jv_model.specs.declared.row.RowKey.{RowKey}
 use Rattle.jv_model.specs.declared.setting.Setting.{Setting}
 use Rattle.jv_model.specs.declared.slice.Rec.{Rec}
 use Rattle.jv_model.specs.FiniteMap.{get}
-use Rattle.jv_model.specs.blocks.Slices.{IsRecord}
+use Rattle.jv_model.specs.blocks.Slices.{IsRecord, shown}
 use Rattle.jv_model.specs.rows.RowKeys.{RowMap}
 use Rattle.jv_model.specs.rows.RowPlaces.{counters_key, list_key}
 use Rattle.jv_model.specs.tree.Attempt.{◌>>=◌, require}
-use Rattle.jv_model.specs.tree.Caller.{Outcome, done}
+use Rattle.jv_model.specs.tree.Caller.{Outcome, done, session_there}
 use Rattle.jv_model.specs.tree.Tree.{Tree}
+use Rattle.jv_model.specs.tree.FileBytes.{length_seen, commit_of}
 use Rattle.jv_outside.specs.Store.{Store}
 use Rattle.jv_rows.specs.Transactions.{TransactionCounts, Looks, BadFault, without_answer}
 use Rattle.jv_volume.specs.TypedRows.{Rows, typed}
@@ -26,10 +26,8 @@ use Rattle.jv_volume.specs.Views.{lists_of}
 use Rattle.jv_volume.specs.TreeOf.{tree_of}
 use Rattle.jv_volume.specs.Slices.{IsUnknown, next_slice}
 use Rattle.jv_volume.specs.Whole.{Whole, no_bytes}
-use Rattle.jv_contents.specs.Places.{shown}
-use Rattle.jv_contents.specs.Bytes.{Told, spot_byte}
+use Rattle.jv_contents.specs.Bytes.{KnownBytes, spot_byte}
 use Rattle.jv_data.specs.declared.looking.View.{View}
-use Rattle.jv_data.specs.Committing.{length_seen, commit_of}
 use Rattle.jv_data.specs.Changing.{Changes, Never}
 
 -- no malformed row stands at a key, where rows are known
@@ -58,7 +56,7 @@ pub record LooksAt (sid inode window : ℕ) (before after : Store) (result : Res
 -- the number that the next slice gets
 abbrev pub number_given : ℕ → Rows → Tree → Result ℕ Fault
 number_given sid rows t = do
-  _ ← require (is_some (get t.sessions sid)) (Stale (Session sid))
+  _ ← session_there t sid
   _ ← require (nat_lt (next_slice rows) FULL_COUNT) NoSpace
   Ok (next_slice rows)
 
@@ -91,15 +89,15 @@ pub record TakesNumber (sid : ℕ) (before after : Store) (result : Result ℕ T
   pub bad : IfErr result (λ fault. IfSome before.rows (λ known. BadFault (typed known) fault))
 
 -- the bytes that a record shows
-pub record Shows (told : Told) (rec : Rec) (bytes : List ℕ) : Type 0 where
+pub record Shows (known_bytes : KnownBytes) (rec : Rec) (bytes : List ℕ) : Type 0 where
   pub long : length bytes ≡ rec.len
-  pub each : (n : ℕ) → n < rec.len → spot_byte told (shown rec n) ≡ slice_index bytes n
+  pub each : (n : ℕ) → n < rec.len → spot_byte known_bytes (shown rec n) ≡ slice_index bytes n
 
 -- a record's slice has a number and nothing else names it, and the record shows these bytes
-pub record IsNew (rec : Rec) (bytes : List ℕ) (rows : Rows) (told : Told) : Type 0 where
+pub record IsNew (rec : Rec) (bytes : List ℕ) (rows : Rows) (known_bytes : KnownBytes) : Type 0 where
   pub unknown : IsUnknown rows rec.id
   pub below : rec.id < next_slice rows
-  pub shows : Shows told rec bytes
+  pub shows : Shows known_bytes rec bytes
 
 -- the model's commit of bytes to a file, whose first block was begun at a moment
 abbrev pub committing : (sid inode from : ℕ) → List ℕ → (started now : ℕ) → Tree → Result Outcome Fault

@@ -22,10 +22,6 @@ use Rattle.jv_volume.specs.Views.{counters_at}
 use Rattle.jv_volume.specs.Whole.{Whole}
 use Rattle.jv_data.specs.Truncating.{LeaveSlices}
 
--- the space that a file of this length takes
-abbrev pub paged_space : ℕ → ℕ
-paged_space length = paged length
-
 -- used space once a file of one length has another
 abbrev pub used_after : Counters → ℕ → ℕ → ℕ
 used_after c before after = (c.used_space + paged after) - paged before

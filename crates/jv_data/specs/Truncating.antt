@@ -1,8 +1,8 @@
 -- What a truncate does to a file's lists: the one that its length lies inside of reads zero from there on, and those behind it are dropped.
 use Rattle.std.specs.Prelude.{◌≡◌, ◌≢◌, ℕ, ◌+◌, ◌*◌, ◌/◌, ◌%◌, ◌<◌, ◌≤◌, ◌^◌, true, ◌==◌, ◌||◌, nat_le, nat_lt, if◌then◌else◌, List, [], ◌∷◌, ◌++◌, Option, None, Some, Result, Ok, IfOk, OnOk, IsTrue}
 use Rattle.std.specs.List.{AllByRecursion}
+use Rattle.jv_model.specs.declared.tables.TheConstants.{TABLE_OF_SETTING}
 use Rattle.jv_model.specs.declared.fault.TxFault.{TxFault}
-use Rattle.jv_model.specs.declared.lifetimes.TheConstants.{DAY}
 use Rattle.jv_model.specs.declared.limits.TheConstants.{WINDOW}
 use Rattle.jv_model.specs.declared.row.Node.{Node}
 use Rattle.jv_model.specs.declared.row.Row.TheVariants.{OfList, OfSlice}
@@ -13,6 +13,7 @@ use Rattle.jv_model.specs.declared.slice.Rec.{Rec}
 use Rattle.jv_model.specs.FiniteMap.{get, alter}
 use Rattle.jv_model.specs.rows.RowKeys.{RowMap}
 use Rattle.jv_model.specs.rows.RowPlaces.{list_key, slice_key}
+use Rattle.jv_model.specs.tree.Trash.{due_after}
 use Rattle.jv_outside.specs.declared.batch.Change.{Change}
 use Rattle.jv_outside.specs.Store.{Store}
 use Rattle.jv_rows.specs.Counts.{Adjusted}
@@ -85,10 +86,6 @@ pub record Dropped (inode : ℕ) (last : Option ℕ) (rows middle after : Rows) 
 abbrev pub IsLastBefore : ℕ → Option ℕ → Type 0
 IsLastBefore len last = (window : ℕ) → is_past last window ≡ nat_le len (window * WINDOW)
 
--- when a slice may go that died at a moment: as many days later as the trash has
-abbrev pub due_after : ℕ → Setting → ℕ
-due_after now setting = now + setting.trash_days * DAY
-
 -- that moment by the setting of rows
 pub record IsDue (now : ℕ) (rows : Rows) (due : ℕ) : Type 0 where
   pub setting : Setting
@@ -109,11 +106,11 @@ pub record ListsCut (inode len now : ℕ) (rows middle after : Rows) : Type 0 wh
 
 -- changes that leave setting, lists, slices and dead slices as they are stored
 abbrev pub LeaveSlices : Option RowMap → List Change → Type 0
-LeaveSlices rows changes = (known : RowMap) → rows ≡ Some known → (key : RowKey) → IsTrue ((key.tab == 0) || is_of_slices key.tab)
+LeaveSlices rows changes = (known : RowMap) → rows ≡ Some known → (key : RowKey) → IsTrue ((key.tab == TABLE_OF_SETTING) || is_of_slices key.tab)
     → get (drafted changes known) key ≡ get (typed known) key
 
 -- The moment when slices that die at a moment are due.
-pub record TellsDue (now : ℕ) (before after : Store) (result : Result ℕ TxFault) : Type 0 where
+pub record SaysDue (now : ℕ) (before after : Store) (result : Result ℕ TxFault) : Type 0 where
   pub looks : Looks before after (without_answer result) (λ t. Ok tt)
   pub due : IfOk result (λ due. (known : RowMap) → before.rows ≡ Some known → IsDue now (typed known) due)
 

@@ -51,15 +51,15 @@ fn begin_commit<K: Keeper>(
     resize(alloc, k, draft, inode, was, length, now)
 }
 
-/// Commits a new slice to a window of a file: appends the record that shows it, makes the slice's row with one record, makes
-/// the file reach at least to the record's end, and sets its times. The slice's first block was begun at the moment
-/// `started`.
+/// Commits a new slice to a window of a file: appends the record that shows it, makes the slice's row with one record,
+/// makes the file reach at least to the record's end, and sets its times. The slice's first block was begun at the
+/// moment `started`. Moments are in seconds. JuiceFS, Internals: chunks, slices and blocks.
 ///
 /// # Errors
 ///
-/// Stale where the session is gone, or the inode isn't a file's; then TimedOut where the block is 3,600 seconds old or older;
-/// then NoSpace where the volume has no room. Bad for a malformed row, or without bytes where setting or counters are needed
-/// and absent. Failed if the keeper failed. Memory.
+/// Stale where the session is gone, or the inode isn't a file's; then TimedOut where the block is 3,600 seconds old or
+/// older; then NoSpace where the volume has no room. Bad for a malformed row, or without bytes where setting or
+/// counters are needed and absent. Failed if the keeper failed. Memory. On error no row has changed.
 pub fn commit<K: Keeper>(
     alloc: Global,
     k: &mut K,

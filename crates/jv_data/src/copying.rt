@@ -1,7 +1,7 @@
 //! Copies between files, and inside of one.
 ghost use Rattle.std.specs.Prelude.{◌≡◌, ℕ, ◌+◌, ◌≤◌, ◌<◌, ◌++◌, ◌&&◌, ◌==◌, nat_le, IfOk, IfSome, OnOk};
 ghost use Rattle.jv_contents.specs.Fills.{record_at_spot, records_of_plan};
-ghost use Rattle.jv_data.specs.Changing.{Changes, AnyTold, IsCrowded, KeepsRest, count_in};
+ghost use Rattle.jv_data.specs.Changing.{Changes, AnyBytes, IsCrowded, KeepsRest, count_in};
 ghost use Rattle.jv_data.specs.Copying.{pieces_len, part_len, AddsPieces, ShowsRange, CopiesPart, CopiesLists};
 ghost use Rattle.jv_data.specs.Records.{HasRecords};
 ghost use Rattle.jv_data.specs.Truncating.{HaveSlices};
@@ -24,7 +24,7 @@ use std::alloc::{AllocError, Global};
 
 /// What is copied: `len` bytes of a file from a position on, to a position of a file.
 #[derive(Clone, Copy)]
-struct Course {
+struct CopyCourse {
     source: u64,
     from: u64,
     target: u64,
@@ -33,10 +33,11 @@ struct Course {
 }
 
 /// Copies at most `len` bytes of the file `src` from the position `from` on, as far as it goes, to the position `to` of
-/// the file `dst`, which may be the same, and returns how many. The target's lists get one record for each visible piece
-/// of the range, holes among them, cut at the windows of both files: at most one for each byte copied. No block is read
-/// or written. The target reaches at least to the last byte copied, and its times are set. No slice dies. A copy of 0
-/// bytes changes nothing.
+/// the file `dst`, which may be the same, and returns how many. Each list of the target gets, behind what it had, a
+/// record for every piece that [`jv_slices::plan`] finds in what is copied into its window; a hole is a piece, too, and
+/// each window of the source has a plan of its own. So there is at most one for each byte copied. No block is read or
+/// written. The target reaches at least to the last byte copied, and its times are set. No slice dies. A copy of 0
+/// bytes changes nothing. Linux, copy_file_range.
 ///
 /// # Errors
 ///
@@ -44,7 +45,7 @@ struct Course {
 /// are one file and the ranges have a position in common; then FileTooLarge where the target's range would end past
 /// 2^40; then NoSpace where the volume has no room, or a slice would be named more than 2^62 times. Bad for a malformed
 /// row, for a list of the source that names a slice without a row, or without bytes where setting or counters are
-/// needed and absent. Failed if the keeper failed. Memory.
+/// needed and absent. Failed if the keeper failed. Memory. On error no row has changed.
 pub fn copy_range<K: Keeper>(
     alloc: Global,
     k: &mut K,
@@ -57,7 +58,7 @@ pub fn copy_range<K: Keeper>(
 ) -> Result<u64, TxFault>
     ensures changes { (caller : Caller) (due : Setting → ℕ) → IsFor who.entry.now caller
         → caller.inode ≡ src → caller.other ≡ dst
-        → Changes (record { own = 0; size = 0; more = count_in result; due = due }) AnyTold
+        → Changes (record { own = 0; size = 0; more = count_in result; due = due }) AnyBytes
         (IsCrowded FILE_END) (K.seen k.old) (K.seen k.new)
         result (λ n. Count n) (λ t. model.copy t caller from to len) }
     ensures rest { KeepsRest dst (K.seen k.old) (K.seen k.new) result }
@@ -67,7 +68,7 @@ pub fn copy_range<K: Keeper>(
     let target = file(alloc, k, who.sid, dst)?;
     // A hostile row may have a length past 2^40, and so windows whose numbers don't fit.
     let len = len.min(source.length.min(FILE_END).saturating_sub(from));
-    let course = Course {
+    let course = CopyCourse {
         source: src,
         from,
         target: dst,
@@ -96,7 +97,7 @@ pub fn copy_range<K: Keeper>(
 }
 
 /// Whether a file is copied to itself, to a range that has a position in common with the one that is copied.
-fn overlaps(course: Course) -> bool
+fn overlaps(course: CopyCourse) -> bool
     ensures { result
         ≡ ((course.source == course.target) && model.overlap course.from course.to course.len) }
 {
@@ -109,7 +110,7 @@ fn overlaps(course: Course) -> bool
 }
 
 /// Whether the target's range ends where a file may end.
-fn ends_in_file(course: Course) -> bool
+fn ends_in_file(course: CopyCourse) -> bool
     ensures { result ≡ nat_le (course.to + course.len) FILE_END }
 {
     course.to <= FILE_END && course.len <= FILE_END - course.to
@@ -121,7 +122,7 @@ fn copy_lists<K: Keeper>(
     alloc: Global,
     k: &mut K,
     draft: &mut Draft,
-    course: Course,
+    course: CopyCourse,
 ) -> Result<List, TxFault>
     requires source { course.from + course.len ≤ FILE_END }
     requires target { course.to + course.len ≤ FILE_END }
@@ -138,7 +139,7 @@ fn copy_lists<K: Keeper>(
 }
 
 /// How many bytes the part of a copy has that begins when `done` are done: as far as the target's window goes.
-fn part_len(course: Course, done: u64) -> u32
+fn part_len(course: CopyCourse, done: u64) -> u32
     requires more { done < course.len }
     requires target { course.to + course.len ≤ FILE_END }
     ensures { result ≡ part_len course done }
@@ -153,7 +154,7 @@ fn copy_part<K: Keeper>(
     alloc: Global,
     k: &mut K,
     draft: &mut Draft,
-    course: Course,
+    course: CopyCourse,
     done: u64,
 ) -> Result<List, TxFault>
     requires more { done < course.len }
@@ -171,7 +172,7 @@ fn copy_part<K: Keeper>(
     Ok(new)
 }
 
-/// The records that show, from a position of a window on, a range of a file: one for each of its visible pieces.
+/// The records that show, from a position of a window on, a range of a file: as many as a reader sees pieces there.
 fn shown<K: Keeper>(
     alloc: Global,
     k: &mut K,

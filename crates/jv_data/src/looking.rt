@@ -17,11 +17,12 @@ pub struct View {
 }
 
 /// The length of a file in bytes and the records of one of its windows, as the caller's session sees them now. A window
-/// without a list has no records.
+/// without a list has no records. JuiceFS, Internals: slices.
 ///
 /// # Errors
 ///
-/// Stale where the session is gone, or the inode isn't a file's. Bad for a malformed row. Failed if the keeper failed. Memory.
+/// Stale where the session is gone, or the inode isn't a file's. Bad for a malformed row. Failed if the keeper failed.
+/// Memory. On error no row has changed.
 pub fn look<K: Keeper>(
     alloc: Global,
     k: &mut K,

@@ -7,12 +7,12 @@ use jv_outside::Keeper;
 use jv_rows::{Draft, in_session, needed_counters};
 use std::alloc::Global;
 
-/// Returns the number of the next slice, from 1 on, which is then given to no other.
+/// Returns the number of the next slice, from 1 on, which no other slice gets. JuiceFS, Internals: slices.
 ///
 /// # Errors
 ///
-/// Stale where the session is gone; then NoSpace where the number stands at 2^62. Bad for a malformed row, or without bytes
-/// where the counters are absent. Failed if the keeper failed. Memory.
+/// Stale where the session is gone; then NoSpace where the number stands at 2^62. Bad for a malformed row, or without
+/// bytes where the counters are absent. Failed if the keeper failed. Memory. On error no row has changed.
 pub fn next_id<K: Keeper>(alloc: Global, k: &mut K, who: &Who) -> Result<u64, TxFault>
     ensures taken { TakesNumber who.entry.now.sid (K.seen k.old) (K.seen k.new) result }
     ensures positive { IfOk result (λ id. 0 < id) }

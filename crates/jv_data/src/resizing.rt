@@ -1,6 +1,7 @@
 //! A file of another length: its row, and what it adds to used space.
 ghost use Rattle.std.specs.Prelude.{◌≡◌, [], IsTrue};
-ghost use Rattle.jv_data.specs.Resizing.{Resizes, ResizesFile, paged_space, row_sized};
+ghost use Rattle.jv_model.specs.tree.Tree.{paged};
+ghost use Rattle.jv_data.specs.Resizing.{Resizes, ResizesFile, row_sized};
 ghost use Rattle.jv_model.specs.rows.RowGrammar.{is_node, is_setting};
 ghost use Rattle.jv_rows.specs.Walks.{HasNodeRow};
 
@@ -11,7 +12,7 @@ use std::alloc::Global;
 
 /// The space that a file of this length takes: whole units, at least one.
 fn paged(length: u64) -> u128
-    ensures { result ≡ paged_space length }
+    ensures { result ≡ paged length }
 {
     let unit = u128::from(SPACE_UNIT);
     unit.max(u128::from(length).div_ceil(unit) * unit)

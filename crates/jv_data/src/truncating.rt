@@ -1,12 +1,13 @@
 //! Truncates of files.
 ghost use Rattle.std.specs.Prelude.{◌≡◌, ◌<◌, ◌≤◌};
-ghost use Rattle.jv_data.specs.Changing.{Changes, AnyTold, KeepsRest, Never};
-ghost use Rattle.jv_data.specs.Truncating.{due_after, CutsFile, IsLastBefore, LeaveSlices, TellsDue};
+ghost use Rattle.jv_data.specs.Changing.{Changes, AnyBytes, KeepsRest, Never};
+ghost use Rattle.jv_data.specs.Truncating.{CutsFile, IsLastBefore, LeaveSlices, SaysDue};
 ghost use Rattle.jv_data.specs.Truncating.{ChecksSlice, ChecksSlices, CutsLists, DropsLists, EndsList, Shortens};
 ghost use Rattle.jv_model.specs.declared.limits.TheConstants.{FILE_END, LAST_MOMENT};
 ghost use Rattle.jv_model.specs.declared.op.Reply.TheVariants.{Done};
 ghost use Rattle.jv_model.specs.tree.Caller.{Caller};
 ghost use Rattle.jv_model.specs.tree.FileBytes as model;
+ghost use Rattle.jv_model.specs.tree.Trash.{due_after};
 ghost use Rattle.jv_rows.specs.Lists.{HasList};
 ghost use Rattle.jv_rows.specs.Transactions.{IsFor};
 ghost use Rattle.jv_volume.specs.Slices.{records_naming};
@@ -19,14 +20,15 @@ use jv_outside::Keeper;
 use jv_rows::{Draft, adjust, key_of_list, needed_setting, next_list, read_slice, spell_list};
 use std::alloc::Global;
 
-/// Makes a file `len` bytes long, and sets its times. Bytes past a lower end are gone, and those up to a greater one read
-/// zero. A slice that nothing names any more is dead, and its blocks may be removed `trash-days` days later.
+/// Makes a file `len` bytes long, and sets its times. Bytes past a lower end are gone, and those up to a greater one
+/// read zero. A slice that nothing names any more is dead, and its blocks may be removed `trash-days` days later.
+/// POSIX.1-2017, ftruncate.
 ///
 /// # Errors
 ///
-/// Stale where the session is gone, or the inode isn't a file's; then FileTooLarge for a length past 2^40; then NoSpace where
-/// the volume has no room. Bad for a malformed row, or without bytes where a row is absent that has to be there. Failed if the
-/// keeper failed. Memory.
+/// Stale where the session is gone, or the inode isn't a file's; then FileTooLarge for a length past 2^40; then NoSpace
+/// where the volume has no room. Bad for a malformed row, or without bytes where a row is absent that has to be there.
+/// Failed if the keeper failed. Memory. On error no row has changed.
 pub fn truncate<K: Keeper>(
     alloc: Global,
     k: &mut K,
@@ -36,7 +38,7 @@ pub fn truncate<K: Keeper>(
 ) -> Result<(), TxFault>
     ensures changes { (caller : Caller) → IsFor who.entry.now caller → caller.inode ≡ inode
         → Changes (record { own = 0; size = 0; more = 1; due = due_after who.entry.now.now })
-        AnyTold Never (K.seen k.old) (K.seen k.new)
+        AnyBytes Never (K.seen k.old) (K.seen k.new)
         result (λ unit. Done) (λ t. model.truncate t caller len) }
     ensures lists { CutsFile inode len (K.seen k.old) (K.seen k.new) result }
     ensures rest { KeepsRest inode (K.seen k.old) (K.seen k.new) result }
@@ -102,7 +104,7 @@ fn cut<K: Keeper>(
 fn due_after<K: Keeper>(alloc: Global, k: &mut K, draft: &Draft, now: u64) -> Result<u64, TxFault>
     requires moment { now ≤ LAST_MOMENT }
     requires leave { LeaveSlices (K.seen k.old).rows draft.now }
-    ensures { TellsDue now (K.seen k.old) (K.seen k.new) result }
+    ensures { SaysDue now (K.seen k.old) (K.seen k.new) result }
 {
     let setting = needed_setting(alloc, k, draft)?;
     Ok(now + u64::from(setting.trash_days) * DAY)

@@ -13,7 +13,8 @@ use Rattle.jv_model.specs.journal.Steps.{Settles, AtOnce, ReadsViews, CleanedUp,
 use Rattle.jv_model.specs.journal.Past.{Setup, text_of}
 use Rattle.jv_model.specs.journal.Legal.{Legal, Refuses}
 use Rattle.jv_model.proofs.ReplyTextExamples.{replies_on_literals}
-use Rattle.jv_examples.proofs.JournalRuns.{plain_setting, run_of, run_on, entry, entry_at, printed, journals_compute, ◌∴◌}
+use Rattle.jv_examples.proofs.JournalRuns.{run_of, run_on, entry, entry_at, printed, journals_compute, ◌∴◌}
+use Rattle.jv_examples.proofs.TreeRuns.{plain_setting}
 
 -- a volume that keeps what is removed for a day
 abbrev trash_setting : Setting
@@ -426,7 +427,7 @@ unfolding journals_compute replies_on_literals
 copied_prints = refl
 
 -- The session of a client that cleans up is expired by another one, between a slice that it found and the removal of its
--- block: the removal wants no session, and what comes after it is refused.
+-- block: the removal needs no session, and what comes after it is refused.
 abbrev expired_cleaner_run : Setup
 expired_cleaner_run = run_of (
     Do 0 (Mount false)

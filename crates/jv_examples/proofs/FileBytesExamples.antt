@@ -5,7 +5,7 @@ use Rattle.jv_model.specs.declared.op.Op.TheVariants as op
 use Rattle.jv_model.specs.tree.Tree.{Content}
 use Rattle.jv_model.specs.tree.Changes.{resized, overwritten, copied_over}
 use Rattle.jv_model.proofs.ReplyTextExamples.{replies_on_literals}
-use Rattle.jv_model.proofs.TreeComputes.{tree_computes}
+use Rattle.jv_model.proofs.TreeComputeLaws.{tree_computes}
 use Rattle.jv_examples.proofs.TreeRuns.{Event, Asks, Ticks, texts, plain_start, plain_setting, start_of, state_after, RunState}
 
 -- What a write, a truncate or a copy leaves open reads as zeros, whatever stood there before.

@@ -4,7 +4,7 @@ use Rattle.std.proofs.Common.{refl}
 use Rattle.jv_model.specs.declared.limits.TheConstants.{LAST_MOMENT}
 use Rattle.jv_model.specs.tree.HourNames.{hour_at, hour_name}
 use Rattle.jv_model.specs.tree.Trash.{hour_inode, hour_of}
-use Rattle.jv_model.proofs.TreeComputes.{names_compute}
+use Rattle.jv_model.proofs.TreeComputeLaws.{names_compute}
 
 abbrev moments : List ℕ
 moments =

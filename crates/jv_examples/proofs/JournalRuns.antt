@@ -1,5 +1,5 @@
 -- What closed examples of whole journals share.
-use Rattle.std.specs.Prelude.{ℕ, false, List, [], ◌∷◌, ◌++◌, Some, ⊤, codes}
+use Rattle.std.specs.Prelude.{ℕ, false, List, [], Some, ⊤}
 use Rattle.std.specs.List.{flat_map}
 use Rattle.jv_model.specs.declared.act.Act.{Act}
 use Rattle.jv_model.specs.declared.act.ActKind.{ActKind}
@@ -7,7 +7,9 @@ use Rattle.jv_model.specs.declared.op.Line.{Line}
 use Rattle.jv_model.specs.declared.setting.Setting.{Setting}
 use Rattle.jv_model.specs.tree.Tree.{fresh_tree}
 use Rattle.jv_model.specs.journal.Past.{Setup, begun_to, begin_next, advance, after}
-use Rattle.jv_model.proofs.TreeComputes.{tree_computes}
+use Rattle.jv_model.proofs.TreeComputeLaws.{tree_computes}
+use Rattle.jv_model.specs.script.ReplyText.{with_feed}
+use Rattle.jv_examples.proofs.TreeRuns.{plain_setting}
 
 -- on an `unfolding` line: computes where a journal that is written out leads
 unfoldable pub journals_compute : ⊤
@@ -18,19 +20,6 @@ journals_compute = tt
 infixr 5 ◌∴◌
 pub ◌∴◌ : {A B : Type 0} → A → B → A × B
 first ∴ others = (first, others)
-
--- a volume without trash and without a limit
-abbrev pub plain_setting : Setting
-plain_setting = record {
-  version = 1;
-  block = 65536;
-  trash_days = 0;
-  capacity = 0;
-  inodes = 0;
-  hash = 0;
-  name = codes "test";
-  bucket = codes "b";
-}
 
 -- a run on a volume just formatted, at a moment at which the clock stands, without uploading threads
 abbrev pub run_on : Setting → ℕ → List Line → Setup
@@ -56,4 +45,4 @@ entry = entry_at 1000
 
 -- lines of text
 abbrev pub printed : List (List ℕ) → List ℕ
-printed = flat_map (λ line. line ++ 10 ∷ [])
+printed = flat_map with_feed

@@ -1,12 +1,13 @@
 -- New entries: their times, and the limits of a volume.
 use Rattle.std.specs.Prelude.{◌≡◌, ℕ, ◌-◌, true, false, ◌&&◌, ◌||◌, not, List, [], ◌∷◌, Ok, Err, codes}
 use Rattle.std.proofs.Common.{refl}
+use Rattle.jv_model.specs.declared.limits.TheConstants.{FULL_COUNT}
 use Rattle.jv_model.specs.declared.op.Op.TheVariants as op
 use Rattle.jv_model.proofs.ReplyTextExamples.{replies_on_literals}
-use Rattle.jv_model.proofs.TreeComputes.{tree_computes}
+use Rattle.jv_model.proofs.TreeComputeLaws.{tree_computes}
 use Rattle.jv_examples.proofs.TreeRuns.{Event, Asks, Ticks, texts, plain_start, RunState}
 use Rattle.jv_model.specs.declared.fault.Fault.TheVariants.{NoSpace}
-use Rattle.jv_model.specs.tree.Tree.{Tree, Directory, EntryKey, new_node, full_count, is_directory, links_fit}
+use Rattle.jv_model.specs.tree.Tree.{Tree, Directory, EntryKey, new_node, is_directory, links_fit}
 use Rattle.jv_model.specs.tree.Walk.{unfollowed_inode_of}
 use Rattle.jv_model.specs.tree.Caller.{Caller, in_session}
 use Rattle.jv_model.specs.tree.Making.{new_place, entered, mkdir, link, linked, is_trashed}
@@ -15,7 +16,7 @@ use Rattle.jv_model.specs.tree.Renaming.{within_links}
 -- a volume whose next inode and next session are the last
 abbrev almost_full : RunState
 almost_full = record plain_start {
-  tree = record plain_start.tree { next_inode = full_count - 1; next_session = full_count - 1 };
+  tree = record plain_start.tree { next_inode = FULL_COUNT - 1; next_session = FULL_COUNT - 1 };
 }
 
 -- A new entry sets both times of its directory; a change of attributes the change time alone.

@@ -1,4 +1,4 @@
--- What an entry wants, in the form in which closed examples of journals that may not be use it.
+-- What an entry needs, in the form in which closed examples of journals that may not be use it.
 use Rattle.std.proofs.Common.{◌≡◌, ◌≤◌, ◌<◌, ◌+◌, ℕ, Bool, true, false, ◌&&◌, ◌||◌, ◌==◌, nat_lt, IsTrue, Option, None, Some, List, [], ◌∷◌, ◌++◌, length, refl, sym, arith, ap, ◌∙◌, subst}
 use Rattle.std.specs.List.{list_any}
 use Rattle.std.specs.Option.{option_map}
@@ -15,16 +15,17 @@ use Rattle.jv_model.specs.declared.op.Reply.{Reply}
 use Rattle.jv_model.specs.declared.profile.Answer.TheVariants.{CacheStats}
 use Rattle.jv_model.specs.declared.profile.Does.{Does}
 use Rattle.jv_model.specs.declared.profile.Does.TheVariants.{Answers, Compacts, Collects, Uploads}
-use Rattle.jv_model.specs.client.ModelClient.{ModelClient, Compaction, Doing, OpenFile, View, Flush, Stage, Working, LookedAgain, Compacting, Requesting, Replying, is_replying}
+use Rattle.jv_model.specs.client.ModelClient.{ModelClient, Compaction, Doing, OpenFile, View, Flush, Stage, Working, LookedAgain, Compacting, Requesting, Replying, is_replying, Cleans}
 use Rattle.jv_model.specs.client.Origins.{Origin, Start as AtStart, Zero, Committed, Made, missing_commit}
 use Rattle.jv_model.specs.client.Profile.{handle_of}
 use Rattle.jv_model.specs.journal.Reading.{fresh_view, reading}
-use Rattle.jv_model.specs.journal.State.{State, Change, answer_then}
+use Rattle.jv_model.specs.journal.State.{State, FileChange, answer_then}
 use Rattle.jv_model.specs.journal.Steps.{Start, IsEntry, MayStep, MayAnswer, Fails, Settles, AtOnce, CountsCache, ReadsViews, CleanedUp, HasCompacted, TooShort, HasReplaced, HasCollected, HasUploaded, Sent, FoundNone, Refuses}
 use Rattle.jv_model.specs.journal.Steps.{IsRefusedIn, SessionGone, InodeGone, CommitLate, CommitTooLarge, NumberRefused, CompactionCrowded, CompactionLate, AnotherList, BlockOwed, MissedTooOften, InReading, InCompaction}
-use Rattle.jv_model.specs.journal.Steps.{AnswersAtOnce, ReadsFresh, MayBeGone, Owes, MayBeCleaned, MissesBlock, may_be_cleaned, asked_of, file_in_use, begins_step, told_of, is_failure, has_judged}
+use Rattle.jv_model.specs.journal.Steps.{AnswersAtOnce, ReadsFresh, MayBeGone, Owes, MayBeCleaned, MissesBlock, may_be_cleaned, asked_of, file_in_use, begins_step, told_of, is_failure, has_judged, is_working}
 use Rattle.jv_model.specs.journal.Past.{Past, begun_to, advance, past}
 use Rattle.jv_model.specs.journal.Legal.{Allowed, AllAllowed}
+use Rattle.jv_model.proofs.TestLaws.{either_kept}
 
 pub never : false ≡ true → ⊥
 never e = absurd (cc)
@@ -54,11 +55,7 @@ abbrev pub first_number : Told → ℕ
 first_number (Fine a b c d) = a
 first_number _ = 0
 
-abbrev is_at_work : Stage → Bool
-is_at_work (Working quiets started) = true
-is_at_work _ = false
-
-judged_is_over : (does : Does) (stage : Stage) → IsTrue (has_judged does stage) → is_at_work stage ≡ false
+judged_is_over : (does : Does) (stage : Stage) → IsTrue (has_judged does stage) → is_working stage ≡ false
 judged_is_over does (Requesting requests) judged = refl
 judged_is_over does _ judged = absurd (cc)
 
@@ -71,15 +68,15 @@ has_own_numbers _ = false
 
 -- an operation at work that is done is answered by what it answers at once
 pub fine_at_once : {start : Start} {alone : Bool} {s : State} {client now : ℕ} {c : ModelClient} {d : Doing} {m n k l : ℕ}
-    → is_at_work d.stage ≡ true → has_own_numbers d.does ≡ false → MayAnswer start alone s client now c d (Fine m n k l) → AnswersAtOnce c d (Fine m n k l)
+    → is_working d.stage ≡ true → has_own_numbers d.does ≡ false → MayAnswer start alone s client now c d (Fine m n k l) → AnswersAtOnce c d (Fine m n k l)
 fine_at_once work own (Fails must fails) = absurd (cc)
-fine_at_once work own (Settles answer stage e) = let no = sym work ∙ ap is_at_work stage in absurd (cc)
+fine_at_once work own (Settles answer stage e) = let no = sym work ∙ ap is_working stage in absurd (cc)
 fine_at_once work own (AtOnce h) = h
 fine_at_once work own (CountsCache hits misses cached ready first does e) = let no = sym own ∙ ap has_own_numbers does in absurd (cc)
 fine_at_once work own (ReadsViews h) = let no = h.same in absurd (cc)
-fine_at_once work own (CleanedUp h) = let no = sym work ∙ ap is_at_work h.stage in absurd (cc)
-fine_at_once work own (HasCompacted (TooShort k records stage quiets on few e)) = let no = sym work ∙ ap is_at_work stage in absurd (cc)
-fine_at_once work own (HasCompacted (HasReplaced k before after stage replaced two e)) = let no = sym work ∙ ap is_at_work stage in absurd (cc)
+fine_at_once work own (CleanedUp h) = let no = sym work ∙ ap is_working h.stage in absurd (cc)
+fine_at_once work own (HasCompacted (TooShort k records stage quiets on few e)) = let no = sym work ∙ ap is_working stage in absurd (cc)
+fine_at_once work own (HasCompacted (HasReplaced k before after stage replaced two e)) = let no = sym work ∙ ap is_working stage in absurd (cc)
 fine_at_once {d = d} work own (HasCollected count bytes judged e) = let no = sym work ∙ judged_is_over d.does d.stage judged in absurd (cc)
 fine_at_once work own (HasUploaded does h) = let no = sym own ∙ ap has_own_numbers does in absurd (cc)
 fine_at_once work own (Refuses fault moved h e) = absurd (cc)
@@ -108,7 +105,7 @@ abbrev fault_of : Told → Fault
 fault_of (ToldRefused fault) = fault
 fault_of _ = NoMemory
 
--- a refusal that isn't settled has its cause in the request that was just made
+-- a refusal that isn't decided yet has its cause in the request that was just made
 pub refused_by_cause : {start : Start} {alone : Bool} {s : State} {client now : ℕ} {c : ModelClient} {d : Doing} {fault : Fault}
     → is_failure (ToldRefused fault) ≡ false → is_replying d.stage ≡ false → is_refusal (option_map told_of (answer_then c d)) ≡ false
     → MayAnswer start alone s client now c d (ToldRefused fault) → IsRefusedIn start s client now c d fault
@@ -145,6 +142,10 @@ try_again_after_look unlooked (BlockOwed position number from to view owed (InRe
 try_again_after_look unlooked (BlockOwed position number from to view owed (InCompaction k stage missed later view_is first last) begins ends commit e) = let yes = sym unlooked ∙ ap may_have_looked stage in absurd (cc)
 try_again_after_look unlooked (MissedTooOften window owed stage e) = absurd (cc)
 
+abbrev pub is_cleans : Stage → Bool
+is_cleans (Cleans k) = true
+is_cleans _ = false
+
 abbrev pub is_compacting : Stage → Bool
 is_compacting (Compacting k) = true
 is_compacting _ = false
@@ -167,14 +168,9 @@ abbrev compaction_in : Compaction → Stage → Compaction
 compaction_in other (Compacting k) = k
 compaction_in other _ = other
 
-either_implied : (a b x y : Bool) → (IsTrue a → IsTrue b) → (IsTrue x → IsTrue y) → IsTrue (a || x) → IsTrue (b || y)
-either_implied true b x y f g h = subst (λ yes. IsTrue (yes || y)) (sym (f refl)) refl
-either_implied false true x y f g h = refl
-either_implied false false x y f g h = g h
-
-any_implied : (p q : Change → Bool) → ((change : Change) → IsTrue (p change) → IsTrue (q change)) → (changes : List Change) → IsTrue (list_any p changes) → IsTrue (list_any q changes)
+any_implied : (p q : FileChange → Bool) → ((change : FileChange) → IsTrue (p change) → IsTrue (q change)) → (changes : List FileChange) → IsTrue (list_any p changes) → IsTrue (list_any q changes)
 any_implied p q f [] h = h
-any_implied p q f (change ∷ changes) h = either_implied (p change) (q change) _ _ (f change) (any_implied p q f changes) h
+any_implied p q f (change ∷ changes) h = either_kept (p change) _ (q change) _ (f change) (any_implied p q f changes) h
 
 and_middle : (a b x : Bool) → IsTrue (a && b && x) → IsTrue b
 and_middle true true x h = refl
@@ -281,7 +277,7 @@ abbrev is_stats : Does → Bool
 is_stats (Answers CacheStats) = true
 is_stats _ = false
 
--- once the answer is settled, no request was made that might be refused
+-- once the answer is decided, no request was made that might be refused
 pub settled_not_refused : {start : Start} {s : State} {client now : ℕ} {c : ModelClient} {o : Op} {does : Does} {flush : Flush} {moved : Bool} {answer : Reply} {fault : Fault}
     → IsRefusedIn start s client now c (record { op = o; does = does; flush = flush; stage = Replying answer; moved = moved }) fault → ⊥
 settled_not_refused (SessionGone asks gone e) = absurd (cc)
@@ -300,7 +296,7 @@ abbrev reply_in : Reply → Stage → Reply
 reply_in other (Replying answer) = answer
 reply_in other _ = other
 
--- a settled answer is the one that is answered
+-- a decided answer is the one that is answered
 pub settled_is_told : {start : Start} {alone : Bool} {s : State} {client now : ℕ} {c : ModelClient} {o : Op} {does : Does} {flush : Flush} {moved : Bool} {answer : Reply} {told : Told}
     → is_stats does ≡ false → MayAnswer start alone s client now c (record { op = o; does = does; flush = flush; stage = Replying answer; moved = moved }) told → told ≡ told_of answer
 settled_is_told other (Fails must fails) = absurd (cc)

@@ -3,7 +3,7 @@ use Rattle.std.specs.Prelude.{◌≡◌, ℕ, false, List, [], ◌∷◌, codes}
 use Rattle.std.proofs.Common.{refl}
 use Rattle.jv_model.specs.declared.op.Op.TheVariants as op
 use Rattle.jv_model.proofs.ReplyTextExamples.{replies_on_literals}
-use Rattle.jv_model.proofs.TreeComputes.{tree_computes}
+use Rattle.jv_model.proofs.TreeComputeLaws.{tree_computes}
 use Rattle.jv_examples.proofs.TreeRuns.{Event, Asks, Ticks, texts, plain_start}
 
 -- A file goes with its last name, and each name sets the change time of what is left.

@@ -5,7 +5,7 @@ use Rattle.jv_model.specs.declared.basics.How.TheVariants.{Plain}
 use Rattle.jv_model.specs.declared.op.Op.TheVariants as op
 use Rattle.jv_model.specs.tree.Tree.{Tree}
 use Rattle.jv_model.proofs.ReplyTextExamples.{replies_on_literals}
-use Rattle.jv_model.proofs.TreeComputes.{tree_computes}
+use Rattle.jv_model.proofs.TreeComputeLaws.{tree_computes}
 use Rattle.jv_examples.proofs.TreeRuns.{Event, Asks, Ticks, Expires, texts, plain_start, state_after}
 
 -- A session ends with its umount, or once its time has come and another session cleans; the files that it kept go with it.

@@ -4,7 +4,7 @@ use Rattle.std.proofs.Common.{refl}
 use Rattle.jv_model.specs.declared.basics.How.TheVariants.{Plain, NoReplace, Exchange}
 use Rattle.jv_model.specs.declared.op.Op.TheVariants as op
 use Rattle.jv_model.proofs.ReplyTextExamples.{replies_on_literals}
-use Rattle.jv_model.proofs.TreeComputes.{tree_computes}
+use Rattle.jv_model.proofs.TreeComputeLaws.{tree_computes}
 use Rattle.jv_examples.proofs.TreeRuns.{Event, Asks, Ticks, Expires, Purges, texts, start_of, plain_setting, plain_start, trash_start}
 
 -- Directories, links and symlinks, each with what is refused of them.

@@ -12,7 +12,8 @@ use Rattle.jv_model.specs.journal.Steps.{Settles}
 use Rattle.jv_model.specs.journal.Past.{Setup, text_of}
 use Rattle.jv_model.specs.journal.Legal.{Legal}
 use Rattle.jv_model.proofs.ReplyTextExamples.{replies_on_literals}
-use Rattle.jv_examples.proofs.JournalRuns.{plain_setting, run_of, run_on, entry, printed, journals_compute, ◌∴◌}
+use Rattle.jv_examples.proofs.JournalRuns.{run_of, run_on, entry, printed, journals_compute, ◌∴◌}
+use Rattle.jv_examples.proofs.TreeRuns.{plain_setting}
 
 -- a volume with both limits
 abbrev small_setting : Setting

@@ -4,7 +4,7 @@ use Rattle.std.proofs.Common.{refl}
 use Rattle.jv_model.specs.declared.basics.How.TheVariants.{Plain}
 use Rattle.jv_model.specs.declared.op.Op.TheVariants as op
 use Rattle.jv_model.proofs.ReplyTextExamples.{replies_on_literals}
-use Rattle.jv_model.proofs.TreeComputes.{tree_computes}
+use Rattle.jv_model.proofs.TreeComputeLaws.{tree_computes}
 use Rattle.jv_examples.proofs.TreeRuns.{Event, Asks, texts, plain_start, RunState, state_after}
 
 -- Slashes in a row are one, one at the end is ignored, and the root is its own parent.

@@ -10,7 +10,7 @@ use Rattle.std.proofs.lemmas.Nat.{div-add-mod', mod_below}
 use Rattle.jv_model.specs.declared.limits.TheConstants.{FILE_END, WINDOW}
 use Rattle.jv_model.specs.declared.slice.BlockId.{BlockId}
 use Rattle.jv_model.specs.journal.Reading.{Asked, asked_parts}
-use Rattle.jv_contents.specs.Blocks.{Blocks, Grows, told_by}
+use Rattle.jv_contents.specs.Blocks.{Blocks, Grows, known_by}
 use Rattle.jv_contents.proofs.BlockLaws.{grows-none, grows-then}
 use Rattle.jv_handles.specs.declared.views.View.{View}
 use Rattle.jv_handles.specs.Views.{SeenViews, view_at, with_view}
@@ -184,21 +184,21 @@ triple : (a b c d : ℕ) (xs ys : List ℕ) → a ≡ c → b ≡ d → xs ≡ y
 triple a b c d xs ys p q r = λ i. (p i, q i, r i)
 
 module _ (blocks : Blocks) (views : SeenViews) (block : ℕ) where
-  abbrev told_bytes : View → Asked → List ℕ
-  told_bytes view asked = shown_bytes (told_by block blocks) view asked
+  abbrev bytes_known : View → Asked → List ℕ
+  bytes_known view asked = shown_bytes (known_by block blocks) view asked
 
   abbrev AreRead : List Asked → List Read → Type 0
-  AreRead all read = IsReadBy (told_by block blocks) views all (entry_at 0 read, entry_at 1 read, bytes_read read)
+  AreRead all read = IsReadBy (known_by block blocks) views all (entry_at 0 read, entry_at 1 read, bytes_read read)
 
   shown_now : (asked : Asked) (view : View) (r : Read) → IsShown blocks views block asked view r
-      → r.bytes ≡ told_bytes view asked
+      → r.bytes ≡ bytes_known view asked
   shown_now asked view r shown = shown.bytes blocks (grows-none blocks)
 
   done_one : (asked : Asked) (others : List Asked) (view : View) (r : Read) → IsShown blocks views block asked view r
       → (others ≡ []) ⊎ (view.length < asked.to) → AreRead (asked ∷ others) (r ∷ [])
   done_one asked others view r shown last =
       One asked others view refl shown.seen last
-      (triple r.entry 0 view.entry 0 (r.bytes ++ []) (told_bytes view asked) shown.entry refl (append-nil r.bytes
+      (triple r.entry 0 view.entry 0 (r.bytes ++ []) (bytes_known view asked) shown.entry refl (append-nil r.bytes
       ∙ shown_now asked view r shown))
 
   done_two : (asked other : Asked) (view next : View) (r s : Read) → IsShown blocks views block asked view r
@@ -207,9 +207,9 @@ module _ (blocks : Blocks) (views : SeenViews) (block : ℕ) where
   done_two asked other view next r s shown full shown' =
       Two asked other view next refl shown.seen full shown'.seen
       (triple r.entry s.entry view.entry next.entry (r.bytes ++ (s.bytes ++ []))
-      (told_bytes view asked ++ told_bytes next other) shown.entry shown'.entry
+      (bytes_known view asked ++ bytes_known next other) shown.entry shown'.entry
       (ap (λ xs. r.bytes ++ xs) (append-nil s.bytes ∙ shown_now other next s shown')
-      ∙ ap (λ xs. xs ++ told_bytes next other) (shown_now asked view r shown)))
+      ∙ ap (λ xs. xs ++ bytes_known next other) (shown_now asked view r shown)))
 
   -- nothing more is read of no part
   none_read : (read : List Read) (parts : List Asked) → HasRead blocks views block [] read parts → read ≡ []
@@ -249,7 +249,7 @@ module _ (blocks : Blocks) (views : SeenViews) (block : ℕ) where
 
 pub all_read : (blocks : Blocks) (views : SeenViews) (all : List Asked) (f : Fetching) → f.parts ≡ []
     → IsFetching blocks views all f
-    → IsReadBy (told_by f.block blocks) views all (fetched_of f)
+    → IsReadBy (known_by f.block blocks) views all (fetched_of f)
 all_read blocks views all f over is =
     done blocks views f.block all f.read is.some is.few
     (subst (λ (ps : List Asked). HasRead blocks views f.block all f.read ps) over is.read)

@@ -9,8 +9,8 @@ use Rattle.jv_model.specs.declared.slice.BlockId.{BlockId}
 use Rattle.jv_model.specs.declared.slice.Rec.{Rec}
 use Rattle.jv_model.specs.journal.Reading.{Asked, bytes_from, window_start}
 use Rattle.jv_cache.specs.Cached.{Cached, found_in, noted_in}
-use Rattle.jv_contents.specs.Blocks.{Blocks, told_by}
-use Rattle.jv_contents.specs.Bytes.{Told}
+use Rattle.jv_contents.specs.Blocks.{Blocks, known_by}
+use Rattle.jv_contents.specs.Bytes.{KnownBytes}
 use Rattle.jv_handles.specs.declared.views.View.{View}
 use Rattle.jv_handles.specs.Views.{SeenViews, view_at}
 use Rattle.jv_reading.specs.Parts.{IsNamed, Part, ReadsAs, window_byte}
@@ -23,6 +23,7 @@ use Rattle.jv_fetching.specs.declared.need.Need.TheVariants.{Look, Block, Nothin
 use Rattle.jv_fetching.specs.Fetching.{Fetching, block_needed, fetch_left, next_of, weight}
 use Rattle.jv_fetching.specs.Shows.{shown_len}
 use Rattle.jv_fetching.specs.Going.{CanFetch, HasBegun, HasRead, IsBegunBy, IsFetching, IsShown}
+use Rattle.jv_model.proofs.TestLaws.{some_same}
 use Rattle.jv_fetching.specs.Calls.{Asks, CachedOf, HasCached, IsMissing, LooksUp, LooksUpFew, cache_key, first_seen}
 use Rattle.jv_fetching.specs.Calls.{first_unseen}
 use Rattle.jv_fetching.specs.Inside.{BeginsPart, HadBegun, BeginsNow, IsOver, LooksFirst, Ends, EndsPart, Fills, FillsBegun}
@@ -241,8 +242,8 @@ module _ (views : SeenViews) (cache : Cached) (block : ℕ) (read : List Read) w
 
 -- the bytes of a part
 abbrev AreOf : List ℕ → Part → Type 0
-AreOf bytes part = (told : Told) → ReadsAs told part
-    → bytes ≡ bytes_from (window_byte told part.list) part.from (part.to - part.from)
+AreOf bytes part = (known_bytes : KnownBytes) → ReadsAs known_bytes part
+    → bytes ≡ bytes_from (window_byte known_bytes part.list) part.from (part.to - part.from)
 
 module _ (blocks : Blocks) (views : SeenViews) (block : ℕ) (parts : List Asked) (begun : Begun) (bytes : List ℕ)
     (has : HasBegun views block (Some begun) parts) (reads : ReadsBlocks blocks begun.part)
@@ -259,17 +260,17 @@ module _ (blocks : Blocks) (views : SeenViews) (block : ℕ) (parts : List Asked
     seen = seen;
     entry = by.entry;
     bytes = λ later grows.
-        let told = told_by begun.part.block later in
+        let known_bytes = known_by begun.part.block later in
         let from : ℕ = asked.from - window_start asked.window in
         let len : begun.part.to - begun.part.from ≡ shown_len view asked =
         ap (λ n. n - begun.part.from) by.part.to_is ∙ ap (λ n. from + shown_len view asked - n) by.part.from_is
         ∙ omega arith in
-        are told (reads later grows)
-        ∙ ap (λ (l : List Rec). bytes_from (window_byte told l) begun.part.from (begun.part.to - begun.part.from))
+        are known_bytes (reads later grows)
+        ∙ ap (λ (l : List Rec). bytes_from (window_byte known_bytes l) begun.part.from (begun.part.to - begun.part.from))
         by.part.list_is
-        ∙ ap (λ n. bytes_from (window_byte told view.list) n (begun.part.to - begun.part.from)) by.part.from_is
-        ∙ ap (λ n. bytes_from (window_byte told view.list) from n) len
-        ∙ ap (λ n. bytes_from (window_byte (told_by n later) view.list) from (shown_len view asked)) by.part.block_is;
+        ∙ ap (λ n. bytes_from (window_byte known_bytes view.list) n (begun.part.to - begun.part.from)) by.part.from_is
+        ∙ ap (λ n. bytes_from (window_byte known_bytes view.list) from n) len
+        ∙ ap (λ n. bytes_from (window_byte (known_by n later) view.list) from (shown_len view asked)) by.part.block_is;
   }
 
   read_first : (ps : List Asked) → HasBegun views block (Some begun) ps
@@ -378,7 +379,7 @@ goes_on views cache later f after begun result (inr (none, first)) on =
     goes_to_then views cache cache later f (with_begun f begun) after result begins
     (went_on views cache later f after begun result on)
 
--- what it waits for it wants, and with a part that was read it has one less
+-- what it waits for it needs, and with a part that was read it has one less
 stops_on : (views : SeenViews) (cache later : Cached) (f after : Fetching) (begun : Begun) (result : Option Need)
     → GoesOn begun cache later (record f { begun = None }) after result → Stops views f after result
 stops_on views cache later f after begun result (Waits part b missed is) = ap block_needed is ∙ missed.next
@@ -534,17 +535,14 @@ module _ (cache later : Cached) (before middle : Fetching) where
       subst (λ (g : Fetching). EndsPart g after) from.is ends in
       subst (λ (o : Option Begun). AnyBy after o None) (sym from.was) (ended_on after from now)
     where
-      some_is : (x y : Begun) → Some x ≡ Some y → x ≡ y
-      some_is x y e = cc
-
       ended_on : (after : Fetching) (from : FillsFrom cache later before middle None)
           → EndsPart (waiting from.begun from.part before) after
           → GoesOn from.begun cache later (record before { begun = None }) after None
       ended_on after from now =
-          let same = some_is (record from.begun { part = from.part }) now.begun now.was in
+          let same = some_same (record from.begun { part = from.part }) now.begun now.was in
           Ended from.part from.fills.0 from.fills.1 now.bytes
-          (subst (λ (begun : Begun). (told : Told) → ReadsAs told begun.part
-          → now.bytes ≡ bytes_from (window_byte told begun.part.list) begun.part.from (begun.part.to - begun.part.from))
+          (subst (λ (begun : Begun). (known_bytes : KnownBytes) → ReadsAs known_bytes begun.part
+          → now.bytes ≡ bytes_from (window_byte known_bytes begun.part.list) begun.part.from (begun.part.to - begun.part.from))
           (sym same) now.are)
           (subst (λ (begun : Begun). after ≡ ended begun.entry begun.is_full now.bytes before) (sym same) now.is)
 

@@ -2,17 +2,18 @@
 use Rattle.std.proofs.Common.{◌≡◌, ◌⊎◌, ℕ, zero, suc, ◌+◌, ◌-◌, ◌*◌, ◌<◌, ◌≤◌, min, Bool, true, false, cond, List, []}
 use Rattle.std.proofs.Common.{◌∷◌, length, Option, None, Some, inl, inr, refl, sym, ap, subst, ◌∙◌, arith, eq-eqb}
 use Rattle.std.proofs.Common.{ne_eqb}
-use Rattle.std.specs.Prelude.{◌≢◌, ◌==◌, ◌&&◌, nat_le, if◌then◌else◌}
+use Rattle.std.specs.Prelude.{◌≢◌, ◌==◌, ◌&&◌, nat_le, if◌then◌else◌, find}
 use Rattle.std.specs.List.{AllByRecursion}
 use Rattle.std.specs.Option.{option_map}
 use Rattle.jv_model.specs.declared.limits.TheConstants.{WINDOW}
 use Rattle.jv_model.specs.client.ModelClient.{OpenFile, View as ModelView}
-use Rattle.jv_model.specs.journal.Reading.{Asked, asked_parts, bytes_between, bytes_from, cited_view, first_that}
-use Rattle.jv_model.specs.journal.Reading.{fresh_view, is_fresh, is_full, joined, only_if, part_read, part_to_look}
+use Rattle.jv_model.specs.journal.Reading.{Asked, asked_parts, bytes_between, bytes_from, cited_view}
+use Rattle.jv_model.specs.journal.Reading.{fresh_view, is_fresh, is_full, joined, part_read, part_to_look}
 use Rattle.jv_model.specs.journal.Reading.{read_on, reading, window_start}
 use Rattle.jv_model.specs.declared.slice.Rec.{Rec}
-use Rattle.jv_contents.specs.Blocks.{told_by}
-use Rattle.jv_contents.specs.Bytes.{Told}
+use Rattle.jv_model.specs.Optional.{provided}
+use Rattle.jv_contents.specs.Blocks.{known_by}
+use Rattle.jv_contents.specs.Bytes.{KnownBytes}
 use Rattle.jv_shared.specs.Shared.{Known, Shared, present_in, rows_in}
 use Rattle.jv_shared.specs.Seen.{IsFound}
 use Rattle.jv_shared.proofs.SeenLaws.{bytes_from-same}
@@ -29,15 +30,15 @@ use Rattle.jv_fetching.proofs.CacheLaws.{named_sized}
 use Rattle.jv_fetching.proofs.FetchLaws.{all_read, looks, needs, parts_within}
 
 -- the first of those that pass two tests, where the first that passes one passes both
-first-both : (test also : ModelView → Bool) (views : List ModelView) (m : ModelView) → first_that test views ≡ Some m
+first-both : (test also : ModelView → Bool) (views : List ModelView) (m : ModelView) → find test views ≡ Some m
     → also m ≡ true
-    → first_that (λ view. also view && test view) views ≡ Some m
+    → find (λ view. also view && test view) views ≡ Some m
 first-both test also [] m h e = h
 first-both test also (x ∷ xs) m h e = go (test x) (also x) refl h (first-both test also xs m)
   where
-    go : (a b : Bool) → also x ≡ b → cond a (Some x) (first_that test xs) ≡ Some m
-        → (first_that test xs ≡ Some m → also m ≡ true → first_that (λ view. also view && test view) xs ≡ Some m)
-        → cond (b && a) (Some x) (first_that (λ view. also view && test view) xs) ≡ Some m
+    go : (a b : Bool) → also x ≡ b → cond a (Some x) (find test xs) ≡ Some m
+        → (find test xs ≡ Some m → also m ≡ true → find (λ view. also view && test view) xs ≡ Some m)
+        → cond (b && a) (Some x) (find (λ view. also view && test view) xs) ≡ Some m
     go true true is h later = h
     go true false is h later =
         let same : x ≡ m = cc in
@@ -59,8 +60,8 @@ all_sized g v (r ∷ list) (first, others) = (first.sized, all_sized g v list ot
 
 module _ (g : Known) (v : Shared) (views : List ModelView) (count number : ℕ) (file : OpenFile) (handle : Handle)
     (held : IsHandle g v views count number file handle) where
-  abbrev told : Told
-  told = told_by v.yard.setting.block g.blocks
+  abbrev known_bytes : KnownBytes
+  known_bytes = known_by v.yard.setting.block g.blocks
 
   -- a view of the handle is the model's fresh one
   fresh_seen : (window : ℕ) (view : View) → view_at handle.views window ≡ Some view
@@ -84,10 +85,10 @@ module _ (g : Known) (v : Shared) (views : List ModelView) (count number : ℕ) 
 
   -- and shows the same bytes of a part
   same_shown : (asked : Asked) (view : View) (m : ModelView) → IsWithin asked → IsSeen g v asked.window m view
-      → bytes_between m.content asked.from asked.to ≡ shown_bytes told view asked
+      → bytes_between m.content asked.from asked.to ≡ shown_bytes known_bytes view asked
   same_shown asked view m within seen =
       ap (λ n. bytes_from m.content.byte asked.from (min asked.to n - asked.from)) seen.shows.long
-      ∙ bytes_from-same m.content.byte (window_byte told view.list) asked.from (asked.from - window_start asked.window)
+      ∙ bytes_from-same m.content.byte (window_byte known_bytes view.list) asked.from (asked.from - window_start asked.window)
       (shown_len view asked)
       (λ k low.
       let place : ℕ = asked.from - window_start asked.window + k in
@@ -96,11 +97,11 @@ module _ (g : Known) (v : Shared) (views : List ModelView) (count number : ℕ) 
       ∙ seen.shows.bytes place (omega (arith, within.low, within.high, low)) (omega (arith, at, low)))
 
   pub part_shown : (asked : Asked) (view : View) → IsWithin asked → view_at handle.views asked.window ≡ Some view
-      → part_read views number file view.entry asked ≡ Some (shown_bytes told view asked)
+      → part_read views number file view.entry asked ≡ Some (shown_bytes known_bytes view asked)
   part_shown asked view within is = by_view (fresh_seen asked.window view is)
     where
       by_view : (m : ModelView) × (fresh_view views number file asked.window ≡ Some m) × IsSeen g v asked.window m view
-          → part_read views number file view.entry asked ≡ Some (shown_bytes told view asked)
+          → part_read views number file view.entry asked ≡ Some (shown_bytes known_bytes view asked)
       by_view (m, e, seen) =
           ap (λ (o : Option ModelView). elim o
           [ None ↦ None | Some view ↦ Some (bytes_between view.content asked.from asked.to) ])
@@ -108,31 +109,31 @@ module _ (g : Known) (v : Shared) (views : List ModelView) (count number : ℕ) 
           ∙ ap Some (same_shown asked view m within seen)
 
   -- whether a part is full
-  full_is : (asked : Asked) (view : View) → asked.to ≤ view.length → is_full asked (shown_bytes told view asked) ≡ true
+  full_is : (asked : Asked) (view : View) → asked.to ≤ view.length → is_full asked (shown_bytes known_bytes view asked) ≡ true
   full_is asked view h =
-      eq-eqb _ _ (length-bytes (window_byte told view.list) (asked.from - window_start asked.window)
+      eq-eqb _ _ (length-bytes (window_byte known_bytes view.list) (asked.from - window_start asked.window)
       (shown_len view asked) ∙ omega arith)
 
   short_is : (asked : Asked) (view : View) → asked.from < asked.to → view.length < asked.to
-      → is_full asked (shown_bytes told view asked) ≡ false
+      → is_full asked (shown_bytes known_bytes view asked) ≡ false
   short_is asked view some h =
-      let long = length-bytes (window_byte told view.list) (asked.from - window_start asked.window)
+      let long = length-bytes (window_byte known_bytes view.list) (asked.from - window_start asked.window)
       (shown_len view asked) in
       ne_eqb _ _ (λ e. absurd (omega (arith, e, long, some, h)))
 
   read_one : (asked : Asked) (others : List Asked) (view : View) → asked.from < asked.to
       → (others ≡ []) ⊎ (view.length < asked.to)
-      → read_on views number file 0 asked others (Some (shown_bytes told view asked))
-      ≡ Some (shown_bytes told view asked)
+      → read_on views number file 0 asked others (Some (shown_bytes known_bytes view asked))
+      ≡ Some (shown_bytes known_bytes view asked)
   read_one asked [] view some last = refl
   read_one asked (other ∷ others) view some (inl none) = let never : ⊥ = cc in absurd never
   read_one asked (other ∷ others) view some (inr low) =
-      ap (λ b. cond b (joined (shown_bytes told view asked) (part_read views number file 0 other))
-      (only_if (0 == 0) (shown_bytes told view asked))) (short_is asked view some low)
+      ap (λ b. cond b (joined (shown_bytes known_bytes view asked) (part_read views number file 0 other))
+      (provided (0 == 0) (shown_bytes known_bytes view asked))) (short_is asked view some low)
 
   -- a range that is read by the handle's views reads as the model's file
   pub same_read : (parts : List Asked) (read : ℕ × ℕ × List ℕ) → AllByRecursion IsWithin parts
-      → IsReadBy told handle.views parts read
+      → IsReadBy known_bytes handle.views parts read
       → reading views number file parts read.0 read.1 ≡ Some read.2
   same_read parts read within (One asked others view are seen last is) =
       let within' : AllByRecursion IsWithin (asked ∷ others) = subst (AllByRecursion IsWithin) are within in
@@ -144,11 +145,11 @@ module _ (g : Known) (v : Shared) (views : List ModelView) (count number : ℕ) 
   same_read parts read within (Two asked other view next are seen full seen' is) =
       let within' : AllByRecursion IsWithin (asked ∷ other ∷ []) = subst (AllByRecursion IsWithin) are within in
       let Reads : ℕ × ℕ × List ℕ → Type 0 = λ r. reading views number file parts r.0 r.1 ≡ Some r.2 in
-      let bytes = shown_bytes told view asked in
+      let bytes = shown_bytes known_bytes view asked in
       subst Reads (sym is)
       (ap (λ (ps : List Asked). reading views number file ps view.entry next.entry) are
       ∙ ap (read_on views number file next.entry asked (other ∷ [])) (part_shown asked view within'.0 seen)
-      ∙ ap (λ b. cond b (joined bytes (part_read views number file next.entry other)) (only_if (next.entry == 0) bytes))
+      ∙ ap (λ b. cond b (joined bytes (part_read views number file next.entry other)) (provided (next.entry == 0) bytes))
       (full_is asked view full)
       ∙ ap (joined bytes) (part_shown other next within'.1.0 seen'))
 

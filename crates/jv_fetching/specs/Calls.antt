@@ -1,5 +1,5 @@
 -- What the calls of a reading do.
-use Rattle.std.specs.Prelude.{◌≡◌, ◌≢◌, ℕ, ◌≤◌, List, [], ◌∷◌, fold, length, is_some, true, None, Some}
+use Rattle.std.specs.Prelude.{◌≡◌, ◌≢◌, ℕ, ◌≤◌, List, [], ◌∷◌, fold, length, is_some, true, Option, None, Some}
 use Rattle.std.specs.List.{AllByRecursion}
 use Rattle.jv_model.specs.declared.slice.BlockId.{BlockId}
 use Rattle.jv_model.specs.declared.slice.Rec.{Rec}
@@ -44,9 +44,13 @@ pub record LooksUpFew (most : ℕ) (before after : Cached) : Type 0 where
   pub looks : LooksUp before after
   pub few : length looks.blocks ≤ most
 
+-- there are no bytes, or as many as another block has
+abbrev pub LacksBlock : ℕ → Option (List ℕ) → Type 0
+LacksBlock size found = (bytes : List ℕ) → found ≡ Some bytes → length bytes ≢ size
+
 -- a cache doesn't have a block: bytes of another length under its name are another block's
 abbrev pub IsMissing : Cached → BlockId → Type 0
-IsMissing cache b = (bytes : List ℕ) → found_in cache (cache_key b) ≡ Some bytes → length bytes ≢ b.size
+IsMissing cache b = LacksBlock b.size (found_in cache (cache_key b))
 
 -- before a need at most this many blocks were looked up; a block that is needed was looked up last, and isn't there
 abbrev pub Asks : Need → ℕ → Cached → Cached → Type 0

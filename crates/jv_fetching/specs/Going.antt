@@ -2,7 +2,7 @@
 use Rattle.std.specs.Prelude.{◌≡◌, ℕ, ◌+◌, ◌<◌, ◌≤◌, nat_le, All, IfSome, List, [], ◌∷◌, length, Option, None}
 use Rattle.std.specs.Prelude.{Some}
 use Rattle.jv_model.specs.journal.Reading.{Asked}
-use Rattle.jv_contents.specs.Blocks.{Blocks, Grows, told_by}
+use Rattle.jv_contents.specs.Blocks.{Blocks, Grows, known_by}
 use Rattle.jv_handles.specs.declared.views.View.{View}
 use Rattle.jv_handles.specs.Views.{SeenViews, view_at}
 use Rattle.jv_reading.specs.Parts.{IsNamed, IsPartOf}
@@ -34,7 +34,7 @@ pub record IsShown (blocks : Blocks) (views : SeenViews) (block : ℕ) (asked : 
     : Type 0 where
   pub seen : view_at views asked.window ≡ Some view
   pub entry : read.entry ≡ view.entry
-  pub bytes : (later : Blocks) → Grows blocks later → read.bytes ≡ shown_bytes (told_by block later) view asked
+  pub bytes : (later : Blocks) → Grows blocks later → read.bytes ≡ shown_bytes (known_by block later) view asked
 
 -- parts were read from the first on, and others are left; after one that the file doesn't fill none is read
 abbrev pub HasRead : Blocks → SeenViews → ℕ → List Asked → List Read → List Asked → Type 0

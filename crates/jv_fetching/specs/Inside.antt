@@ -7,7 +7,7 @@ use Rattle.jv_model.specs.declared.slice.BlockId.{BlockId}
 use Rattle.jv_model.specs.journal.Reading.{Asked, bytes_from, window_start}
 use Rattle.jv_cache.specs.Cached.{Cached, found_in, noted_in}
 use Rattle.jv_contents.specs.Blocks.{Blocks}
-use Rattle.jv_contents.specs.Bytes.{Told}
+use Rattle.jv_contents.specs.Bytes.{KnownBytes}
 use Rattle.jv_handles.specs.declared.views.View.{View}
 use Rattle.jv_handles.specs.Views.{SeenViews, view_at}
 use Rattle.jv_reading.specs.Parts.{FillsIn, IsPartOf, Part, ReadsAs, window_byte}
@@ -171,8 +171,8 @@ pub data GoesOn (begun : Begun) (cache later : Cached) (before after : Fetching)
   Waits : (part : Part) (b : BlockId) → Misses cache later begun.part part b
       → after ≡ waiting begun part before → GoesOn begun cache later before after (Some (Block b))
   Ended : (part : Part) → Fills cache later begun.part part → part.left ≡ [] → (bytes : List ℕ)
-      → ((told : Told) → ReadsAs told part
-      → bytes ≡ bytes_from (window_byte told part.list) part.from (part.to - part.from))
+      → ((known_bytes : KnownBytes) → ReadsAs known_bytes part
+      → bytes ≡ bytes_from (window_byte known_bytes part.list) part.from (part.to - part.from))
       → after ≡ ended begun.entry begun.is_full bytes before → GoesOn begun cache later before after None
 
 -- where one has begun; and nothing happens where none has
@@ -194,8 +194,8 @@ pub record EndsPart (before after : Fetching) : Type 0 where
   pub begun : Begun
   pub bytes : List ℕ
   pub was : before.begun ≡ Some begun
-  pub are : (told : Told) → ReadsAs told begun.part
-      → bytes ≡ bytes_from (window_byte told begun.part.list) begun.part.from (begun.part.to - begun.part.from)
+  pub are : (known_bytes : KnownBytes) → ReadsAs known_bytes begun.part
+      → bytes ≡ bytes_from (window_byte known_bytes begun.part.list) begun.part.from (begun.part.to - begun.part.from)
   pub is : after ≡ ended begun.entry begun.is_full bytes before
 
 -- a reading goes on by views and cache

@@ -8,7 +8,7 @@ use Rattle.jv_model.specs.client.ModelClient.{OpenFile, View as ModelView}
 use Rattle.jv_model.specs.journal.Reading.{Asked, asked_parts, part_to_look, reading}
 use Rattle.jv_cache.specs.declared.key.BlockKey.{BlockKey}
 use Rattle.jv_cache.specs.Cached.{Cached, found_in}
-use Rattle.jv_contents.specs.Blocks.{Blocks, Grows, told_by}
+use Rattle.jv_contents.specs.Blocks.{Blocks, Grows, known_by}
 use Rattle.jv_shared.specs.Shared.{Known, Shared}
 use Rattle.jv_handles.specs.declared.handle.Handle.{Handle}
 use Rattle.jv_handles.specs.declared.views.View.{View}
@@ -58,7 +58,7 @@ pub record IsOfView (views : SeenViews) (block : ℕ) (all : List Asked) (b : Bl
 -- what is needed is what the views lack, and at the end the parts are read by them
 pub record FetchesShow : Type 0 where
   pub done : (blocks : Blocks) (views : SeenViews) (all : List Asked) (f : Fetching) → f.parts ≡ []
-      → IsFetching blocks views all f → IsReadBy (told_by f.block blocks) views all (fetched_of f)
+      → IsFetching blocks views all f → IsReadBy (known_by f.block blocks) views all (fetched_of f)
   pub look : (blocks : Blocks) (views : SeenViews) (all : List Asked) (f : Fetching) (window : ℕ)
       → Wants views f (Look window) → IsFetching blocks views all f → window_needed views all ≡ Some window
   pub block : (blocks : Blocks) (views : SeenViews) (all : List Asked) (f : Fetching) (b : BlockId)
@@ -66,7 +66,7 @@ pub record FetchesShow : Type 0 where
   pub same : (g : Known) (v : Shared) (views : List ModelView) (count number offset len : ℕ) (file : OpenFile)
       (handle : Handle) (read : ℕ × ℕ × List ℕ)
       → 0 < len → offset < FILE_END → len ≤ WINDOW → IsHandle g v views count number file handle
-      → IsReadBy (told_by v.yard.setting.block g.blocks) handle.views (asked_parts offset len) read
+      → IsReadBy (known_by v.yard.setting.block g.blocks) handle.views (asked_parts offset len) read
       → reading views number file (asked_parts offset len) read.0 read.1 ≡ Some read.2
   pub sized : (g : Known) (v : Shared) (views : List ModelView) (count number : ℕ) (file : OpenFile) (handle : Handle)
       → IsHandle g v views count number file handle → AreSizedBy g.sizes handle.views

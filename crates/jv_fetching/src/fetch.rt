@@ -15,7 +15,7 @@ use std::marker::Model;
 
 /// How far a reading is.
 #[derive(Drop)]
-struct Course {
+struct FetchCourse {
     /// The parts that aren't read yet.
     parts: Spans,
     /// The first of them, once it has begun.
@@ -32,7 +32,7 @@ pub struct Fetch {
     alloc: Global,
     /// The length of the volume's blocks.
     block: u32,
-    course: Box<Course>,
+    course: Box<FetchCourse>,
 }
 
 impl Model for Fetch {
@@ -58,14 +58,14 @@ impl Fetch {
     ghost use Rattle.jv_fetching.specs.Inside.{BeginsPart, EndsPart, FillsBegun, FillsFrom, FitsNext, GoesOnAny, GoesTo, Stops, ended};
 
     /// The reading of `len` bytes from `offset` on, 1 to 67,108,864 of them, over a volume whose blocks have `block`
-    /// bytes, at least 1. Nothing is read yet. The only error is that there is no memory for the box that has how far it is.
+    /// bytes, at least 1. Nothing is read yet. The only error is out of memory. POSIX.1-2017, pread.
     pub fn new(alloc: Global, offset: u64, len: u32, block: u32) -> Result<Fetch, AllocError>
         requires some { 0 < block }
         requires low { offset < FILE_END }
         requires len { (0 < len) × (len ≤ WINDOW) }
         ensures { IfOk result (λ fetch. fetch ≡ begins block (asked_parts offset len)) }
     {
-        let course = Course {
+        let course = FetchCourse {
             parts: spans_of(offset, len),
             begun: None,
             first: None,
@@ -243,7 +243,8 @@ impl Fetch {
     }
 
     /// The entries of the looks that the reading cites, 0 for a window that wasn't read, and its bytes. It needs
-    /// nothing more. Takes memory only where two parts were read: the bytes of one are moved.
+    /// nothing more. Takes memory only where two parts were read: the bytes of one are moved. The only error is out of
+    /// memory.
     pub fn into_parts(self) -> Result<(u64, u64, Bytes), AllocError>
         requires { self.parts ≡ [] }
         ensures parts { IfOk result (λ parts. parts ≡ fetched_of self) }

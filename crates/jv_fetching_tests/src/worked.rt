@@ -5,10 +5,9 @@ use jv_cache::BlockCache;
 use jv_fetching::{Fetch, Need};
 use jv_handles::{View, Views};
 use jv_model::{BlockId, Bytes, List, Rec, WINDOW};
+use jv_samples::{BLOCK, block_bytes, byte};
 use std::alloc::{AllocError, Global};
 use std::test::Fail;
-
-const BLOCK: u32 = 65_536;
 
 /// What a reading asked for, the looks that it cites, and its bytes.
 #[derive(Drop)]
@@ -19,30 +18,11 @@ struct Run {
     bytes: Bytes,
 }
 
-/// The byte at a place of a slice.
-fn byte(id: u64, place: u64) -> u8 {
-    ((40 * (id % 4) + place % 91) % 251 + 1) as u8
-}
-
 /// The bytes of a block, each by its place in the slice.
 fn bytes_of(alloc: Global, block: BlockId) -> Result<Bytes, AllocError>
     ensures { IfOk result (λ bytes. length bytes ≡ block.size) }
 {
-    let mut bytes = vec![in alloc; 0; block.size as usize]?;
-    put_bytes(
-        &mut bytes,
-        block.id,
-        u64::from(block.index) * u64::from(BLOCK),
-    );
-    Ok(Bytes::from_vec(bytes))
-}
-
-fn put_bytes(bytes: &mut [u8], id: u64, first: u64)
-    requires { first < 2 ^ 60 }
-{
-    for at in 0..bytes.len() {
-        bytes[at] = byte(id, first + at as u64);
-    }
+    Ok(Bytes::from_vec(block_bytes(alloc, block)?))
 }
 
 /// Slice 1 in the last 60 positions of the first window; in the second, from the tenth position on, 12 bytes of slice 2 that

@@ -5,13 +5,13 @@ use Rattle.jv_model.specs.declared.fault.Down.{Down}
 use Rattle.jv_model.specs.declared.fault.Down.TheVariants.{Failed, Memory as OutOfMemory}
 use Rattle.jv_model.specs.declared.fault.Fault.{Fault}
 use Rattle.jv_model.specs.declared.fault.Fault.TheVariants.{DeviceFailed, NoMemory}
+use Rattle.jv_model.specs.blocks.BlockNames.{name_in}
 use Rattle.jv_outside.specs.declared.parcel.Parcel.{Parcel}
 use Rattle.jv_outside.specs.Carriage.{Carriage, FailsToCarry, IsAt}
 use Rattle.jv_outside.specs.Parcels.{StandsFor}
 use Rattle.jv_contents.specs.Flights.{Flight, flight_block, flight_bytes}
 use Rattle.jv_yard.specs.declared.faults.YardFault.TheVariants.{Depot as YardDepot}
 use Rattle.jv_yard.specs.BlockCalls.{IsPut}
-use Rattle.jv_yard.specs.Contents.{name_in}
 use Rattle.jv_yard.specs.Refusals.{Refuses}
 use Rattle.jv_yard.specs.YardValue.{YardValue}
 use Rattle.jv_flushing.specs.declared.putting.PutFault.{PutFault}

@@ -48,7 +48,7 @@ fn carrier_fault(down: Down) -> PutFault
 
 /// Puts the block at `index` of a slice into the depot, for a client and with the moment `now`. The slice has the
 /// number `id` and these bytes, at most a window of them. The carrier sends the block's bytes under its name, then the
-/// depot publishes what was sent, and the yard notes it.
+/// depot publishes what was sent, and the yard notes it. The moment is in seconds. JuiceFS, Internals: blocks.
 ///
 /// # Errors
 ///

@@ -1,31 +1,11 @@
 use jv_flushing::{PutFault, put_block};
-use jv_model::{ClientId, MAX_BLOCK, MIN_BLOCK, Moment, Sequence, Setting, WINDOW, copied};
-use jv_outside::{
-    Carrier, Depot, Fails, MemCarrier, MemDepot, MemShelf, ObjectList, Shelf, StagedList,
-};
+use jv_model::{ClientId, MAX_BLOCK, MIN_BLOCK, Moment, WINDOW, copied};
+use jv_outside::{Carrier, Depot, MemCarrier, MemDepot, MemShelf, ObjectList, Shelf, StagedList};
+use jv_samples::{failing_at, setting};
 use jv_slices::blocks_of;
 use jv_yard::Yard;
 use std::alloc::{AllocError, Global};
 use std::test::Fail;
-
-fn setting(alloc: Global) -> Result<Setting, AllocError> {
-    Ok(Setting {
-        version: 1,
-        block: 65_536,
-        trash_days: 1,
-        capacity: 0,
-        inodes: 0,
-        hash: 0,
-        name: copied(alloc, b"test")?,
-        bucket: copied(alloc, b"/tmp")?,
-    })
-}
-
-fn failing_at(alloc: Global, number: u64) -> Result<Fails, AllocError> {
-    let mut numbers = Sequence::new(alloc);
-    numbers.push(number)?;
-    Ok(Fails::At(numbers))
-}
 
 /// A yard over a depot without objects, which fails at one call.
 fn started(alloc: Global, fails: u64) -> Result<Option<Yard<MemDepot, MemShelf>>, AllocError> {
@@ -82,6 +62,21 @@ fn has(alloc: Global, depot: &mut MemDepot, name: &[u8], bytes: &[u8]) -> Result
     }
 }
 
+/// Whether the depot has the three blocks of these bytes under their names.
+fn has_blocks(alloc: Global, depot: &mut MemDepot, bytes: &[u8]) -> Result<bool, AllocError> {
+    let names = [
+        b"test/chunks/0/0/7_0_65536".as_slice(),
+        b"test/chunks/0/0/7_1_65536".as_slice(),
+        b"test/chunks/0/0/7_2_32768".as_slice(),
+    ];
+    for (name, part) in names.iter().zip(bytes.chunks(65_536)) {
+        if !has(alloc, depot, *name, part)? {
+            return Ok(false);
+        }
+    }
+    Ok(true)
+}
+
 #[test]
 fn a_slice_is_put_block_by_block(rt: HostRuntime) -> Result<(), Fail> {
     let alloc = rt.alloc();
@@ -93,19 +88,13 @@ fn a_slice_is_put_block_by_block(rt: HostRuntime) -> Result<(), Fail> {
     for index in 0..3 {
         assert_eq!(rt;
             put(alloc, &mut yard, &mut carrier, index, &bytes),
-            Some(Ok(()))
+            Some(Ok(())),
+            "block {index}"
         );
     }
     assert_eq!(rt; put(alloc, &mut yard, &mut carrier, 3, &bytes), None);
-    let names = [
-        b"test/chunks/0/0/7_0_65536".as_slice(),
-        b"test/chunks/0/0/7_1_65536".as_slice(),
-        b"test/chunks/0/0/7_2_32768".as_slice(),
-    ];
     let (mut depot, _) = yard.into_parts();
-    for (name, part) in names.iter().zip(bytes.chunks(65_536)) {
-        assert!(rt; has(alloc, &mut depot, *name, part)?);
-    }
+    assert!(rt; has_blocks(alloc, &mut depot, &bytes)?);
     Ok(())
 }
 
@@ -117,10 +106,16 @@ fn a_device_that_fails_is_named_and_the_next_put_succeeds(rt: HostRuntime) -> Re
     let Some(mut yard) = started(alloc, 1)? else {
         return Err(Fail::from(AllocError));
     };
-    for result in [Err(PutFault::Carrier), Err(PutFault::Depot), Ok(())] {
+    let rows = [
+        ("the carrier fails", Err(PutFault::Carrier)),
+        ("the depot fails", Err(PutFault::Depot)),
+        ("none fails", Ok(())),
+    ];
+    for (name, result) in rows {
         assert_eq!(rt;
             put(alloc, &mut yard, &mut carrier, 1, &bytes),
-            Some(result)
+            Some(result),
+            "{name}"
         );
     }
     assert_eq!(rt; yard.log().len(), 1);

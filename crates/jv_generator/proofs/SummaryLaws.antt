@@ -3,8 +3,8 @@ use Rattle.std.proofs.Common.{◌≡◌, ℕ, ◌-◌, ◌^◌, ◌≤◌, Bool,
 use Rattle.std.proofs.lemmas.List.Sums.{sum_by-cons}
 use Rattle.jv_model.specs.declared.op.Reply.{Reply}
 use Rattle.jv_model.specs.journal.State.{is_refused}
-use Rattle.jv_model.specs.Counts.{counted}
-use Rattle.jv_generator.specs.Summary.{TotalsValue, no_totals, saturated, added, read_bytes, with_reply}
+use Rattle.jv_model.specs.Counts.{counted, saturated}
+use Rattle.jv_generator.specs.Summary.{TotalsValue, no_totals, added, read_bytes, with_reply}
 use Rattle.jv_generator.specs.Laws.{TotalsAreSums}
 
 -- a total to which each answer adds an amount

@@ -4,9 +4,10 @@ use Rattle.jv_model.specs.declared.op.Op.{Op}
 use Rattle.jv_model.specs.declared.op.Op.TheVariants.{Read, Write}
 use Rattle.jv_model.specs.declared.op.Reply.{Reply}
 use Rattle.jv_model.specs.journal.State.{is_refused}
+use Rattle.jv_model.specs.Counts.{saturated}
 use Rattle.jv_generator.specs.declared.accesses.TheConstants.{FILES, LINES, MAX_LENGTH, POSITIONS}
 use Rattle.jv_generator.specs.Script.{access, script}
-use Rattle.jv_generator.specs.Summary.{TotalsValue, saturated, read_bytes, totals_of}
+use Rattle.jv_generator.specs.Summary.{TotalsValue, read_bytes, totals_of}
 
 -- how many lines a script has
 abbrev pub ScriptsHaveLines : Type 0

@@ -1,8 +1,8 @@
 -- The totals of answers, and their line.
-use Rattle.std.specs.Prelude.{ℕ, ◌+◌, ◌-◌, ◌^◌, min, if◌then◌else◌, List, [], ◌∷◌, ◌++◌, length, fold, sum, codes}
+use Rattle.std.specs.Prelude.{ℕ, ◌+◌, if◌then◌else◌, List, [], ◌∷◌, ◌++◌, length, fold, sum, codes}
 use Rattle.jv_model.specs.declared.op.Reply.{Reply}
 use Rattle.jv_model.specs.declared.op.Reply.TheVariants.{Data}
-use Rattle.jv_model.specs.Counts.{counted}
+use Rattle.jv_model.specs.Counts.{counted, saturated}
 use Rattle.jv_model.specs.journal.State.{is_refused}
 use Rattle.jv_model.specs.script.Printed.{number_word}
 
@@ -16,10 +16,6 @@ pub record TotalsValue : Type 0 where
 
 abbrev pub no_totals : TotalsValue
 no_totals = record { lines = 0; ok = 0; err = 0; bytes = 0; values = 0 }
-
--- a total, which saturates at 2^64 - 1
-abbrev pub saturated : ℕ → ℕ
-saturated n = min n (2 ^ 64 - 1)
 
 -- a total with more added
 abbrev pub added : ℕ → ℕ → ℕ

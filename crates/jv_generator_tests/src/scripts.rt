@@ -48,15 +48,23 @@ fn is_next(alloc: Global, script: &mut Generator, line: Line) -> Result<bool, Al
     Ok(next == Some(line))
 }
 
+// Whether a script's next lines make its files.
+fn makes_files(alloc: Global, script: &mut Generator) -> Result<bool, AllocError> {
+    for i in 0..FILES {
+        let line = create(alloc, i)?;
+        if !is_next(alloc, script, line)? {
+            return Ok(false);
+        }
+    }
+    Ok(true)
+}
+
 #[test]
-fn the_first_25_lines_of_the_seed_0(rt: HostRuntime) -> Result<(), Fail> {
+fn the_seed_0_draws_these_first_25_lines(rt: HostRuntime) -> Result<(), Fail> {
     let mut script = Generator::new(0);
     let mount = Line::Do(ClientId(0), Op::Mount { writeback: false });
     assert!(rt; is_next(rt.alloc(), &mut script, mount)?);
-    for i in 0..FILES {
-        let line = create(rt.alloc(), i)?;
-        assert!(rt; is_next(rt.alloc(), &mut script, line)?, "{i}");
-    }
+    assert!(rt; makes_files(rt.alloc(), &mut script)?, "the files");
     let rows = [
         ("1st", 2, 129_494_902, 1_922, Some(79)),
         ("2nd", 2, 115_415_115, 2_670, Some(50)),
@@ -87,7 +95,10 @@ fn near_the_end(alloc: Global) -> Result<Generator, AllocError> {
 fn the_last_two_lines_flush_the_last_files(rt: HostRuntime) -> Result<(), Fail> {
     let mut script = near_the_end(rt.alloc())?;
     for handle in [15, 16] {
-        assert!(rt; is_next(rt.alloc(), &mut script, flush(handle))?);
+        assert!(rt;
+            is_next(rt.alloc(), &mut script, flush(handle))?,
+            "handle {handle}"
+        );
     }
     let end = script.next(rt.alloc())?;
     assert!(rt; end.is_none());

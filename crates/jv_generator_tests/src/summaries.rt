@@ -3,7 +3,7 @@ use jv_model::{Fault, Reply, copied};
 use std::test::Fail;
 
 #[test]
-fn a_summary_of_five_answers(rt: HostRuntime) -> Result<(), Fail> {
+fn five_answers_are_summed_up(rt: HostRuntime) -> Result<(), Fail> {
     let mut totals = Totals::new();
     totals.count(&Reply::SessionMade { sid: 1 });
     totals.count(&Reply::Refused(Fault::NotFound));
@@ -17,7 +17,7 @@ fn a_summary_of_five_answers(rt: HostRuntime) -> Result<(), Fail> {
 }
 
 #[test]
-fn a_summary_of_no_answers(rt: HostRuntime) -> Result<(), Fail> {
+fn no_answers_sum_up_to_zeros(rt: HostRuntime) -> Result<(), Fail> {
     let line = Totals::new().line(rt.alloc())?;
     let text = b"lines 0 ok 0 err 0 bytes 0 sum 0\n";
     assert_eq!(rt; line.as_slice(), text.as_slice());

@@ -1,7 +1,7 @@
 -- The views of a handle, window by window; and which of a model's views are fresh for an open file.
 use Rattle.std.proofs.Common.{◌≡◌, ℕ, ◌≤◌, ◌<◌, Bool, true, false, ◌&&◌, not, cond, List, [], ◌∷◌, Option, None, Some}
 use Rattle.std.proofs.Common.{inl, inr, refl, sym, ap, ◌∙◌, arith, eq-eqb, ne_eqb, lt-ltb}
-use Rattle.std.specs.Prelude.{◌==◌, if◌then◌else◌, nat_lt}
+use Rattle.std.specs.Prelude.{◌==◌, if◌then◌else◌, nat_lt, find}
 use Rattle.std.specs.List.{AllByRecursion}
 use Rattle.std.specs.BTreeMap.{insert_entry, is_at}
 use Rattle.std.specs.Map.{lookup, remove_entry}
@@ -12,7 +12,7 @@ use Rattle.std.proofs.lemmas.Bool.{le-ltb}
 use Rattle.std.proofs.lemmas.Bool.Decides.{eqb_tells, nat_tests}
 use Rattle.std.proofs.lemmas.Cmp.{ranked}
 use Rattle.jv_model.specs.client.ModelClient.{OpenFile, View as ModelView, views_without}
-use Rattle.jv_model.specs.journal.Reading.{fresh_view, is_fresh, first_that}
+use Rattle.jv_model.specs.journal.Reading.{fresh_view, is_fresh}
 use Rattle.jv_handles.specs.declared.views.View.{View}
 use Rattle.jv_handles.specs.Views.{SeenViews, view_at, with_view, without_view}
 
@@ -211,7 +211,7 @@ module _ (number : ℕ) (file : OpenFile) (window : ℕ) where
 module _ (inode number : ℕ) (file : OpenFile) (window : ℕ) where
   abbrev left : Bool → ModelView → List ModelView → Option ModelView
   left own view views =
-      first_that (is_fresh number file window) (cond (not own) (view ∷ views_without inode views)
+      find (is_fresh number file window) (cond (not own) (view ∷ views_without inode views)
       (views_without inode views))
 
   another : (view : ModelView) → (view.inode == file.inode) ≡ false → is_fresh number file window view ≡ false

@@ -2,7 +2,8 @@
 ghost use Rattle.std.specs.Prelude.{◌≡◌, ◌+◌, ◌-◌, ◌<◌, ◌≤◌, ◌^◌, ◌==◌, ◌&&◌, not, None, Some, IsSome, IfOk, OnOk};
 ghost use Rattle.std.specs.Prelude.{OnErr, is_some, [], ◌∷◌, length, map, vec_len, vec_capacity};
 ghost use Rattle.std.specs.Option.{option_copied};
-ghost use Rattle.jv_model.specs.client.ModelClient.{file_of, free_handle, is_among, open_count, with_file};
+ghost use Rattle.jv_model.specs.client.ModelClient.{file_of, free_handle, open_count, with_file};
+ghost use Rattle.jv_model.specs.Lists.{is_among};
 ghost use Rattle.jv_handles.specs.Handles.{held_here, inode_here, seen_by, unseen, unseen_by};
 ghost use Rattle.jv_handles.specs.Views.{HasRecords};
 
@@ -35,7 +36,7 @@ pub fn inode_at(handles: &[Option<Handle>], handle: u64) -> u64
     }
 }
 
-/// The inodes of all open files, in the order of their handles; an error where there is no memory for them.
+/// The inodes of all open files, in the order of their handles. The only error is out of memory.
 pub fn held(alloc: Global, handles: &[Option<Handle>]) -> Result<InodeList, AllocError>
     ensures { IfOk result (λ inodes. inodes ≡ held_here handles.now) }
 {
@@ -124,8 +125,8 @@ pub fn clear(handles: &mut [Option<Handle>], handle: u64)
     handles[(handle - 1) as usize] = None;
 }
 
-/// Gives a handle that is in use the view of a window, in place of the one before. Without memory for a window that it
-/// had no view of, an error, and nothing has changed.
+/// Gives a handle that is in use the view of a window, in place of the one before. The only error is out of memory, for
+/// a window that it had no view of; nothing has changed then.
 pub fn set_view(
     handles: &mut [Option<Handle>],
     handle: u64,

@@ -53,8 +53,8 @@ impl Views {
         self.by_window.get(&window)
     }
 
-    /// Keeps the view of a window, in place of the one before. Without memory for a window that has none, an error, and
-    /// nothing has changed.
+    /// Keeps the view of a window, in place of the one before. The only error is out of memory, for a window that has
+    /// none; nothing has changed then.
     pub fn set(&mut self, window: u32, view: View) -> Result<(), AllocError>
         requires { HasRecords view }
         ensures set { OnOk result (self.new ≡ with_view window view self.old) }

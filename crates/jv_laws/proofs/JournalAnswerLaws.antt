@@ -3,6 +3,7 @@ use Rattle.std.proofs.Common.{◌≡◌, ℕ, zero, suc, ◌-◌, ◌<◌, Bool,
 use Rattle.std.proofs.lemmas.Bool.{and_left, and_right}
 use Rattle.std.specs.List.{AllByRecursion}
 use Rattle.std.proofs.lemmas.Bool.Decides.{leb_tells}
+use Rattle.jv_model.specs.declared.tables.TheConstants.{TABLE_OF_DEAD, TABLE_OF_DROPPED}
 use Rattle.jv_model.specs.declared.act.TheConstants.{NO_CLIENT}
 use Rattle.jv_model.specs.declared.act.Act.{Act}
 use Rattle.jv_model.specs.declared.act.ActKind.{ActKind}
@@ -12,18 +13,18 @@ use Rattle.jv_model.specs.declared.fault.Fault.{Fault}
 use Rattle.jv_model.specs.declared.op.Reply.{Reply}
 use Rattle.jv_model.specs.declared.profile.Answer.{Answer}
 use Rattle.jv_model.specs.declared.profile.Does.TheVariants.{Answers}
-use Rattle.jv_model.specs.client.ModelClient.{ModelClient, Doing, Stage, Replying, Files, MoreBlocks, Part}
+use Rattle.jv_model.specs.client.ModelClient.{ModelClient, Doing, Stage, Replying, Files, MoreBlocks, CleaningPart}
 use Rattle.jv_model.specs.journal.State.{State, given, replied, transacted, newly_sustained, next_entry, gift_of, after_transaction, after_step, of_doing, effect, is_compaction}
 use Rattle.jv_model.specs.journal.Steps.{Start, transacts, Transaction, LooksAt, CompactionLooks, First, Again, CompactionMisses, MissesBlock, CleansItem, DropsFile, MayStep, MayAnswer, Fails, Settles, AtOnce, CountsCache, ReadsViews, CleanedUp, HasCompacted, HasCollected, HasUploaded, Refuses, TooShort, HasReplaced, Sent, FoundNone, IsRefusedIn, SessionGone, InodeGone, CommitLate, CommitTooLarge, NumberRefused, CompactionCrowded, CompactionLate, AnotherList, BlockOwed, MissedTooOften, InReading, InCompaction, begins_step, must_answer, told_of}
 use Rattle.jv_model.specs.journal.Past.{Past, Due, NoMore, Refusal, MayLack, ToAnswer, OneStep, StepMade, CrashEntry, TickEntry, DrainEntries, at_start, begun_by, begun_to, is_over, requested, lined, is_workers, after, advance, past, reached, line_reply, reply_of, refusal_reply}
 use Rattle.jv_model.specs.journal.Legal.{Allowed, AllAllowed, Refuses as RefusesSubmission, LacksMemory as RefusalLacks, OfClient, OfLine, OfWorker}
 use Rattle.jv_laws.specs.Laws.{AnswersModel, AnswersAsTree, is_transaction}
 use Rattle.jv_laws.proofs.JournalGrowthLaws.{AllAllowed-parts, past-append, own_client, others_kept, turned_begin_next, begun_to-begun}
-use Rattle.jv_laws.proofs.JournalStates.{of_kind}
+use Rattle.jv_laws.proofs.JournalStateLaws.{of_kind}
 use Rattle.jv_laws.proofs.JournalDoingLaws.{doing_given}
 use Rattle.jv_laws.proofs.JournalLineLaws.{due_at_worker, due_at_own}
 
--- an operation whose answer is settled
+-- an operation whose answer is decided
 
 abbrev settled_doing : Doing → Reply → Doing
 settled_doing d r = record d { stage = Replying r; moved = true }
@@ -51,10 +52,10 @@ none_missed : (start : Start) (s : State) (client : ℕ) (c : ModelClient) (d : 
 none_missed start s client c d r inode window true h = let e = h.stage in cc
 none_missed start s client c d r inode window false h = let g = h.goes_on in cc
 
-none_cleaned : (s : State) (c : ModelClient) (d : Doing) (r : Reply) (part : Part) → CleansItem s c (settled_doing d r) part → ⊥
+none_cleaned : (s : State) (c : ModelClient) (d : Doing) (r : Reply) (part : CleaningPart) → CleansItem s c (settled_doing d r) part → ⊥
 none_cleaned s c d r part h = let e = h.stage in cc
 
-none_row : (s : State) (c : ModelClient) (d : Doing) (r : Reply) (table key : ℕ) (b : Bool) → MatchBool b (CleansItem s c (settled_doing d r) Files × DropsFile s key) ((table ≡ 9) × CleansItem s c (settled_doing d r) MoreBlocks) → ⊥
+none_row : (s : State) (c : ModelClient) (d : Doing) (r : Reply) (table key : ℕ) (b : Bool) → MatchBool b (CleansItem s c (settled_doing d r) Files × DropsFile s key) ((table ≡ TABLE_OF_DEAD) × CleansItem s c (settled_doing d r) MoreBlocks) → ⊥
 none_row s c d r table key true h = none_cleaned s c d r Files h.0
 none_row s c d r table key false h = none_cleaned s c d r MoreBlocks h.1
 
@@ -98,14 +99,14 @@ module _ (start : Start) (alone : Bool) (s : State) (client now : ℕ) (c : Mode
   settled_step (Settled commit) may = let ready = may.ready in absurd (cc)
   settled_step (Expired sid) may = absurd (none_cleaned s c d r _ may.0)
   settled_step (Purged inode) may = absurd (none_cleaned s c d r _ may.0)
-  settled_step (Cleaned table key) may = absurd (none_row s c d r table key (table == 8) may)
+  settled_step (Cleaned table key) may = absurd (none_row s c d r table key (table == TABLE_OF_DROPPED) may)
   settled_step Quiet may = absurd (cc)
   settled_step (Miss inode window) may = absurd (none_missed start s client c d r inode window (is_compaction d.does) may)
   settled_step Crashed may = absurd may
   settled_step (Ticked by) may = absurd may
   settled_step (Answered told) may = ap Answered (settled_answer told may)
 
--- a client whose answer is settled, and has to come on the present line
+-- a client whose answer is decided, and has to come on the present line
 
 data IsOnLine (client : ℕ) (due : Due) : Type 0 where
   Answering : due ≡ ToAnswer client → IsOnLine client due

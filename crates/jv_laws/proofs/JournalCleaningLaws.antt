@@ -3,13 +3,14 @@ use Rattle.std.proofs.Common.{◌≡◌, ℕ, ◌+◌, ◌≤◌, Bool, true, fa
 use Rattle.std.proofs.lemmas.Bool.{and_parts, or_left, or_right}
 use Rattle.std.specs.Option.{option_map}
 use Rattle.std.proofs.lemmas.Bool.Decides.{nat_tests, leb_tells}
+use Rattle.jv_model.specs.declared.tables.TheConstants.{TABLE_OF_DROPPED}
 use Rattle.jv_model.specs.declared.act.Act.{Act}
 use Rattle.jv_model.specs.declared.act.ActKind.{ActKind}
 use Rattle.jv_model.specs.declared.act.ActKind.TheVariants.{Settled, Expired, Cleaned, Crashed, Answered}
 use Rattle.jv_model.specs.declared.op.Op.{Op}
 use Rattle.jv_model.specs.FiniteMap.{number_key, first_where}
 use Rattle.jv_model.specs.tree.Tree.{Tree, SessionEntry}
-use Rattle.jv_model.specs.client.ModelClient.{Doing, is_among, session_of}
+use Rattle.jv_model.specs.client.ModelClient.{Doing, session_of}
 use Rattle.jv_model.specs.client.Submission.{submission, submitted}
 use Rattle.jv_model.specs.journal.State.{State, set_client, after_step, after_other, of_doing, changed, effect}
 use Rattle.jv_model.specs.journal.Steps.{MayStep, DropsFile}
@@ -18,8 +19,9 @@ use Rattle.jv_model.specs.journal.Legal.{Allowed, AllAllowed, IsPublish, IsPubli
 use Rattle.jv_model.specs.journal.Looks.{entry_at}
 use Rattle.jv_laws.specs.Laws.{ExpiresOnlyGone, IsExpired, DropsOnlyGone}
 use Rattle.jv_model.proofs.FiniteMapLaws.{first_where-found}
+use Rattle.jv_model.specs.Lists.{is_among}
 use Rattle.jv_laws.proofs.JournalGrowthLaws.{AllAllowed-parts}
-use Rattle.jv_laws.proofs.JournalStates.{Entry, Steps, RefusedSubmission, LacksMemory, Crashes, Publishes, OfDrain, Ticks, entry_of, entry_before, entry_last, entry_within, none_entered, holds_on, of_kind}
+use Rattle.jv_laws.proofs.JournalStateLaws.{Entry, Steps, RefusedSubmission, LacksMemory, Crashes, Publishes, OfDrain, Ticks, entry_of, entry_before, entry_last, entry_within, none_entered, holds_on, of_kind}
 use Rattle.jv_laws.proofs.JournalOwedLaws.{is_of_operation, has_operation}
 
 -- sessions
@@ -60,7 +62,7 @@ expires_gone run journal act may sid k =
 -- rows of removed files
 
 abbrev Drops : ℕ → Act → Type 0
-Drops inode act = act.kind ≡ Cleaned 8 inode
+Drops inode act = act.kind ≡ Cleaned TABLE_OF_DROPPED inode
 
 -- every inode that was dropped is kept in mind
 record Dropped (pre : List Act) (s : State) : Type 0 where
@@ -68,17 +70,17 @@ record Dropped (pre : List Act) (s : State) : Type 0 where
 
 record Grows (kind : ActKind) (before after : List ℕ) : Type 0 where
   old : (inode : ℕ) → IsTrue (is_among inode before) → IsTrue (is_among inode after)
-  new : (inode : ℕ) → kind ≡ Cleaned 8 inode → IsTrue (is_among inode after)
+  new : (inode : ℕ) → kind ≡ Cleaned TABLE_OF_DROPPED inode → IsTrue (is_among inode after)
 
-same_grows : (kind : ActKind) (xs : List ℕ) → ((inode : ℕ) → kind ≡ Cleaned 8 inode → ⊥) → Grows kind xs xs
+same_grows : (kind : ActKind) (xs : List ℕ) → ((inode : ℕ) → kind ≡ Cleaned TABLE_OF_DROPPED inode → ⊥) → Grows kind xs xs
 same_grows kind xs none = record { old = λ inode h. h; new = λ inode k. absurd (none inode k) }
 
-cleaned_grows : (table key : ℕ) (xs : List ℕ) (b : Bool) → (table == 8) ≡ b → Grows (Cleaned table key) xs (if b then key ∷ xs else xs)
+cleaned_grows : (table key : ℕ) (xs : List ℕ) (b : Bool) → (table == TABLE_OF_DROPPED) ≡ b → Grows (Cleaned table key) xs (if b then key ∷ xs else xs)
 cleaned_grows table key xs true e = record { old = λ inode h. or_right (key == inode) (is_among inode xs) h; new = λ inode k. (let same : key ≡ inode = cc in or_left (key == inode) (is_among inode xs) (grind (arith, nat_tests))) }
-cleaned_grows table key xs false e = record { old = λ inode h. h; new = λ inode k. (let same : table ≡ 8 = cc in absurd (grind (arith, nat_tests))) }
+cleaned_grows table key xs false e = record { old = λ inode h. h; new = λ inode k. (let same : table ≡ TABLE_OF_DROPPED = cc in absurd (grind (arith, nat_tests))) }
 
 grows_step : (s : State) (act : Act) (d : Doing) (kind : ActKind) → Grows kind s.dropped (after_step s act d kind).dropped
-grows_step s act d (Cleaned table key) = cleaned_grows table key s.dropped (table == 8) refl
+grows_step s act d (Cleaned table key) = cleaned_grows table key s.dropped (table == TABLE_OF_DROPPED) refl
 grows_step s act d kind = same_grows kind s.dropped (λ inode k. cc)
 
 grows_other : (s : State) (kind : ActKind) → is_of_operation kind ≡ false → Grows kind s.dropped (after_other s kind).dropped
@@ -118,7 +120,7 @@ dropped_submits run pre s client o none h = record { keeps = h.keeps }
 all_dropped : (run : Setup) (journal : List Act) → AllAllowed (at_start run) journal → (line : ℕ) → Dropped journal (begun_to line (reached run journal)).state
 all_dropped run journal may line = holds_on run Dropped (dropped_submits run) (dropped_enters run) (record { keeps = λ inode number h. absurd (none_entered number (Drops inode) h) }) journal may line
 
-drops_step : (p : Past) (act : Act) (inode : ℕ) → act.kind ≡ Cleaned 8 inode → Entry p act → DropsFile p.state inode
+drops_step : (p : Past) (act : Act) (inode : ℕ) → act.kind ≡ Cleaned TABLE_OF_DROPPED inode → Entry p act → DropsFile p.state inode
 drops_step p act inode k (Steps d e may) =
     let t = subst (λ kind. MayStep p.run.start (p.run.uploads == 0) p.state act.client act.at (p.state.clients act.client) d kind) k may in t.1
 drops_step p act inode k (RefusedSubmission fault e (Refuses k')) = absurd (cc)
@@ -135,7 +137,7 @@ not_twice : (b : Bool) → IsTrue b → b ≡ false → ⊥
 not_twice true h e = cc
 not_twice false h e = cc
 
-none_before : (journal : List Act) (s : State) (inode : ℕ) → Dropped journal s → is_among inode s.dropped ≡ false → (number : ℕ) (o : Option Act) → entry_at journal number ≡ o → IfSome o (λ act. act.kind ≡ Cleaned 8 inode → ⊥)
+none_before : (journal : List Act) (s : State) (inode : ℕ) → Dropped journal s → is_among inode s.dropped ≡ false → (number : ℕ) (o : Option Act) → entry_at journal number ≡ o → IfSome o (λ act. act.kind ≡ Cleaned TABLE_OF_DROPPED inode → ⊥)
 none_before journal s inode h once number None e = tt
 none_before journal s inode h once number (Some act) e = λ k. not_twice (is_among inode s.dropped) (h.keeps inode number (subst (λ o. IsSomeAnd o (Drops inode)) (sym e) k)) once
 

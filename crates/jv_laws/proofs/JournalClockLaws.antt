@@ -6,7 +6,7 @@ use Rattle.jv_model.specs.journal.Past.{Setup, Past, at_start, begun_to, reached
 use Rattle.jv_model.specs.journal.Legal.{IsMoment, clock_moment, tick_of}
 use Rattle.jv_laws.specs.Laws.{MomentsAreTheClocks, HasMoment}
 use Rattle.jv_laws.proofs.JournalGrowthLaws.{AllAllowed-parts, begun_frame}
-use Rattle.jv_laws.proofs.JournalStates.{run_reached}
+use Rattle.jv_laws.proofs.JournalStateLaws.{run_reached}
 use Rattle.jv_laws.proofs.JournalLineLaws.{workers_at}
 
 abbrev IsWithin : Past → Act → Type 0

@@ -24,9 +24,10 @@ use Rattle.jv_model.specs.journal.State.{State, with_client, set_client, committ
 use Rattle.jv_model.specs.journal.Past.{Setup, Past, at_start, begun_to, reached}
 use Rattle.jv_model.specs.journal.Legal.{Allowed, AllAllowed}
 use Rattle.jv_model.specs.journal.Looks.{entry_at}
+use Rattle.jv_model.proofs.TestLaws.{either_kept}
 use Rattle.jv_laws.specs.Laws.{AnswersWrite, ClosesCommitWrites, ResolvesWrite, commits_position, loses_pending, is_fine_answer, HasCommitted}
 use Rattle.jv_laws.proofs.JournalGrowthLaws.{AllAllowed-append, AllAllowed-parts, own_client, others_kept}
-use Rattle.jv_laws.proofs.JournalStates.{entry_of, keeps_begun_to, reached-more, state-more, run_reached, of_kind}
+use Rattle.jv_laws.proofs.JournalStateLaws.{entry_of, keeps_begun_to, reached-more, state-more, run_reached, of_kind}
 use Rattle.jv_laws.proofs.JournalLooksLaws.{stage_files, transaction_files}
 use Rattle.jv_laws.proofs.JournalDoingLaws.{sound, fine_committed, nothing_pending}
 
@@ -36,11 +37,6 @@ has_place inode position [] = false
 has_place inode position (b ∷ bs) = stands_at inode position b || has_place inode position bs
 
 module _ (i q : ℕ) where
-  either_kept : (a b c d : Bool) → (IsTrue a → IsTrue c) → (IsTrue b → IsTrue d) → IsTrue (a || b) → IsTrue (c || d)
-  either_kept true b c d f g h = let e = f refl in grind arith
-  either_kept false b true d f g h = refl
-  either_kept false b false d f g h = g h
-
   same_place : (inode position byte : ℕ) (b : PendingByte) → IsTrue (stands_at inode position b) → IsTrue (stands_at i q b) → IsTrue (stands_at i q (record { inode = inode; position = position; byte = byte }))
   same_place inode position byte b at here = grind (arith, nat_tests)
 
@@ -116,7 +112,7 @@ module _ (i q : ℕ) where
   ]
 
   others_branch : (gone : ℕ) (b : PendingByte) (bs more : List PendingByte) (keep : Bool) → not (b.inode == gone) ≡ keep → (gone ≡ i → ⊥) → (IsTrue (has_place i q bs) → IsTrue (has_place i q more)) → IsTrue (has_place i q (b ∷ bs)) → IsTrue (has_place i q (if keep then b ∷ more else more))
-  others_branch gone b bs more true e apart rest h = either_kept i q (stands_at i q b) (has_place i q bs) (stands_at i q b) (has_place i q more) (λ x. x) rest h
+  others_branch gone b bs more true e apart rest h = either_kept (stands_at i q b) (has_place i q bs) (stands_at i q b) (has_place i q more) (λ x. x) rest h
   others_branch gone b bs more false e apart rest h =
       let elsewhere : stands_at i q b ≡ false = off_place gone b e apart in
       rest (subst (λ s. IsTrue (s || has_place i q bs)) elsewhere h)

@@ -4,6 +4,7 @@ use Rattle.std.proofs.Math.Bool.{or-false}
 use Rattle.std.proofs.lemmas.Bool.{and_parts, or_left}
 use Rattle.std.specs.List.{AllByRecursion}
 use Rattle.std.proofs.lemmas.Bool.Decides.{eqb_tells}
+use Rattle.jv_model.specs.declared.tables.TheConstants.{TABLE_OF_DEAD, TABLE_OF_DROPPED}
 use Rattle.jv_model.specs.declared.act.TheConstants.{NO_CLIENT}
 use Rattle.jv_model.specs.declared.act.Act.{Act}
 use Rattle.jv_model.specs.declared.act.ActKind.{ActKind}
@@ -33,7 +34,7 @@ use Rattle.jv_model.specs.tree.FileBytes.{truncate, truncated, copy, copied, cop
 use Rattle.jv_model.specs.client.Pending.{PendingByte, Segment, first_segment, pending_of, without_range}
 use Rattle.jv_model.specs.client.Origins.{Owed}
 use Rattle.jv_model.specs.client.Profile.{profile, handle_list, handle_of}
-use Rattle.jv_model.specs.client.ModelClient.{ModelClient, OpenFile, View, Doing, OfFiles, OfAll, Stage, Cleaning, Sessions, Trash, Files, MoreBlocks, Part, Working, Reading, Missing, LookedAgain, Compacting, Cleans, Requesting, Replying, unmounted, with_stage, file_of, inode_in, inode_at, views_without}
+use Rattle.jv_model.specs.client.ModelClient.{ModelClient, OpenFile, View, Doing, OfFiles, OfAll, Stage, Cleaning, Sessions, Trash, Files, MoreBlocks, CleaningPart, Working, Reading, Missing, LookedAgain, Compacting, Cleans, Requesting, Replying, unmounted, with_stage, file_of, inode_in, inode_at, views_without}
 use Rattle.jv_model.specs.client.Submission.{submission, submitted, flush_of, by_limits, segment_of_files, is_flushed}
 use Rattle.jv_model.specs.journal.State.{removes_block, judges, State, Gift, NewSession, NewHandle, Nothing, with_client, set_client, given, replied, transacted, newly_sustained, next_entry, gift_of, after_transaction, is_refused, refusal_in, look_refusal, has_session, quieted, begun_quietly, flushing_on, cleaning_on, looked, compaction_looked, missed, committed_stage, answer_then, reply_of_answer, replaced, after_told, answered_client, is_of_another, after_step, of_doing, changed, effect, view_now, is_compaction, sees_first, first_cleaning}
 use Rattle.jv_model.specs.journal.Reading.{asked_parts}
@@ -42,7 +43,7 @@ use Rattle.jv_model.specs.journal.Past.{Setup, Past, at_start, begun_to, reached
 use Rattle.jv_model.specs.journal.Legal.{Allowed, AllAllowed, Refuses as RefusesSubmission, LacksMemory as RefusalLacks}
 use Rattle.jv_laws.specs.Laws.{NothingPending, HasCommitted, flushed_handles, is_fine_answer}
 use Rattle.jv_laws.proofs.JournalGrowthLaws.{AllAllowed-parts, own_client, others_kept}
-use Rattle.jv_laws.proofs.JournalStates.{Entry, Steps, RefusedSubmission, LacksMemory, Crashes, Publishes, OfDrain, Ticks, entry_of, holds_on, of_kind}
+use Rattle.jv_laws.proofs.JournalStateLaws.{Entry, Steps, RefusedSubmission, LacksMemory, Crashes, Publishes, OfDrain, Ticks, entry_of, holds_on, of_kind}
 pub use Rattle.jv_model.proofs.ClientsLaws.{doing_given}
 use Rattle.jv_model.proofs.PendingLaws.{no_first_segment}
 
@@ -57,13 +58,13 @@ IsFineReply DoesClean r = ⊥
 IsFineReply Uploads r = ⊥
 IsFineReply _ r = Unit {0}
 
-pub data IsSettled (does : Does) (flushed : Bool) (r : Reply) : Type 0 where
-  IsRefusedReply : IsTrue (is_refused r) → IsSettled does flushed r
-  IsDoneReply : IsTrue flushed → IsFineReply does r → IsSettled does flushed r
+pub data MayReply (does : Does) (flushed : Bool) (r : Reply) : Type 0 where
+  IsRefusedReply : IsTrue (is_refused r) → MayReply does flushed r
+  IsDoneReply : IsTrue flushed → IsFineReply does r → MayReply does flushed r
 
 abbrev pub StageOk : Does → Bool → Stage → Type 0
 StageOk does flushed (Working quiets started) = Unit {0}
-StageOk does flushed (Replying r) = IsSettled does flushed r
+StageOk does flushed (Replying r) = MayReply does flushed r
 StageOk does flushed _ = IsTrue flushed
 
 -- an operation in progress, with its client's handles and pending bytes
@@ -195,7 +196,7 @@ module _ (s : State) (client : ℕ) (c : ModelClient) (now : ℕ) (d : Doing) wh
   ok_quieted (Requesting requests) all h = ok_if d.does F (judges d.does requests && not (has_session s.tree c)) _ _ (IsRefusedReply refl) h
   ok_quieted (Replying answer) all h = h
 
--- what an entry of an operation wants committed
+-- what an entry of an operation needs committed
 
 abbrev with_doing_stage : Doing → Stage → Doing
 with_doing_stage d stage = record d { stage = stage }
@@ -243,10 +244,10 @@ module _ (s : State) (client now : ℕ) (start : Start) (c : ModelClient) (d : D
   miss_flushed inode window true h = stage_flushed c d (Compacting h.k) ok h.stage
   miss_flushed inode window false h = reading_flushed c d d.stage ok (or_left _ _ h.goes_on)
 
-  item_flushed : (part : Part) → CleansItem s c d part → IsTrue (is_flushed d.flush c.pending)
+  item_flushed : (part : CleaningPart) → CleansItem s c d part → IsTrue (is_flushed d.flush c.pending)
   item_flushed part h = cleaning_flushed c d d.stage h.k ok h.stage
 
-  row_flushed : (table key : ℕ) (b : Bool) → MatchBool b (CleansItem s c d Files × DropsFile s key) ((table ≡ 9) × CleansItem s c d MoreBlocks) → IsTrue (is_flushed d.flush c.pending)
+  row_flushed : (table key : ℕ) (b : Bool) → MatchBool b (CleansItem s c d Files × DropsFile s key) ((table ≡ TABLE_OF_DEAD) × CleansItem s c d MoreBlocks) → IsTrue (is_flushed d.flush c.pending)
   row_flushed table key true h = item_flushed Files h.0
   row_flushed table key false h = item_flushed MoreBlocks h.1
 
@@ -422,7 +423,7 @@ module _ (limits : Limits) (start : Start) (alone : Bool) (s : State) (act : Act
   own_step (Settled commit) may = own_stage _ (ok_quieted s act.client c act.at d d.stage h.stage h.stage)
   own_step (Expired sid) may = own_stage (Cleans _) (item_flushed s act.client act.at start c d h.stage Sessions may.0)
   own_step (Purged inode) may = own_stage (Cleans _) (item_flushed s act.client act.at start c d h.stage Trash may.0)
-  own_step (Cleaned table key) may = own_stage (Cleans _) (row_flushed s act.client act.at start c d h.stage table key (table == 8) may)
+  own_step (Cleaned table key) may = own_stage (Cleans _) (row_flushed s act.client act.at start c d h.stage table key (table == TABLE_OF_DROPPED) may)
   own_step Quiet may = own_stage _ (ok_quieted s act.client c act.at d d.stage h.stage h.stage)
   own_step (Miss inode window) may = own_stage _ (ok_missed d.does (is_flushed d.flush c.pending) window s.owed d.stage (miss_flushed s act.client act.at start c d h.stage inode window (is_compaction d.does) may) h.stage)
   own_step Crashed may = absurd may
@@ -523,7 +524,7 @@ pub fine_not_refused : (told : Told) (r : Reply) → IsTrue (is_fine_answer (Ans
 fine_not_refused told (reply.Refused fault) fine e h = let no : IsTrue (is_fine_answer (Answered (ToldRefused fault))) = subst (λ t. IsTrue (is_fine_answer (Answered t))) e fine in cc
 fine_not_refused told _ fine e h = cc
 
-settled_flushed : (does : Does) (flushed : Bool) (r : Reply) (told : Told) → IsTrue (is_fine_answer (Answered told)) → told ≡ told_of r → IsSettled does flushed r → IsTrue flushed
+settled_flushed : (does : Does) (flushed : Bool) (r : Reply) (told : Told) → IsTrue (is_fine_answer (Answered told)) → told ≡ told_of r → MayReply does flushed r → IsTrue flushed
 settled_flushed does flushed r told fine e (IsRefusedReply h) = absurd (fine_not_refused told r fine e h)
 settled_flushed does flushed r told fine e (IsDoneReply f h) = f
 

@@ -3,6 +3,7 @@ use Rattle.std.proofs.Common.{◌≡◌, ℕ, suc, ◌+◌, ◌≤◌, ◌<◌, 
 use Rattle.std.proofs.lemmas.Bool.{and_parts}
 use Rattle.std.proofs.lemmas.List.{take-append-le, take_all}
 use Rattle.std.proofs.lemmas.Bool.Decides.{nat_tests, leb_tells, eqb_tells}
+use Rattle.jv_model.specs.declared.tables.TheConstants.{TABLE_OF_DEAD, TABLE_OF_DROPPED}
 use Rattle.jv_model.specs.declared.limits.TheConstants.{MAX_ITEMS, TRASH_ROOT}
 use Rattle.jv_model.specs.declared.act.TheConstants.{NO_CLIENT}
 use Rattle.jv_model.specs.declared.act.Act.{Act}
@@ -23,7 +24,7 @@ use Rattle.jv_model.specs.tree.Trash.{due_purge}
 use Rattle.jv_model.specs.client.Pending.{without_range}
 use Rattle.jv_model.specs.client.Origins.{Owed}
 use Rattle.jv_model.specs.client.Profile.{profile, handle_of}
-use Rattle.jv_model.specs.client.ModelClient.{ModelClient, View, Doing, Stage, Cleaning, Part, Sessions, Trash, Files, Slices, Blocks, MoreBlocks, Working, Reading, Missing, LookedAgain, Compacting, Cleans, Requesting, Replying, unmounted, with_stage, session_of, views_without}
+use Rattle.jv_model.specs.client.ModelClient.{ModelClient, View, Doing, Stage, Cleaning, CleaningPart, Sessions, Trash, Files, Slices, Blocks, MoreBlocks, Working, Reading, Missing, LookedAgain, Compacting, Cleans, Requesting, Replying, unmounted, with_stage, session_of, views_without}
 use Rattle.jv_model.specs.client.Submission.{submission, submitted, by_limits, is_flushed}
 use Rattle.jv_model.specs.journal.State.{State, with_client, set_client, given, transacted, newly_sustained, next_entry, gift_of, after_transaction, has_session, quieted, begun_quietly, flushing_on, cleaning_on, judges, looked, compaction_looked, missed, committed_stage, answer_then, replaced, after_told, answered_client, is_of_another, after_expiry, after_purge, after_cleaning, after_step, of_doing, changed, effect, view_now, is_compaction, is_last, sees_first, first_cleaning}
 use Rattle.jv_model.specs.journal.Reading.{asked_parts}
@@ -34,8 +35,8 @@ use Rattle.jv_model.specs.journal.Looks.{entry_at}
 use Rattle.jv_model.specs.journal.Stepping.{is_answer}
 use Rattle.jv_laws.specs.Laws.{CleansWhatIsDue, MayEndCleaning, HadMost, HadFewer, FoundNoneDue, FoundNothing, NoSessionDue, NoHourDue, ends_operation}
 use Rattle.jv_laws.proofs.JournalGrowthLaws.{AllAllowed-parts, own_client, others_kept}
-use Rattle.jv_laws.proofs.JournalStates.{Entry, Steps, RefusedSubmission, LacksMemory, Crashes, Publishes as OfPublish, OfDrain, Ticks, entry_of, entry_before, entry_last, entry_past, entry_within, holds_on}
-use Rattle.jv_laws.proofs.JournalDoingLaws.{Sound, SoundIf, IsSettled, IsRefusedReply, IsDoneReply, StageOk, sound, doing_given, fine_not_refused, none_some}
+use Rattle.jv_laws.proofs.JournalStateLaws.{Entry, Steps, RefusedSubmission, LacksMemory, Crashes, Publishes as OfPublish, OfDrain, Ticks, entry_of, entry_before, entry_last, entry_past, entry_within, holds_on}
+use Rattle.jv_laws.proofs.JournalDoingLaws.{Sound, SoundIf, MayReply, IsRefusedReply, IsDoneReply, StageOk, sound, doing_given, fine_not_refused, none_some}
 use Rattle.jv_laws.proofs.JournalStageLaws.{stage_fits, FitsIf, all_fit}
 
 -- what was found, by the part
@@ -44,7 +45,7 @@ record FoundSessions (run : Setup) (journal : List Act) (client : ℕ) : Type 0 
   before : ℕ
   sessions : FoundNothing run journal client before (NoSessionDue client)
 
-abbrev FoundBy : Setup → List Act → ℕ → Part → Type 0
+abbrev FoundBy : Setup → List Act → ℕ → CleaningPart → Type 0
 FoundBy run journal client Sessions = Unit {0}
 FoundBy run journal client Trash = FoundSessions run journal client
 FoundBy run journal client Files = FoundNoneDue run journal client
@@ -117,7 +118,7 @@ module _ (run : Setup) (pre : List Act) (e : Act) where
     hours = nothing_later client h.second NoHourDue on h.hours;
   }
 
-  by_later : (client : ℕ) (part : Part) → GoesOn client e → FoundBy run pre client part → FoundBy run more client part
+  by_later : (client : ℕ) (part : CleaningPart) → GoesOn client e → FoundBy run pre client part → FoundBy run more client part
   by_later client Sessions on h = tt
   by_later client Trash on h = sessions_later client on h
   by_later client Files on h = none_later client on h
@@ -156,10 +157,10 @@ first_of : (b : Bool) (k : Cleaning) → ◌≡◌ {A = Option Cleaning} (if b t
 first_of true k e = let same : first_cleaning ≡ k = cc in ap (λ (x : Cleaning). x.part) (sym same)
 first_of false k e = absurd (cc)
 
-item_part : (s : State) (c : ModelClient) (d : Doing) (k : Cleaning) (part : Part) → CleansItem s c (record d { stage = Cleans k }) part → k.part ≡ part
+item_part : (s : State) (c : ModelClient) (d : Doing) (k : Cleaning) (part : CleaningPart) → CleansItem s c (record d { stage = Cleans k }) part → k.part ≡ part
 item_part s c d k part may = let e = may.stage in let same : k ≡ may.k = cc in ap (λ (x : Cleaning). x.part) same ∙ may.at
 
-working_part : (s : State) (c : ModelClient) (d : Doing) (quiets started : ℕ) (part : Part)
+working_part : (s : State) (c : ModelClient) (d : Doing) (quiets started : ℕ) (part : CleaningPart)
     → CleansItem s c (record d { stage = Working quiets started }) part → Sessions ≡ part
 working_part s c d quiets started part may = sym (first_of _ may.k may.stage) ∙ may.at
 
@@ -268,7 +269,7 @@ module _ (run : Setup) (pre : List Act) (act : Act) (start : Start) (alone : Boo
     purge_found inode _ h may = let never = may.stage in absurd (cc)
 
     abbrev Row : ℕ → ℕ → Stage → Bool → Type 0
-    Row table key stage b = MatchBool b (CleansItem s c (record d { stage = stage }) Files × DropsFile s key) ((table ≡ 9) × CleansItem s c (record d { stage = stage }) MoreBlocks)
+    Row table key stage b = MatchBool b (CleansItem s c (record d { stage = stage }) Files × DropsFile s key) ((table ≡ TABLE_OF_DEAD) × CleansItem s c (record d { stage = stage }) MoreBlocks)
 
     then_row : (table key : ℕ) (k : Cleaning) (b : Bool) (x y : Cleaning) → x.part ≡ k.part → y.part ≡ Slices → FoundBy run pre act.client k.part
         → Row table key (Cleans k) b → Then (Cleans (if b then x else y))
@@ -287,11 +288,11 @@ module _ (run : Setup) (pre : List Act) (act : Act) (start : Start) (alone : Boo
     no_other_row table key stage true none may = let e = may.0.stage in cc
     no_other_row table key stage false none may = let e = may.1.stage in cc
 
-    row_found : (table key : ℕ) (stage : Stage) → Before stage → Row table key stage (table == 8)
+    row_found : (table key : ℕ) (stage : Stage) → Before stage → Row table key stage (table == TABLE_OF_DROPPED)
         → Own (after_cleaning s act.client table key (record d { stage = stage }))
-    row_found table key (Cleans k) h may = own_stage (Cleans _) (then_row table key k (table == 8) _ _ refl refl h may)
-    row_found table key (Working quiets started) h may = absurd (no_row table key quiets started (table == 8) may)
-    row_found table key stage h may = absurd (no_other_row table key stage (table == 8) refl may)
+    row_found table key (Cleans k) h may = own_stage (Cleans _) (then_row table key k (table == TABLE_OF_DROPPED) _ _ refl refl h may)
+    row_found table key (Working quiets started) h may = absurd (no_row table key quiets started (table == TABLE_OF_DROPPED) may)
+    row_found table key stage h may = absurd (no_other_row table key stage (table == TABLE_OF_DROPPED) refl may)
 
   -- requests that changed nothing
 
@@ -308,7 +309,7 @@ module _ (run : Setup) (pre : List Act) (act : Act) (start : Start) (alone : Boo
     hours_now : IsTrue (not (is_some (due_purge s.tree act.at))) → FoundSessions run pre act.client → FoundNoneDue run (pre ++ act ∷ []) act.client
     hours_now none h = both_now run pre act quiet (subst (λ t. NoHourDue t act.at) (sym here) (none_some _ none)) h
 
-    then_cleaning : (k : Cleaning) (part : Part) → FoundBy run pre act.client part
+    then_cleaning : (k : Cleaning) (part : CleaningPart) → FoundBy run pre act.client part
         → IsTrue (may_be_quiet start s act.client act.at c d (Cleans (record k { part = part }))) → Then (cleaning_on s c (record k { part = part }))
     then_cleaning k Sessions h may = then_if (has_session s.tree c || false) _ _ (λ e. sessions_now (or_not _ (has_session s.tree c) (and_parts _ _ may).1 e)) tt
     then_cleaning k Trash h may = then_if (has_session s.tree c || false) _ _ (λ e. hours_now (or_not _ (has_session s.tree c) (and_parts _ _ may).1 e) h) tt
@@ -495,7 +496,7 @@ judges_none : (stage : Stage) → IsTrue (has_judged DoesClean stage) → ⊥
 judges_none (Requesting requests) h = cc
 judges_none _ h = cc
 
-last_found : (run : Setup) (journal : List Act) (client : ℕ) (part : Part) → IsTrue (is_last part) → FoundBy run journal client part
+last_found : (run : Setup) (journal : List Act) (client : ℕ) (part : CleaningPart) → IsTrue (is_last part) → FoundBy run journal client part
     → FoundNoneDue run journal client
 last_found run journal client Blocks last h = h
 last_found run journal client _ last h = absurd (cc)
@@ -513,7 +514,7 @@ module _ (run : Setup) (journal : List Act) (start : Start) (alone : Bool) (s : 
   abbrev Ends : Type 0
   Ends = MayEndCleaning run journal client d.stage
 
-  none_settled : (flushed : Bool) (r : Reply) → Fine sessions trash files slices ≡ told_of r → IsSettled DoesClean flushed r → ⊥
+  none_settled : (flushed : Bool) (r : Reply) → Fine sessions trash files slices ≡ told_of r → MayReply DoesClean flushed r → ⊥
   none_settled flushed r e (IsRefusedReply h) = fine_not_refused (Fine sessions trash files slices) r refl e h
   none_settled flushed r e (IsDoneReply f never) = never
 

@@ -23,9 +23,10 @@ use Rattle.jv_model.specs.journal.Steps.{Start, MayStep, begins_step}
 use Rattle.jv_model.specs.journal.Past.{Setup, Past, Due, NoMore, Refusal, MayLack, ToAnswer, OneStep, StepMade, CrashEntry, TickEntry, DrainEntries, at_start, at_end, begun, begun_by, begun_by_due, begun_to, begin_from, begin_next, turned, is_busy, is_over, is_workers, lined, requested, after, advance, past, reached}
 use Rattle.jv_model.specs.journal.Legal.{IsRefusal, Allowed, AllAllowed, Refuses, LacksMemory, IsPublish, Drains, Sends, Ends, Fails, OfClient, OfLine, OfWorker, may_be_cut, may_stop}
 use Rattle.jv_model.specs.journal.Stepping.{is_answer}
-use Rattle.jv_laws.specs.Laws.{LinesHaveEntries, EndedLinesHaveEntries, RefusedLinesHaveOneEntry, FitsLine, EndsAnswered, IsOneStep, Idle, OneEntry, AndAnswer, kinds_on, line_at}
+use Rattle.jv_model.specs.Lists.{numbered}
+use Rattle.jv_laws.specs.Laws.{LinesHaveEntries, EndedLinesHaveEntries, RefusedLinesHaveOneEntry, FitsLine, EndsAnswered, IsOneStep, Idle, OneEntry, AndAnswer, kinds_on}
 use Rattle.jv_laws.proofs.JournalGrowthLaws.{AllAllowed-parts, past-append, frame_begun, line-begun_to, begun_to-begun, line_allowed, entered, line_of_advance}
-use Rattle.jv_laws.proofs.JournalStates.{publish_of}
+use Rattle.jv_laws.proofs.JournalStateLaws.{publish_of}
 
 -- entries so far of a line, by what it may still have
 
@@ -288,8 +289,8 @@ rest_none zero (x ∷ lines) e = absurd (cc)
 rest_none (suc n) [] e = record { none_there = refl; after_it = refl }
 rest_none (suc n) (x ∷ lines) e = let r = rest_none n lines e in record { none_there = r.none_there; after_it = r.after_it }
 
-line_next : (script : List Line) (n : ℕ) (o : Option Line) → slice_get script n ≡ o → line_at script (n + 1) ≡ o
-line_next script n o e = let s : n + 1 ≡ suc n = omega arith in ap (line_at script) s ∙ e
+line_next : (script : List Line) (n : ℕ) (o : Option Line) → slice_get script n ≡ o → numbered script (n + 1) ≡ o
+line_next script n o e = let s : n + 1 ≡ suc n = omega arith in ap (numbered script) s ∙ e
 
 rest_next : (script : List Line) (n : ℕ) (lines : List Line) → rest_from (suc n) script ≡ lines → lines ≡ rest_from (n + 1) script
 rest_next script n lines e = let s : suc n ≡ n + 1 = omega arith in sym e ∙ ap (λ k. rest_from k script) s
@@ -327,7 +328,7 @@ module _ (run : Setup) where
   K line pre = kinds_on run.by_worker line 1 pre
 
   abbrev Fits : ℕ → List Act → Type 0
-  Fits line pre = IfSome (line_at run.script line) (λ l. FitsLine l (K line pre))
+  Fits line pre = IfSome (numbered run.script line) (λ l. FitsLine l (K line pre))
 
   record Lined (pre : List Act) (p : Past) : Type 0 where
     run_is : p.run ≡ run
@@ -335,10 +336,10 @@ module _ (run : Setup) where
     lines : p.rest ≡ rest_from p.line run.script
     later : (n : ℕ) → p.line < n → K n pre ≡ []
     earlier : IsTrue p.complete → (n : ℕ) → n < p.line → Fits n pre
-    present : IfSome (line_at run.script p.line) (λ l. SoFar l p.due (K p.line pre))
+    present : IfSome (numbered run.script p.line) (λ l. SoFar l p.due (K p.line pre))
 
   present_over : (pre : List Act) (p : Past) → Lined pre p → is_over p ≡ true → Fits p.line pre
-  present_over pre p h over = if_some_of (λ l. SoFar l p.due (K p.line pre)) (λ l. FitsLine l (K p.line pre)) (line_at run.script p.line) (λ l s. fits_over p l (K p.line pre) p.due s over) h.present
+  present_over pre p h over = if_some_of (λ l. SoFar l p.due (K p.line pre)) (λ l. FitsLine l (K p.line pre)) (numbered run.script p.line) (λ l s. fits_over p l (K p.line pre) p.due s over) h.present
 
   up_to : (pre : List Act) (p : Past) → Lined pre p → IsTrue (p.complete && is_over p) → (n : ℕ) → n ≤ p.line → Fits n pre
   up_to pre p h c n low =
@@ -370,7 +371,7 @@ module _ (run : Setup) where
         lines = f.lines ∙ rest_next run.script p.line lines r.after_it ∙ ap (λ n. rest_from n run.script) (sym at);
         later = λ n high. h.later n (omega (arith, at, high));
         earlier = λ c n low. up_to pre p h (subst IsTrue f.complete c) n (omega (arith, at, low));
-        present = subst (λ n. IfSome (line_at run.script n) (λ l. SoFar l (begun q line).due (K n pre))) (sym at)
+        present = subst (λ n. IfSome (numbered run.script n) (λ l. SoFar l (begun q line).due (K n pre))) (sym at)
             (subst (λ o. IfSome o (λ l. SoFar l (begun q line).due (K (p.line + 1) pre))) (sym (line_next run.script p.line (Some line) r.line_there))
             (subst (SoFar line (begun q line).due) (sym (h.later (p.line + 1) (omega arith))) (sofar_begun q line)));
       }
@@ -400,10 +401,10 @@ module _ (run : Setup) where
   other_line pre act n apart = kinds_same run.by_worker n pre act (off_line act.line n _ apart)
 
   present_after : (pre : List Act) (p : Past) (act : Act) (worker : Bool) → is_workers p ≡ worker → Lined pre p → act.line ≡ p.line → MatchBool worker (OfWorker p act) (OfLine p act p.due)
-      → IfSome (line_at run.script p.line) (λ l. SoFar l (if worker then p.due else (lined p act act.kind).due) (K p.line (pre ++ act ∷ [])))
-  present_after pre p act true e h at may = if_some_of (λ l. SoFar l p.due (K p.line pre)) _ (line_at run.script p.line)
+      → IfSome (numbered run.script p.line) (λ l. SoFar l (if worker then p.due else (lined p act act.kind).due) (K p.line (pre ++ act ∷ [])))
+  present_after pre p act true e h at may = if_some_of (λ l. SoFar l p.due (K p.line pre)) _ (numbered run.script p.line)
       (λ l s. subst (SoFar l p.due) (sym (kinds_same run.by_worker p.line pre act (not_own act.line p.line (run.by_worker (1 + length pre)) (sym (is_by_worker pre p h) ∙ e)))) s) h.present
-  present_after pre p act false e h at may = if_some_of (λ l. SoFar l p.due (K p.line pre)) _ (line_at run.script p.line)
+  present_after pre p act false e h at may = if_some_of (λ l. SoFar l p.due (K p.line pre)) _ (numbered run.script p.line)
       (λ l s. subst (SoFar l (lined p act act.kind).due) (sym (kinds_more run.by_worker p.line pre act (own_line act.line p.line (run.by_worker (1 + length pre)) at (sym (is_by_worker pre p h) ∙ e)))) (next p act l (K p.line pre) p.due refl s may)) h.present
 
   lined_after : (pre : List Act) (p : Past) (act : Act) → Lined pre p → Allowed p act → Lined (pre ++ act ∷ []) (after p act)
@@ -416,9 +417,9 @@ module _ (run : Setup) where
         count = ap (λ (s : State). s.count) f.state ∙ ap (λ n. n + 1) h.count ∙ sym (length-append pre (act ∷ []));
         lines = f.lines ∙ h.lines ∙ ap (λ n. rest_from n run.script) (sym at);
         later = λ n high. other_line pre act n (λ e. absurd (omega (arith, at, high, here, e))) ∙ h.later n (omega (arith, at, high));
-        earlier = λ c n low. subst (λ ks. IfSome (line_at run.script n) (λ l. FitsLine l ks)) (sym (other_line pre act n (λ e. absurd (omega (arith, at, low, here, e))))) (h.earlier (subst IsTrue f.complete c) n (omega (arith, at, low)));
-        present = subst (λ n. IfSome (line_at run.script n) (λ l. SoFar l (after p act).due (K n (pre ++ act ∷ [])))) (sym at)
-            (subst (λ due. IfSome (line_at run.script p.line) (λ l. SoFar l due (K p.line (pre ++ act ∷ [])))) (sym (due_after p act (is_workers p) refl)) (present_after pre p act (is_workers p) refl h here may.stands));
+        earlier = λ c n low. subst (λ ks. IfSome (numbered run.script n) (λ l. FitsLine l ks)) (sym (other_line pre act n (λ e. absurd (omega (arith, at, low, here, e))))) (h.earlier (subst IsTrue f.complete c) n (omega (arith, at, low)));
+        present = subst (λ n. IfSome (numbered run.script n) (λ l. SoFar l (after p act).due (K n (pre ++ act ∷ [])))) (sym at)
+            (subst (λ due. IfSome (numbered run.script p.line) (λ l. SoFar l due (K p.line (pre ++ act ∷ [])))) (sym (due_after p act (is_workers p) refl)) (present_after pre p act (is_workers p) refl h here may.stands));
       }
 
   lined_advance : (pre : List Act) (p : Past) (act : Act) → Lined pre p → Allowed (begun_to act.line p) act → Lined (pre ++ act ∷ []) (advance p act)
@@ -457,7 +458,7 @@ line_reaches n p = elim (leb_tells p.line n) [
   | inr high ↦ (let e = ap (λ (q : Past). q.line) (begun_to-begun n p (omega (arith, high.1))) in omega (arith, e, high.1))
 ]
 
-line_past_end : (script : List Line) (n : ℕ) → length script < n → line_at script n ≡ None
+line_past_end : (script : List Line) (n : ℕ) → length script < n → numbered script n ≡ None
 line_past_end script zero h = refl
 line_past_end script (suc i) h = slice_get_past script i (omega arith)
 

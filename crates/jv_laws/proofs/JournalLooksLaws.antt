@@ -4,6 +4,7 @@ use Rattle.std.proofs.lemmas.Bool.{eqb-true}
 use Rattle.std.specs.List.{AllByRecursion}
 use Rattle.std.proofs.lemmas.List.{take-append-le, take_all}
 use Rattle.std.proofs.lemmas.Bool.Decides.{nat_tests, leb_tells, eqb_tells}
+use Rattle.std.specs.Prelude.{find}
 use Rattle.jv_model.specs.declared.act.Act.{Act}
 use Rattle.jv_model.specs.declared.act.ActKind.{ActKind}
 use Rattle.jv_model.specs.declared.act.ActKind.TheVariants.{Mounted, Meta, Opened, Look, Commit, Truncated, Copied, Compacted, Settled, Expired, Purged, Cleaned, Quiet, Miss, Crashed, Ticked, Answered}
@@ -19,13 +20,13 @@ use Rattle.jv_model.specs.tree.Tree.{Tree, Content, content_at}
 use Rattle.jv_model.specs.client.ModelClient.{ModelClient, OpenFile, View, Doing, Stage, Replying, unmounted, with_stage, views_without}
 use Rattle.jv_model.specs.client.Submission.{submission, submitted}
 use Rattle.jv_model.specs.journal.State.{State, transacted, newly_sustained, next_entry, gift_of, after_transaction, Gift, NewSession, NewHandle, Nothing, state_at_start, with_client, set_client, given, replied, finished, refused_as, after_told, answered_client, is_of_another, after_step, after_other, of_doing, changed, effect, view_now, or_empty, is_compaction}
-use Rattle.jv_model.specs.journal.Reading.{first_that, is_fresh}
+use Rattle.jv_model.specs.journal.Reading.{is_fresh}
 use Rattle.jv_model.specs.journal.Past.{Setup, Past, at_start, begun_to, reached}
 use Rattle.jv_model.specs.journal.Legal.{Allowed, AllAllowed}
 use Rattle.jv_model.specs.journal.Looks.{entry_at, changes_file}
 use Rattle.jv_laws.specs.Laws.{FreshViewsAreFreshLooks, HasSeen}
 use Rattle.jv_laws.proofs.JournalGrowthLaws.{own_client, others_kept}
-use Rattle.jv_laws.proofs.JournalStates.{entry_of, entry_before, entry_last, entry_past, entry_within, holds_on, state-more, of_kind}
+use Rattle.jv_laws.proofs.JournalStateLaws.{entry_of, entry_before, entry_last, entry_past, entry_within, holds_on, state-more, of_kind}
 use Rattle.jv_laws.proofs.JournalOwedLaws.{is_of_operation, has_operation}
 
 -- what a client keeps where its stage changes
@@ -284,9 +285,9 @@ first_branch : (test : View → Bool) (x v : View) (rest : Option View) (b : Boo
 first_branch test x v rest true t P h g e = let same : x ≡ v = cc in (subst P same h, ap test (sym same) ∙ t)
 first_branch test x v rest false t P h g e = g e
 
-pub first_found : (test : View → Bool) (views : List View) (v : View) (P : View → Type 0) → AllByRecursion P views → first_that test views ≡ Some v → P v × IsTrue (test v)
+pub first_found : (test : View → Bool) (views : List View) (v : View) (P : View → Type 0) → AllByRecursion P views → find test views ≡ Some v → P v × IsTrue (test v)
 first_found test [] v P all e = absurd (cc)
-first_found test (x ∷ xs) v P all e = first_branch test x v (first_that test xs) (test x) refl P all.0 (first_found test xs v P all.1) e
+first_found test (x ∷ xs) v P all e = first_branch test x v (find test xs) (test x) refl P all.0 (first_found test xs v P all.1) e
 
 record IsOf (v : View) (file : OpenFile) (window : ℕ) : Type 0 where
   inode : v.inode ≡ file.inode

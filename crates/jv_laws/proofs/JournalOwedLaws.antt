@@ -21,7 +21,7 @@ use Rattle.jv_model.specs.journal.Looks.{entry_at}
 use Rattle.jv_laws.specs.Laws.{IsOwed, OwedCommits, SettlesOwed, DrainsSettleAll, leaves_staged, settles}
 use Rattle.jv_laws.proofs.JournalGrowthLaws.{AllAllowed-parts}
 use Rattle.jv_laws.proofs.JournalLineLaws.{workers_at}
-use Rattle.jv_laws.proofs.JournalStates.{owed_of, publish_of, Entry, Steps, RefusedSubmission, LacksMemory, Crashes, Publishes, OfDrain, Ticks, entry_of, entry_before, entry_last, entry_past, entry_within, none_entered, holds, holds_on, of_kind}
+use Rattle.jv_laws.proofs.JournalStateLaws.{owed_of, publish_of, Entry, Steps, RefusedSubmission, LacksMemory, Crashes, Publishes, OfDrain, Ticks, entry_of, entry_before, entry_last, entry_past, entry_within, none_entered, holds, holds_on, of_kind}
 
 -- what an entry does to what is owed
 pub data OwedAfter (s : State) (client : ℕ) (kind : ActKind) (owed : List Owed) : Type 0 where
@@ -169,7 +169,7 @@ module _ (pre : List Act) (e : Act) (client commit : ℕ) where
 
 pub record Owing (pre : List Act) (s : State) : Type 0 where
   pub count : s.count ≡ length pre
-  pub tells : (client commit : ℕ) → IsTrue (owes_commit client commit s.owed) → IsOwed pre client commit
+  pub says : (client commit : ℕ) → IsTrue (owes_commit client commit s.owed) → IsOwed pre client commit
   pub shows : (client commit : ℕ) → IsOwed pre client commit → IsTrue (owes_commit client commit s.owed)
 
 first_of : (a b c : Bool) → IsTrue ((a && b) || c) → c ≡ false → (a ≡ true) × (b ≡ true)
@@ -210,18 +210,18 @@ old_there true count client other commit os h = h
 old_there false count client other commit os h = or_right _ (owes_commit other commit os) h
 
 module _ (pre : List Act) (e : Act) (s : State) (owed : List Owed) (o : Owing pre s) where
-  tells_next : (client commit : ℕ) → OwedAfter s e.client e.kind owed → IsTrue (owes_commit client commit owed) → IsOwed (pre ++ e ∷ []) client commit
-  tells_next client commit (Spared l n same) h = still pre e client commit (o.tells client commit (subst (λ os. IsTrue (owes_commit client commit os)) same h)) (n commit)
-  tells_next client commit (Made inode from len staged k same) h =
+  says_next : (client commit : ℕ) → OwedAfter s e.client e.kind owed → IsTrue (owes_commit client commit owed) → IsOwed (pre ++ e ∷ []) client commit
+  says_next client commit (Spared l n same) h = still pre e client commit (o.says client commit (subst (λ os. IsTrue (owes_commit client commit os)) same h)) (n commit)
+  says_next client commit (Made inode from len staged k same) h =
       let there = subst (λ os. IsTrue (owes_commit client commit os)) same h in
       elim (cases_Bool (owes_commit client commit s.owed)) [
-        | inl old ↦ still pre e client commit (o.tells client commit old) (ap (settles commit) k)
+        | inl old ↦ still pre e client commit (o.says client commit old) (ap (settles commit) k)
         | inr fresh ↦ (
             let n = new_only (staged == 0) (s.count + 1) e.client client commit s.owed there fresh in
             let at : commit ≡ length pre + 1 = n.at ∙ ap (λ c. c + 1) o.count in
             new pre e client commit at (n.own, ap leaves_staged k ∙ n.some))
       ]
-  tells_next client commit (Published k' k same) h = elim (eqb_tells k' commit) [
+  says_next client commit (Published k' k same) h = elim (eqb_tells k' commit) [
     | inl at ↦ (
         let there : IsTrue (owes_commit client commit (filter (λ (x : Owed). not (x.commit == commit)) s.owed)) = subst (λ n. IsTrue (owes_commit client commit (filter (λ (x : Owed). not (x.commit == n)) s.owed))) at.1 (subst (λ os. IsTrue (owes_commit client commit os)) same h) in
         let gone = owed_gone commit client s.owed in
@@ -229,7 +229,7 @@ module _ (pre : List Act) (e : Act) (s : State) (owed : List Owed) (o : Owing pr
     | inr apart ↦ (
         let there = subst (λ os. IsTrue (owes_commit client commit os)) same h in
         let old : IsTrue (owes_commit client commit s.owed) = sym (owed_without commit client k' s.owed apart.1) ∙ there in
-        still pre e client commit (o.tells client commit old) (ap (settles commit) k ∙ apart.0))
+        still pre e client commit (o.says client commit old) (ap (settles commit) k ∙ apart.0))
   ]
 
   shows_low : (client commit : ℕ) → OwedAfter s e.client e.kind owed → IsOwed pre client commit → settles commit e.kind ≡ false → IsTrue (owes_commit client commit owed)
@@ -258,15 +258,15 @@ owing_enters run pre act may o =
     let a = owed_entry p act may in
     record {
       count = ap (λ n. n + 1) o.count ∙ sym (length-append pre (act ∷ []));
-      tells = λ client commit. tells_next pre act p.state (effect p.state act).owed o client commit a;
+      says = λ client commit. says_next pre act p.state (effect p.state act).owed o client commit a;
       shows = λ client commit. shows_next pre act p.state (effect p.state act).owed o client commit a;
     }
 
 owing_submits : (run : Setup) (pre : List Act) (s : State) (client : ℕ) (o : Op) → submission (s.clients client) o ≡ None → Owing pre s → Owing pre (set_client s client (submitted run.limits o (s.clients client)))
-owing_submits run pre s client o none h = record { count = h.count; tells = h.tells; shows = h.shows }
+owing_submits run pre s client o none h = record { count = h.count; says = h.says; shows = h.shows }
 
 owing_start : (run : Setup) → Owing [] (state_at_start run.start.tree)
-owing_start run = record { count = refl; tells = λ client commit h. absurd (cc); shows = λ client commit r. absurd (none_entered commit (Leaves client) r.made) }
+owing_start run = record { count = refl; says = λ client commit h. absurd (cc); shows = λ client commit r. absurd (none_entered commit (Leaves client) r.made) }
 
 pub owing : (run : Setup) (journal : List Act) → AllAllowed (at_start run) journal → Owing journal (reached run journal).state
 owing run journal may = holds run Owing (owing_submits run) (owing_enters run) (owing_start run) journal may
@@ -275,7 +275,7 @@ pub owing_on : (run : Setup) (journal : List Act) → AllAllowed (at_start run) 
 owing_on run journal may line = holds_on run Owing (owing_submits run) (owing_enters run) (owing_start run) journal may line
 
 pub owed_commits : OwedCommits
-owed_commits run journal may client commit = let o = owing run journal may in (o.tells client commit, o.shows client commit)
+owed_commits run journal may client commit = let o = owing run journal may in (o.says client commit, o.shows client commit)
 
 -- a publish settles an owed commit
 
@@ -335,9 +335,9 @@ settles_owed run journal act may commit k =
     let o = owing_on run journal parts.0 act.line in
     let n = named_of commit b.state.owed (settled_owed b act commit k (entry_of b act parts.1.0)) in
     record {
-      by_some = record { client = n.client; owed = o.tells n.client commit n.owed };
-      by_own = λ some. o.tells act.client commit (own_settled b act commit k (entry_of b act parts.1.0) some);
-      by_line = λ client due own. o.tells client commit (line_settled b act client commit (is_workers b) (workers_at run journal act.line parts.0 ∙ own) due k parts.1.0.stands);
+      by_some = record { client = n.client; owed = o.says n.client commit n.owed };
+      by_own = λ some. o.says act.client commit (own_settled b act commit k (entry_of b act parts.1.0) some);
+      by_line = λ client due own. o.says client commit (line_settled b act client commit (is_workers b) (workers_at run journal act.line parts.0 ∙ own) due k parts.1.0.stands);
     }
 
 none_owed : (client commit : ℕ) (os : List Owed) → IsTrue (not (list_any (λ (o : Owed). o.client == client) os)) → owes_commit client commit os ≡ false

@@ -3,6 +3,7 @@ use Rattle.std.proofs.Common.{◌≡◌, ℕ, ◌+◌, ◌-◌, ◌≤◌, min, 
 use Rattle.std.proofs.lemmas.Bool.{and_parts, le-leb}
 use Rattle.std.specs.Option.{option_map}
 use Rattle.std.proofs.lemmas.Bool.Decides.{nat_tests, leb_tells, eqb_tells}
+use Rattle.std.specs.Prelude.{unwrap_or}
 use Rattle.jv_model.specs.declared.limits.TheConstants.{FILE_END}
 use Rattle.jv_model.specs.declared.act.TheConstants.{NO_CLIENT}
 use Rattle.jv_model.specs.declared.act.Act.{Act}
@@ -23,17 +24,18 @@ use Rattle.jv_model.specs.client.Profile.{profile, handle_of}
 use Rattle.jv_model.specs.client.ModelClient.{ModelClient, OpenFile, View, Doing, Stage, Replying, file_of, Cleans, Compacting, Requesting}
 use Rattle.jv_model.specs.client.Submission.{by_limits, is_flushed}
 use Rattle.jv_model.specs.journal.State.{State, or_empty, answer_then, reply_of_answer, is_cleaning, is_compaction}
-use Rattle.jv_model.specs.journal.Reading.{Asked, asked_parts, bytes_between, is_fresh, cited_view, part_read, is_full, only_if, joined, read_on, reading}
+use Rattle.jv_model.specs.journal.Reading.{Asked, asked_parts, bytes_between, is_fresh, cited_view, part_read, is_full, joined, read_on, reading}
 use Rattle.jv_model.specs.journal.Steps.{Start, MayStep, MayAnswer, Fails, Settles, AtOnce, CountsCache, ReadsViews, CleanedUp, HasCompacted, HasCollected, HasUploaded, Refuses, TooShort, HasReplaced, Sent, FoundNone, asked_of, file_in_use, may_read_on, is_ready, ReadsFresh, told_of, may_end_after, has_judged}
-use Rattle.jv_model.specs.journal.Past.{Setup, Past, at_start, begun_to, reached, reply_of, settled_reply, told_reply, or_no_bytes}
+use Rattle.jv_model.specs.journal.Past.{Setup, Past, at_start, begun_to, reached, reply_of, settled_reply, told_reply}
 use Rattle.jv_model.specs.journal.Legal.{Refuses as RefusesSubmission, LacksMemory as RefusalLacks}
 use Rattle.jv_model.specs.journal.Looks.{IsFreshLook}
+use Rattle.jv_model.specs.Optional.{provided}
 use Rattle.jv_laws.specs.Laws.{ReadsAreOfFreshLooks, AreSeen, AreRead, NoPart, OnePart, TwoParts, Returns, ReadsCiteLooks, CitesLooks, is_fine_answer}
 use Rattle.jv_laws.proofs.JournalStageLaws.{stage_fits, FitsIf, FitsClient, all_fit}
 use Rattle.jv_laws.proofs.JournalGrowthLaws.{AllAllowed-parts}
-use Rattle.jv_laws.proofs.JournalStates.{Entry, Steps, RefusedSubmission, LacksMemory, Crashes, Publishes, OfDrain, Ticks, entry_of}
+use Rattle.jv_laws.proofs.JournalStateLaws.{Entry, Steps, RefusedSubmission, LacksMemory, Crashes, Publishes, OfDrain, Ticks, entry_of}
 use Rattle.jv_laws.proofs.JournalLooksLaws.{IsShown, AllShown, shown, view_seen, first_found}
-use Rattle.jv_laws.proofs.JournalDoingLaws.{Sound, SoundIf, SoundClient, IsSettled, IsRefusedReply, IsDoneReply, IsFineReply, sound, fine_not_refused, fine_not_failure, not_fine, stage_flushed}
+use Rattle.jv_laws.proofs.JournalDoingLaws.{Sound, SoundIf, SoundClient, MayReply, IsRefusedReply, IsDoneReply, IsFineReply, sound, fine_not_refused, fine_not_failure, not_fine, stage_flushed}
 
 -- parts
 
@@ -59,7 +61,7 @@ module _ (run : Setup) (journal : List Act) (client : ℕ) (views : List View) (
     none : second ≡ 0
     same : some ≡ bytes
 
-  only : (b : Bool) (second : ℕ) (some bytes : List ℕ) → (second == 0) ≡ b → only_if b some ≡ Some bytes → IsOnly second some bytes
+  only : (b : Bool) (second : ℕ) (some bytes : List ℕ) → (second == 0) ≡ b → provided b some ≡ Some bytes → IsOnly second some bytes
   only true second some bytes e h = record { none = grind (arith, nat_tests); same = cc }
   only false second some bytes e h = absurd (cc)
 
@@ -71,7 +73,7 @@ module _ (run : Setup) (journal : List Act) (client : ℕ) (views : List View) (
   two asked other others first second some bytes (Some more) e seen full h = let whole : some ++ more ≡ bytes = cc in TwoParts file asked other others some more refl refl seen full (part_seen second other more e) (sym whole)
 
   one_of_more : (b : Bool) (asked other : Asked) (others : List Asked) (first second : ℕ) (some bytes : List ℕ) → is_full asked some ≡ b → AreSeen run journal client file first asked some
-      → (if b then joined some (part_read views handle file second other) else only_if (second == 0) some) ≡ Some bytes → Read (asked ∷ other ∷ others) first second bytes
+      → (if b then joined some (part_read views handle file second other) else provided (second == 0) some) ≡ Some bytes → Read (asked ∷ other ∷ others) first second bytes
   one_of_more true asked other others first second some bytes e seen h = two asked other others first second some bytes (part_read views handle file second other) refl seen (let f = e in grind (arith, nat_tests)) h
   one_of_more false asked other others first second some bytes e seen h =
       let o = only (second == 0) second some bytes refl h in
@@ -84,7 +86,7 @@ module _ (run : Setup) (journal : List Act) (client : ℕ) (views : List View) (
       OnePart file asked [] refl refl (subst (AreSeen run journal client file first asked) o.same (part_seen first asked some e)) o.none (inl refl)
   read_on_of asked (other ∷ others) first second bytes (Some some) e h = one_of_more (is_full asked some) asked other others first second some bytes refl (part_seen first asked some e) h
 
-  no_part_at : (a b : Bool) (first second : ℕ) (bytes : List ℕ) → (first == 0) ≡ a → (second == 0) ≡ b → only_if (a && b) [] ≡ Some bytes → Read [] first second bytes
+  no_part_at : (a b : Bool) (first second : ℕ) (bytes : List ℕ) → (first == 0) ≡ a → (second == 0) ≡ b → provided (a && b) [] ≡ Some bytes → Read [] first second bytes
   no_part_at true true first second bytes e f h = let none : [] ≡ bytes = cc in NoPart refl (grind (arith, nat_tests)) (grind (arith, nat_tests)) (sym none)
   no_part_at true false first second bytes e f h = absurd (cc)
   no_part_at false b first second bytes e f h = absurd (cc)
@@ -146,7 +148,7 @@ module _ (run : Setup) (journal : List Act) (limits : Limits) (start : Start) (a
       let n : count ≡ 0 = cc in
       record { bytes = []; reply = r; count = n; read = NoPart none a b refl }
 
-  settled_read : (r : Reply) → DoesRead offset len d.does → told ≡ told_of r → d.stage ≡ Replying r → IsSettled d.does (is_flushed d.flush c.pending) r → Returned
+  settled_read : (r : Reply) → DoesRead offset len d.does → told ≡ told_of r → d.stage ≡ Replying r → MayReply d.does (is_flushed d.flush c.pending) r → Returned
   settled_read r does e st (IsRefusedReply x) = absurd (fine_not_refused told r refl e x)
   settled_read r (ReadsRange does) e st (IsDoneReply f fine) = let never : IsFineReply (Reads offset len) r = subst (λ x. IsFineReply x r) does fine in absurd never
   settled_read r (ReadsNothing none does) e st (IsDoneReply f fine) =
@@ -154,9 +156,9 @@ module _ (run : Setup) (journal : List Act) (limits : Limits) (start : Start) (a
       let data_none : r ≡ reply.Data [] = cc in
       returns_nothing none (e ∙ ap told_of data_none) (reply_by (Some r) (ap settled_reply st) ∙ data_none)
 
-  read_in_none : (opened : Option OpenFile) (does : Does) → does ≡ Answers answer.NoData → (elim opened as (λ _. List ℕ) [ None ↦ [] | Some file ↦ or_no_bytes (reading c.views (handle_of d.op) file (asked_of does) 0 0) ]) ≡ []
+  read_in_none : (opened : Option OpenFile) (does : Does) → does ≡ Answers answer.NoData → (elim opened as (λ _. List ℕ) [ None ↦ [] | Some file ↦ unwrap_or (reading c.views (handle_of d.op) file (asked_of does) 0 0) [] ]) ≡ []
   read_in_none None does e = refl
-  read_in_none (Some file) does e = ap (λ x. or_no_bytes (reading c.views (handle_of d.op) file (asked_of x) 0 0)) e
+  read_in_none (Some file) does e = ap (λ x. unwrap_or (reading c.views (handle_of d.op) file (asked_of x) 0 0) []) e
 
   -- a working or reading operation has no answer yet
   unsettled : (stage : Stage) → IsTrue (may_read_on c (record d { stage = stage })) → settled_reply stage ≡ None
@@ -181,9 +183,9 @@ module _ (run : Setup) (journal : List Act) (limits : Limits) (start : Start) (a
   asked_same (ReadsNothing none does) = ap asked_of does ∙ sym none
 
   read_in_of : (opened : Option OpenFile) (file : OpenFile) (bytes : List ℕ) → opened ≡ Some file → reading c.views (handle_of d.op) file (asked_of d.does) first second ≡ Some bytes
-      → (elim opened as (λ _. List ℕ) [ None ↦ [] | Some x ↦ or_no_bytes (reading c.views (handle_of d.op) x (asked_of d.does) first second) ]) ≡ bytes
+      → (elim opened as (λ _. List ℕ) [ None ↦ [] | Some x ↦ unwrap_or (reading c.views (handle_of d.op) x (asked_of d.does) first second) [] ]) ≡ bytes
   read_in_of None file bytes e h = absurd (cc)
-  read_in_of (Some x) file bytes e h = let same : x ≡ file = cc in ap (λ y. or_no_bytes (reading c.views (handle_of d.op) y (asked_of d.does) first second)) same ∙ ap or_no_bytes h
+  read_in_of (Some x) file bytes e h = let same : x ≡ file = cc in ap (λ y. unwrap_or (reading c.views (handle_of d.op) y (asked_of d.does) first second) []) same ∙ ap (λ (found : Option (List ℕ)). unwrap_or found []) h
 
   views_read : DoesRead offset len d.does → ReadsFresh c d told → Returned
   views_read does r =
@@ -267,7 +269,7 @@ module _ (limits : Limits) (start : Start) (alone : Bool) (s : State) (client no
   not_counting e (ReadsNothing none f) = cc
   not_counting e (ReadsRange f) = cc
 
-  settled_cites : (r : Reply) → DoesRead offset len d.does → told ≡ told_of r → IsSettled d.does (is_flushed d.flush c.pending) r → CitesLooks (Answered told)
+  settled_cites : (r : Reply) → DoesRead offset len d.does → told ≡ told_of r → MayReply d.does (is_flushed d.flush c.pending) r → CitesLooks (Answered told)
   settled_cites r does e (IsRefusedReply x) = absurd (fine_not_refused told r fine e x)
   settled_cites r (ReadsRange does) e (IsDoneReply f g) = let never : IsFineReply (Reads offset len) r = subst (λ x. IsFineReply x r) does g in absurd never
   settled_cites r (ReadsNothing none does) e (IsDoneReply f g) =

@@ -1,6 +1,7 @@
 -- What an operation's stage says of the operation.
 use Rattle.std.proofs.Common.{◌≡◌, ℕ, ◌+◌, Bool, true, false, ◌&&◌, ◌==◌, if◌then◌else◌, IsTrue, IsSomeAnd, MatchBool, inl, inr, List, [], ◌∷◌, ◌++◌, is_some, Option, None, Some, refl, sym, ap, subst, ◌∙◌, ◌||◌, not}
 use Rattle.std.proofs.lemmas.Bool.Decides.{eqb_tells}
+use Rattle.jv_model.specs.declared.tables.TheConstants.{TABLE_OF_DEAD, TABLE_OF_DROPPED}
 use Rattle.jv_model.specs.declared.act.TheConstants.{NO_CLIENT}
 use Rattle.jv_model.specs.declared.act.Act.{Act}
 use Rattle.jv_model.specs.declared.act.ActKind.{ActKind}
@@ -28,7 +29,7 @@ use Rattle.jv_model.specs.journal.Legal.{Allowed, AllAllowed, Refuses as Refuses
 use Rattle.jv_laws.specs.Laws.{CleansOnlyInClean, cleans}
 use Rattle.jv_laws.proofs.JournalGrowthLaws.{AllAllowed-parts, own_client, others_kept}
 use Rattle.jv_laws.proofs.JournalDoingLaws.{doing_given, Sound, SoundIf, sound, cleaning_branch}
-use Rattle.jv_laws.proofs.JournalStates.{Entry, Steps, RefusedSubmission, LacksMemory, Crashes, Publishes, OfDrain, Ticks, entry_of, holds_on, of_kind}
+use Rattle.jv_laws.proofs.JournalStateLaws.{Entry, Steps, RefusedSubmission, LacksMemory, Crashes, Publishes, OfDrain, Ticks, entry_of, holds_on, of_kind}
 
 abbrev pub is_reading : Does → Bool
 is_reading (Reads offset len) = true
@@ -170,7 +171,7 @@ cleaning_fits c d (Working quiets started) k h e = cleaning_if d.does _ k e
 cleaning_fits c d (Cleans k') k h e = h
 cleaning_fits c d _ k h e = absurd (cc)
 
-row_cleans : (s : State) (c : ModelClient) (d : Doing) (table key : ℕ) (b : Bool) → IsTrue (stage_fits d.does d.stage) → MatchBool b (CleansItem s c d Files × DropsFile s key) ((table ≡ 9) × CleansItem s c d MoreBlocks) → IsTrue (is_cleaning d.does)
+row_cleans : (s : State) (c : ModelClient) (d : Doing) (table key : ℕ) (b : Bool) → IsTrue (stage_fits d.does d.stage) → MatchBool b (CleansItem s c d Files × DropsFile s key) ((table ≡ TABLE_OF_DEAD) × CleansItem s c d MoreBlocks) → IsTrue (is_cleaning d.does)
 row_cleans s c d table key true h may = cleaning_fits c d d.stage may.0.k h may.0.stage
 row_cleans s c d table key false h may = cleaning_fits c d d.stage may.1.k h may.1.stage
 
@@ -222,7 +223,7 @@ module _ (start : Start) (alone : Bool) (s : State) (act : Act) (d : Doing) (bus
   own_step (Settled commit) may = own_stage _ (fit_quieted s act.client c act.at d h d.stage h)
   own_step (Expired sid) may = own_stage (Cleans _) (cleaning_fits c d d.stage may.0.k h may.0.stage)
   own_step (Purged inode) may = own_stage (Cleans _) (cleaning_fits c d d.stage may.0.k h may.0.stage)
-  own_step (Cleaned table key) may = own_stage (Cleans _) (row_cleans s c d table key (table == 8) h may)
+  own_step (Cleaned table key) may = own_stage (Cleans _) (row_cleans s c d table key (table == TABLE_OF_DROPPED) h may)
   own_step Quiet may = own_stage _ (fit_quieted s act.client c act.at d h d.stage h)
   own_step (Miss inode window) may = own_stage _ (fit_missed d.does window s.owed d.stage h (miss_reads start s act.client c d inode window (is_compaction d.does) may))
   own_step Crashed may = absurd may
@@ -313,7 +314,7 @@ clean_op limits _ h = absurd (cc)
 cleans_step : (start : Start) (alone : Bool) (s : State) (client now : ℕ) (c : ModelClient) (d : Doing) (kind : ActKind) → IsTrue (stage_fits d.does d.stage) → IsTrue (cleans kind) → MayStep start alone s client now c d kind → IsTrue (is_cleaning d.does)
 cleans_step start alone s client now c d (Expired sid) h t may = cleaning_fits c d d.stage may.0.k h may.0.stage
 cleans_step start alone s client now c d (Purged inode) h t may = cleaning_fits c d d.stage may.0.k h may.0.stage
-cleans_step start alone s client now c d (Cleaned table key) h t may = row_cleans s c d table key (table == 8) h may
+cleans_step start alone s client now c d (Cleaned table key) h t may = row_cleans s c d table key (table == TABLE_OF_DROPPED) h may
 cleans_step start alone s client now c d _ h t may = absurd (cc)
 
 cleans_entry : (run : Setup) (p : Past) (act : Act) → Entry p act → (act.client ≡ NO_CLIENT → ⊥) → (d : Doing) → (p.state.clients act.client).doing ≡ Some d → IsTrue (cleans act.kind) → FitsClient (p.state.clients act.client) → Sound run.limits (p.state.clients act.client).handles (p.state.clients act.client).pending d → d.op ≡ op.Clean

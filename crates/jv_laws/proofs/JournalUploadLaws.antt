@@ -17,8 +17,8 @@ use Rattle.jv_model.specs.journal.Past.{Setup, Past, at_start, begun_to, reached
 use Rattle.jv_model.specs.journal.Legal.{Refuses as RefusesSubmission, LacksMemory as RefusalLacks}
 use Rattle.jv_laws.specs.Laws.{UploadsFindAll}
 use Rattle.jv_laws.proofs.JournalGrowthLaws.{AllAllowed-parts, begun_frame}
-use Rattle.jv_laws.proofs.JournalStates.{Entry, Steps, RefusedSubmission, LacksMemory, Crashes, Publishes, OfDrain, Ticks, entry_of, run_reached}
-use Rattle.jv_laws.proofs.JournalDoingLaws.{Sound, SoundIf, IsSettled, IsRefusedReply, IsDoneReply, StageOk, sound, fine_not_refused}
+use Rattle.jv_laws.proofs.JournalStateLaws.{Entry, Steps, RefusedSubmission, LacksMemory, Crashes, Publishes, OfDrain, Ticks, entry_of, run_reached}
+use Rattle.jv_laws.proofs.JournalDoingLaws.{Sound, SoundIf, MayReply, IsRefusedReply, IsDoneReply, StageOk, sound, fine_not_refused}
 use Rattle.jv_laws.proofs.JournalStageLaws.{stage_fits, FitsIf, all_fit}
 use Rattle.jv_laws.proofs.JournalOwedLaws.{none_is_owed}
 
@@ -37,7 +37,7 @@ module _ (start : Start) (s : State) (client now : ℕ) (c : ModelClient) (d : D
   none_sent (Sent id index size e same) = absurd (cc)
   none_sent (FoundNone ready first none same) = none
 
-  none_settled : (flushed : Bool) (r : Reply) → Fine 0 0 0 0 ≡ told_of r → IsSettled Uploads flushed r → ⊥
+  none_settled : (flushed : Bool) (r : Reply) → Fine 0 0 0 0 ≡ told_of r → MayReply Uploads flushed r → ⊥
   none_settled flushed r e (IsRefusedReply h) = fine_not_refused (Fine 0 0 0 0) r refl e h
   none_settled flushed r e (IsDoneReply f never) = never
 

@@ -1,7 +1,7 @@
 -- Laws of the journal.
-pub mod BegunLines
-pub mod EndedLines
-pub mod EntriesOfLines
+pub mod BegunLineLaws
+pub mod EndedLineLaws
+pub mod LineEntryLaws
 pub mod JournalAnswerLaws
 pub mod JournalCleaningLaws
 pub mod JournalClockLaws
@@ -14,7 +14,7 @@ pub mod JournalLooksLaws
 pub mod JournalOwedLaws
 pub mod JournalReadLaws
 pub mod JournalStageLaws
-pub mod JournalStates
+pub mod JournalStateLaws
 pub mod JournalUploadLaws
-pub mod NotedLines
-pub mod StepsOnLines
+pub mod NotedLineLaws
+pub mod LineStepLaws

@@ -1,6 +1,7 @@
 -- What holds of every journal that is legal so far, in terms of its entries' numbers and lines.
-use Rattle.std.specs.Prelude.{◌≡◌, ℕ, zero, suc, ◌+◌, ◌-◌, ◌≤◌, ◌<◌, Bool, true, false, ◌&&◌, not, ◌==◌, nat_lt, nat_le, if◌then◌else◌, IsTrue, IsSomeAnd, IfSome, ◌↔◌, ◌⊎◌, List, [], ◌∷◌, ◌++◌, length, take, slice_get, Option, None, Some}
+use Rattle.std.specs.Prelude.{◌≡◌, ℕ, suc, ◌+◌, ◌-◌, ◌≤◌, ◌<◌, Bool, true, false, ◌&&◌, not, ◌==◌, nat_lt, nat_le, if◌then◌else◌, IsTrue, IsSomeAnd, IfSome, ◌↔◌, ◌⊎◌, List, [], ◌∷◌, ◌++◌, length, take, Option, None, Some}
 use Rattle.std.specs.List.{AllByRecursion}
+use Rattle.jv_model.specs.declared.tables.TheConstants.{TABLE_OF_DROPPED}
 use Rattle.jv_model.specs.declared.limits.TheConstants.{LAST_MOMENT, MAX_ITEMS}
 use Rattle.jv_model.specs.declared.act.Act.{Act}
 use Rattle.jv_model.specs.declared.act.ActKind.{ActKind}
@@ -30,10 +31,11 @@ use Rattle.jv_model.specs.declared.op.Line.{Line}
 use Rattle.jv_model.specs.declared.op.Line.TheVariants.{Empty, Do, Begin, Step, Run, Crash, Drain, Tick}
 use Rattle.jv_model.specs.journal.Looks.{entry_at, IsFreshLook}
 use Rattle.jv_model.specs.journal.Stepping.{is_answer}
+use Rattle.jv_model.specs.Lists.{numbered}
 
 -- growth
 
--- a longer journal is legal so far exactly where its first part is, and the rest may follow it
+-- a longer journal is legal so far if and only if its first part is, and the rest may follow it
 abbrev pub JournalsGrow : Type 0
 JournalsGrow = (run : Setup) (journal more : List Act)
     → AllAllowed (at_start run) (journal ++ more) ↔ (AllAllowed (at_start run) journal × AllAllowed (reached run journal) more)
@@ -285,11 +287,6 @@ ReadsCiteLooks = (run : Setup) (journal : List Act) (act : Act) → AllAllowed (
 
 -- lines
 
--- the line with a number, the first one being 1
-abbrev pub line_at : List Line → ℕ → Option Line
-line_at script zero = None
-line_at script (suc index) = slice_get script index
-
 -- what the entries of a line do, but for those of uploading threads, in a journal whose first entry has this number
 abbrev pub kinds_on : (ℕ → Bool) → ℕ → ℕ → List Act → List ActKind
 kinds_on by_worker line number [] = []
@@ -326,12 +323,12 @@ FitsLine (Tick by) kinds = kinds ≡ Ticked by ∷ []
 -- where an entry stands on a later line, each line before has its entries
 abbrev pub LinesHaveEntries : Type 0
 LinesHaveEntries = (run : Setup) (journal : List Act) (act : Act) → AllAllowed (at_start run) (journal ++ act ∷ [])
-    → (line : ℕ) → line < act.line → IfSome (line_at run.script line) (λ l. FitsLine l (kinds_on run.by_worker line 1 journal))
+    → (line : ℕ) → line < act.line → IfSome (numbered run.script line) (λ l. FitsLine l (kinds_on run.by_worker line 1 journal))
 
 -- where no line may be cut off, each line has its entries at the end
 abbrev pub EndedLinesHaveEntries : Type 0
 EndedLinesHaveEntries = (run : Setup) (journal : List Act) → Legal run journal → may_be_cut run.status ≡ false
-    → (line : ℕ) → IfSome (line_at run.script line) (λ l. FitsLine l (kinds_on run.by_worker line 1 journal))
+    → (line : ℕ) → IfSome (numbered run.script line) (λ l. FitsLine l (kinds_on run.by_worker line 1 journal))
 
 -- an entry refuses an operation's submission, and a later one is on a later line
 pub record RefusesAlone (client : ℕ) (fault : Fault) (act later : Act) : Type 0 where
@@ -362,11 +359,11 @@ ExpiresOnlyGone = (run : Setup) (journal : List Act) (act : Act) → AllAllowed 
 pub record IsGone (journal : List Act) (t : Tree) (inode : ℕ) : Type 0 where
   pub was : inode < t.next_inode
   pub gone : node_at t inode ≡ None
-  pub once : (number : ℕ) → IfSome (entry_at journal number) (λ act. act.kind ≡ Cleaned 8 inode → ⊥)
+  pub once : (number : ℕ) → IfSome (entry_at journal number) (λ act. act.kind ≡ Cleaned TABLE_OF_DROPPED inode → ⊥)
 
 -- a cleaning drops only rows of removed files, those of each once
 abbrev pub DropsOnlyGone : Type 0
-DropsOnlyGone = (run : Setup) (journal : List Act) (act : Act) → AllAllowed (at_start run) (journal ++ act ∷ []) → (inode : ℕ) → act.kind ≡ Cleaned 8 inode
+DropsOnlyGone = (run : Setup) (journal : List Act) (act : Act) → AllAllowed (at_start run) (journal ++ act ∷ []) → (inode : ℕ) → act.kind ≡ Cleaned TABLE_OF_DROPPED inode
     → IsGone journal (begun_to act.line (reached run journal)).state.tree inode
 
 -- whether an entry is a cleaning's

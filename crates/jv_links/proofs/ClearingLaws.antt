@@ -1,5 +1,5 @@
 -- How what a rename replaces is removed: each exit, and what it answers of the file that the session keeps.
-use Rattle.std.proofs.Common.{◌≡◌, ℕ, Bool, true, false, not, ◌&&◌, ◌==◌, List, Option, None, Some, is_some, Result, Ok, Err, refl, sym, ap, ◌∙◌}
+use Rattle.std.proofs.Common.{◌≡◌, ℕ, Bool, true, false, not, ◌&&◌, List, Option, None, Some, is_some, Result, Ok, Err, refl, sym, ap, ◌∙◌}
 use Rattle.std.specs.Prelude.{IsErrAnd}
 use Rattle.std.proofs.Math.Bool.{and-not_self}
 use Rattle.jv_model.specs.declared.fault.Fault.{Fault}
@@ -17,9 +17,9 @@ use Rattle.jv_changes.specs.Drafting.{Drafting}
 use Rattle.jv_changes.specs.Ready.{StandsAt, MayGo}
 use Rattle.jv_links.specs.declared.fates.Fate.{Fate}
 use Rattle.jv_links.specs.declared.fates.Removed.{Removed}
-use Rattle.jv_links.specs.Removals.{MayLose, TellsFate, is_kept}
-use Rattle.jv_links.specs.Replacements.{MayClear, TellsCleared}
-use Rattle.jv_changes.proofs.DraftSteps.{steps-then, steps-ended, step-as, step-fails, step-value, drafting-err, drafting-exit}
+use Rattle.jv_links.specs.Removals.{MayLose, SaysFate, is_inode, kept_by}
+use Rattle.jv_links.specs.Replacements.{MayClear, SaysCleared}
+use Rattle.jv_changes.proofs.DraftStepLaws.{steps-then, steps-ended, step-as, step-fails, step-value, drafting-err, drafting-exit}
 use Rattle.jv_links.proofs.RemovalStepLaws.{stands_at, empty_apart, empty_goes}
 use Rattle.jv_links.proofs.UnlinkLaws.{kept-remove_entry}
 
@@ -104,8 +104,8 @@ module _ (who : Caller) (place : EntryKey) (inode : ℕ) (was : List Change) (be
           (sym (target_dir t who place inode r.kind))))
 
   -- no session keeps it
-  pub clear-tells_none : TellsCleared who place inode true was before (Ok None)
-  clear-tells_none known at bytes t m r i =
+  pub clear-says_none : SaysCleared who place inode true was before (Ok None)
+  clear-says_none known at bytes t m r i =
       ap (λ (u : Tree). is_sustained u who.sid i && not (is_sustained t who.sid i))
       (target_dir t who place inode r.kind)
       ∙ ap (λ p. is_some (get p (record { sid = who.sid; inode = i })) && not (is_sustained t who.sid i))
@@ -143,10 +143,10 @@ module _ (who : Caller) (place : EntryKey) (inode : ℕ) (was : List Change) (be
       (as_target changes after (Ok fate) d)
 
   -- the session keeps it where that is its fate
-  pub clear-tells : (fate : Fate) → TellsFate who place inode was before (Ok fate)
-      → TellsCleared who place inode false was before (Ok (Some (record { inode = inode; fate = fate })))
-  clear-tells fate tells known at bytes t m r i =
+  pub clear-says : (fate : Fate) → SaysFate who place inode was before (Ok fate)
+      → SaysCleared who place inode false was before (Ok (Some (record { inode = inode; fate = fate })))
+  clear-says fate says known at bytes t m r i =
       ap (λ (u : Tree). is_sustained u who.sid i && not (is_sustained t who.sid i))
       (target_leaf t who place inode r.kind)
       ∙ kept-remove_entry t who place inode (may_lose t who place inode r) i
-      ∙ ap (λ f. is_kept f && (inode == i)) (sym (tells known at bytes t m (may_lose t who place inode r)))
+      ∙ ap (λ f. is_inode (kept_by f inode) i) (sym (says known at bytes t m (may_lose t who place inode r)))

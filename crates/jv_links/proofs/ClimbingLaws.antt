@@ -33,7 +33,7 @@ use Rattle.jv_volume.proofs.StoredLaws.{HasNode, found_counters, whole-shape, wh
 use Rattle.jv_volume.proofs.WalkShapeLaws.{parent_directory, same_Ok}
 use Rattle.jv_links.specs.Climbs.{IsNear, StandsNear}
 use Rattle.jv_links.specs.Moves.{StandsDirectory}
-use Rattle.jv_links.proofs.TellLaws.{has_node}
+use Rattle.jv_links.proofs.RenameAnswerLaws.{has_node}
 
 module _ (t : Tree) (dir parent inode : ℕ) (whole : WholeShape (shape_of t)) (is : (shape_of t).form dir ≡ Dir parent)
     (within : IsTrue (is_dir ((shape_of t).form parent)))

@@ -41,7 +41,7 @@ use Rattle.jv_links.specs.declared.fates.Removed.{Removed}
 use Rattle.jv_links.specs.Exchanges.{MayExchange, exchanged_within}
 use Rattle.jv_links.specs.Moves.{EndsStand, IsOverMove, Renames, Stands, place_of}
 use Rattle.jv_links.proofs.FreeMoveLaws.{tested_by, refused_by, within-sustained}
-use Rattle.jv_links.proofs.TellLaws.{has_node, links_low, tells_none}
+use Rattle.jv_links.proofs.RenameAnswerLaws.{has_node, links_low, says_none}
 
 move_in-sustained : (t : Tree) (now : ℕ) (place : EntryKey) (inode : ℕ)
     → (move_in t now place inode).sustained ≡ t.sustained
@@ -106,7 +106,7 @@ module _ (who : Caller) (ends : Ends) (place : Place) (before : Store) (stand : 
   exchange-not_climbed after fault l = record {
     does = transacts-refused ready before after reply act fault
         (past-stops before before after act climbs climbed started fault l);
-    tells = tt;
+    says = tt;
   }
 
   -- the source would come into itself
@@ -115,7 +115,7 @@ module _ (who : Caller) (ends : Ends) (place : Place) (before : Store) (stand : 
   exchange-inside after l = record {
     does = transacts-refused ready before after reply act (Refused Invalid)
         (past-refuses before after act Invalid (past-looks before before after act climbs climbed started true l));
-    tells = tt;
+    says = tt;
   }
 
   module _ (between : Store) (first : Looks before between (Ok false) climbs) where
@@ -128,7 +128,7 @@ module _ (who : Caller) (ends : Ends) (place : Place) (before : Store) (stand : 
     exchange-not_back after fault l = record {
       does = transacts-refused ready before after reply act fault
           (past-stops before between after act climbs_back climbed_back halfway fault l);
-      tells = tt;
+      says = tt;
     }
 
     -- the other one would come into itself
@@ -138,7 +138,7 @@ module _ (who : Caller) (ends : Ends) (place : Place) (before : Store) (stand : 
       does = transacts-refused ready before after reply act (Refused Invalid)
           (past-refuses before after act Invalid
           (past-looks before between after act climbs_back climbed_back halfway true l));
-      tells = tt;
+      says = tt;
     }
 
     module _ (middle : Store) (second : Looks between middle (Ok false) climbs_back) where
@@ -209,7 +209,7 @@ module _ (who : Caller) (ends : Ends) (place : Place) (before : Store) (stand : 
               may_exchange
               (λ known is whole bytes r refused h. (let after = swapped (tree_of bytes (typed known)) in
               refused_by (links_fit after from.dir && links_fit after to.dir) after refused h));
-          tells = tt;
+          says = tt;
         }
 
         module _ (d : Exchanging (Ok tt)) where
@@ -236,7 +236,7 @@ module _ (who : Caller) (ends : Ends) (place : Place) (before : Store) (stand : 
             does = steps-fail ready before next after changes changes swapped reply act rest stepped
                 (OfRows (row_fault down))
                 (fails-commit next after down changes c);
-            tells = tt;
+            says = tt;
           }
 
           told : (t : Tree) (o : Outcome) → act t ≡ Ok o → o.tree.sustained ≡ t.sustained
@@ -258,7 +258,7 @@ module _ (who : Caller) (ends : Ends) (place : Place) (before : Store) (stand : 
                 (and_parts (may_go from) (may_be_new from) r.move.leaves).1 r.move.enters
                 (or_from (is_inside t to.dir source) (is_inside t from.dir other) (outside known is whole bytes r)
                 (beside known is whole bytes r))));
-            tells = λ known is whole bytes r inode. tells_none (tree_of bytes (typed known)) who.sid
+            says = λ known is whole bytes r inode. says_none (tree_of bytes (typed known)) who.sid
                 (act (tree_of bytes (typed known)))
                 (told (tree_of bytes (typed known))) inode;
           }

@@ -1,7 +1,7 @@
 -- How two entries change places in a draft: both are taken, and then each comes in where the other one stood.
 use Rattle.std.proofs.Common.{◌≡◌, ◌≢◌, ℕ, ◌+◌, ◌≤◌, Bool, true, false, ◌&&◌, inl, inr, List}
 use Rattle.std.proofs.Common.{None, Some, is_some, Result, Ok, Err, refl, sym, ap, subst, ◌∙◌, arith}
-use Rattle.std.proofs.lemmas.Bool.{cases_eq, false≢true, le-leb}
+use Rattle.std.proofs.lemmas.Bool.{cases_eq, false≢true, le-leb, leb-true}
 use Rattle.std.proofs.lemmas.Option.{same_Some}
 use Rattle.std.specs.Prelude.{nat_le}
 use Rattle.jv_model.specs.declared.limits.TheConstants.{MAX_LINKS}
@@ -26,7 +26,7 @@ use Rattle.jv_volume.proofs.ShapeMapLaws.{naming_same, naming_apart, get-insert_
 use Rattle.jv_volume.proofs.WalkShapeLaws.{went_on, same_Ok}
 use Rattle.jv_links.specs.Exchanges.{MayExchange, entry_moved, exchanged_within}
 use Rattle.jv_links.proofs.ExchangeTreeLaws.{there-change_node, exchanged-taken}
-use Rattle.jv_links.proofs.MoveEntryLaws.{apart_first, entry_apart, le_of_test, required_then}
+use Rattle.jv_links.proofs.MoveEntryLaws.{apart_first, entry_apart, required_then}
 use Rattle.jv_changes.proofs.StepLaws.{drafting-as, drafting-ready, then-stops, then-on}
 
 -- ---- what an entry adds to a link count
@@ -56,7 +56,7 @@ share_least dirs at place inode within away = by_dir (dirs inode) refl
 
 fits_least : (t after : Tree) (j : ℕ) → link_count after j ≤ link_count t j → links_fit t j ≡ true
     → links_fit after j ≡ true
-fits_least t after j least fit = (let known = le_of_test (link_count t j) MAX_LINKS fit in
+fits_least t after j least fit = (let known = leb-true (link_count t j) MAX_LINKS fit in
     le-leb (link_count after j) MAX_LINKS (omega (arith, least, known)))
 
 -- ---- the tests of both entries are those of both directories

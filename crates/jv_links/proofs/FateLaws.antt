@@ -28,7 +28,8 @@ use Rattle.jv_changes.specs.Drafting.{Minds, Drafting}
 use Rattle.jv_changes.proofs.DraftedLaws.{Stays, stays-none, stays-then, stays-sees, stays-needs, seen-stands, needed-stands, drafting-unread, drafting-lacking, drafting-refused, drafting-made}
 use Rattle.jv_links.specs.declared.fates.Fate.{Fate}
 use Rattle.jv_links.specs.declared.fates.Fate.TheVariants.{Linked, Trashed, Dropped, Sustained}
-use Rattle.jv_links.specs.Removals.{MayLose, TellsFate, fate_in}
+use Rattle.jv_links.specs.Removals.{MayLose, SaysFate, fate_in}
+use Rattle.jv_links.proofs.LossLaws.{fate_by}
 
 -- the links of a file or a symlink are its entries
 link_count-leaf : (t : Tree) (inode : ℕ) → is_directory t inode ≡ false → link_count t inode ≡ entry_count t inode
@@ -81,10 +82,6 @@ module _ (caller : Caller) (place : EntryKey) (inode : ℕ) (draft : List Change
         (λ known is bytes t m r. record { left = t; is = refl; minds = m })
 
     -- what is answered of the model's fate
-    abbrev fate_by : Bool → Bool → Bool → model.Fate
-    fate_by several days used = (if several then model.Linked else if days then model.Trashed else if used
-        then model.Sustained else model.Dropped)
-
     several_is : (b : Bool) → nat_lt 1 row.nlink ≡ b → (known : RowMap) → before.rows ≡ Some known
         → (bytes : ℕ → ℕ → ℕ) (t : Tree) → Minds known draft bytes t
         → MayLose t caller place inode → nat_lt 1 (entry_count t inode) ≡ b
@@ -94,8 +91,8 @@ module _ (caller : Caller) (place : EntryKey) (inode : ℕ) (draft : List Change
     pub fate-linked : Drafting ready draft draft before middle (Ok Linked) stay
     fate-linked = made_by middle Linked so_far
 
-    pub tells-linked : nat_lt 1 row.nlink ≡ true → TellsFate caller place inode draft before (Ok Linked)
-    tells-linked several known is bytes t m r =
+    pub says-linked : nat_lt 1 row.nlink ≡ true → SaysFate caller place inode draft before (Ok Linked)
+    says-linked several known is bytes t m r =
         sym (ap (λ b. fate_in (fate_by b (nat_lt 0 t.setting.trash_days && not (in_trash place.dir))
         (list_any (λ held. held == inode) caller.held)))
         (several_is true several known is bytes t m r))
@@ -132,7 +129,7 @@ module _ (caller : Caller) (place : EntryKey) (inode : ℕ) (draft : List Change
             (few : nat_lt 1 row.nlink ≡ false) where
           told : (days used : Bool) → (nat_lt 0 setting.trash_days && nat_lt dir trash_root) ≡ days
               → list_any (λ h. h == inode) held ≡ used → (fate : Fate)
-              → fate ≡ fate_in (fate_by false days used) → TellsFate caller place inode draft before (Ok fate)
+              → fate ≡ fate_in (fate_by false days used) → SaysFate caller place inode draft before (Ok fate)
           told days used days_are used_is fate fate_is known is bytes t m r =
               let day_test : (nat_lt 0 t.setting.trash_days && not (in_trash place.dir)) ≡ days =
               ap (λ (x : Setting). nat_lt 0 x.trash_days && not (in_trash place.dir)) (setting_is known is bytes t m)
@@ -147,18 +144,18 @@ module _ (caller : Caller) (place : EntryKey) (inode : ℕ) (draft : List Change
               ∙ ap (λ b. fate_in (fate_by false days b)) (ap (list_any (λ h. h == inode)) held_is ∙ used_is))
 
           -- it goes to the trash
-          pub tells-trashed : (nat_lt 0 setting.trash_days && nat_lt dir trash_root) ≡ true
-              → TellsFate caller place inode draft before (Ok Trashed)
-          tells-trashed days = told true (list_any (λ h. h == inode) held) days refl Trashed refl
+          pub says-trashed : (nat_lt 0 setting.trash_days && nat_lt dir trash_root) ≡ true
+              → SaysFate caller place inode draft before (Ok Trashed)
+          says-trashed days = told true (list_any (λ h. h == inode) held) days refl Trashed refl
 
           -- the session keeps it
-          pub tells-sustained : (nat_lt 0 setting.trash_days && nat_lt dir trash_root) ≡ false
+          pub says-sustained : (nat_lt 0 setting.trash_days && nat_lt dir trash_root) ≡ false
               → list_any (λ h. h == inode) held ≡ true
-              → TellsFate caller place inode draft before (Ok Sustained)
-          tells-sustained days used = told false true days used Sustained refl
+              → SaysFate caller place inode draft before (Ok Sustained)
+          says-sustained days used = told false true days used Sustained refl
 
           -- it is gone
-          pub tells-dropped : (nat_lt 0 setting.trash_days && nat_lt dir trash_root) ≡ false
+          pub says-dropped : (nat_lt 0 setting.trash_days && nat_lt dir trash_root) ≡ false
               → list_any (λ h. h == inode) held ≡ false
-              → TellsFate caller place inode draft before (Ok Dropped)
-          tells-dropped days used = told false false days used Dropped refl
+              → SaysFate caller place inode draft before (Ok Dropped)
+          says-dropped days used = told false false days used Dropped refl

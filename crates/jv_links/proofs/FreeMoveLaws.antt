@@ -34,7 +34,7 @@ use Rattle.jv_volume.proofs.WalkShapeLaws.{went_on, same_Ok}
 use Rattle.jv_links.specs.declared.ends.Ends.{Ends}
 use Rattle.jv_links.specs.declared.fates.Removed.{Removed}
 use Rattle.jv_links.specs.Moves.{EndsStand, IsFreeMove, MayMove, Renames, place_of, moved_within}
-use Rattle.jv_links.proofs.TellLaws.{has_node, links_low, tells_none}
+use Rattle.jv_links.proofs.RenameAnswerLaws.{has_node, links_low, says_none}
 
 -- what may be renamed by any kind may go
 pub leaves_by : (how : How) (place : EntryKey) → may_leave how place ≡ true → may_go place ≡ true
@@ -106,7 +106,7 @@ module _ (who : Caller) (how : How) (ends : Ends) (before : Store) (stand : Ends
   free-not_climbed after fault l = record {
     does = transacts-refused ready before after reply act fault
         (past-stops before before after act climbs climbed started fault l);
-    tells = tt;
+    says = tt;
   }
 
   -- the directory would move into itself
@@ -115,7 +115,7 @@ module _ (who : Caller) (how : How) (ends : Ends) (before : Store) (stand : Ends
   free-inside after l = record {
     does = transacts-refused ready before after reply act (Refused Invalid)
         (past-refuses before after act Invalid (past-looks before before after act climbs climbed started true l));
-    tells = tt;
+    says = tt;
   }
 
   module _ (middle : Store) (l : Looks before middle (Ok false) climbs) where
@@ -166,7 +166,7 @@ module _ (who : Caller) (how : How) (ends : Ends) (before : Store) (stand : Ends
             (λ known is whole bytes r refused h.
             (let after = moved (tree_of bytes (typed known)) who.now from source to in
             refused_by (links_fit after from.dir && links_fit after to.dir) after refused h));
-        tells = tt;
+        says = tt;
       }
 
       module _ (d : Moving (Ok tt)) where
@@ -194,7 +194,7 @@ module _ (who : Caller) (how : How) (ends : Ends) (before : Store) (stand : Ends
         free-not_committed after down c = record {
           does = steps-fail ready before next after changes changes (λ t. moved t who.now from source to) reply act rest
               stepped (OfRows (row_fault down)) (fails-commit next after down changes c);
-          tells = tt;
+          says = tt;
         }
 
         told : (t : Tree) (d : Outcome) → act t ≡ Ok d → d.tree.sustained ≡ t.sustained
@@ -220,6 +220,6 @@ module _ (who : Caller) (how : How) (ends : Ends) (before : Store) (stand : Ends
                 within = r.move.within;
                 outside = outside known is whole bytes r;
               }) r.free);
-          tells = λ known is whole bytes r inode. tells_none (tree_of bytes (typed known)) who.sid
+          says = λ known is whole bytes r inode. says_none (tree_of bytes (typed known)) who.sid
               (act (tree_of bytes (typed known))) (told (tree_of bytes (typed known))) inode;
         }

@@ -10,7 +10,7 @@ pub mod TrashingLaws
 pub mod LossLaws
 pub mod EndsLaws
 pub mod MoveEntryLaws
-pub mod TellLaws
+pub mod RenameAnswerLaws
 pub mod FreeMoveLaws
 pub mod RenameLaws
 pub mod ClimbingLaws

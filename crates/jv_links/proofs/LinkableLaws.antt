@@ -13,9 +13,9 @@ use Rattle.jv_model.specs.rows.RowKeys.{RowMap}
 use Rattle.jv_model.specs.tree.Attempt.{◌>>=◌, require, some_or}
 use Rattle.jv_model.specs.tree.Making.{is_trashed}
 use Rattle.jv_model.specs.tree.Tree.{Tree, EntryKey, entry_key, root, trash_root, in_trash, parent_at, is_directory, trash_entry}
-use Rattle.jv_model.specs.tree.Walk.{is_absolute, names_of, is_dot, is_dot_dot, is_trash, named_from, stepped, way_on, walk_names, walk, inode_by, last_name, all_but_last, entry_of}
+use Rattle.jv_model.specs.tree.Walk.{is_absolute, names_of, is_dot, is_dot_dot, is_trash, named_from, stepped, way_on, walk_names, walk, inode_by, all_but_last, entry_of}
 use Rattle.jv_model.proofs.FiniteMapLaws.{IsFound, first_where-found}
-use Rattle.jv_model.specs.Lists.{is_nil}
+use Rattle.jv_model.specs.Lists.{is_nil, last_item}
 use Rattle.jv_outside.specs.Store.{Store}
 use Rattle.jv_rows.specs.declared.walking.EntryPlace.{EntryPlace}
 use Rattle.jv_rows.specs.declared.walking.Place.{Place}
@@ -111,7 +111,7 @@ walk_split t last (suc left) inode names =
 -- names without any, or with a last one
 data Lasts (names : List (List ℕ)) : Type 0 where
   Nameless : names ≡ [] → Lasts names
-  Last : (last : List ℕ) → last_name names ≡ Some last → names ≡ all_but_last names ++ (last ∷ []) → Lasts names
+  Last : (last : List ℕ) → last_item names ≡ Some last → names ≡ all_but_last names ++ (last ∷ []) → Lasts names
 
 lasts : (names : List (List ℕ)) → Lasts names
 lasts [] = Nameless refl
@@ -202,13 +202,13 @@ module _ (t : Tree) (w : WholeShape (shape_of t)) (inode : ℕ) (leaf : is_direc
           names_it = step.names_it;
         }
       where
-        ends : nat_le (length path) MAX_PATH ≡ true → (last : List ℕ) → last_name (names_of path) ≡ Some last
+        ends : nat_le (length path) MAX_PATH ≡ true → (last : List ℕ) → last_item (names_of path) ≡ Some last
             → not (is_dot last || is_dot_dot last) ≡ true
             → (dir : ℕ) → walk MAX_SYMLINKS t true root (all_but_last (names_of path)) ≡ Ok dir
             → is_directory t dir ≡ true → nat_le (length last) MAX_NAME ≡ true
             → entry_of t path ≡ Ok (record { dir = dir; name = last })
         ends fits last is plain dir walked within short =
-            ap (λ b. require b NameTooLong >>= (λ _. some_or (last_name (names_of path)) Invalid >>= of_name)) fits
+            ap (λ b. require b NameTooLong >>= (λ _. some_or (last_item (names_of path)) Invalid >>= of_name)) fits
             ∙ ap (λ o. some_or o Invalid >>= of_name) is
             ∙ ap (λ b. require b Invalid >>= (λ _. above >>= of_dir last)) plain
             ∙ ap (λ r. r >>= of_dir last) walked

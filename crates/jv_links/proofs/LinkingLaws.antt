@@ -5,8 +5,7 @@ use Rattle.std.proofs.lemmas.Bool.{false≢true, not-true, or_parts}
 use Rattle.jv_model.specs.declared.basics.Who.{Who}
 use Rattle.jv_model.specs.declared.fault.Down.{Down}
 use Rattle.jv_model.specs.declared.fault.Fault.{Fault}
-use Rattle.jv_model.specs.declared.fault.Fault.TheVariants.{NoSpace, NotPermitted, Stale}
-use Rattle.jv_model.specs.declared.fault.Gone.TheVariants.{Session}
+use Rattle.jv_model.specs.declared.fault.Fault.TheVariants.{NoSpace, NotPermitted}
 use Rattle.jv_model.specs.declared.fault.TxFault.{TxFault}
 use Rattle.jv_model.specs.declared.fault.TxFault.TheVariants.{Rows as OfRows}
 use Rattle.jv_model.specs.declared.limits.TheConstants.{MAX_LINKS}
@@ -15,7 +14,7 @@ use Rattle.jv_model.specs.declared.op.Reply.TheVariants.{Done}
 use Rattle.jv_model.specs.FiniteMap.{get}
 use Rattle.jv_model.specs.rows.RowFaults.{row_fault}
 use Rattle.jv_model.specs.tree.Attempt.{◌>>=◌, require}
-use Rattle.jv_model.specs.tree.Caller.{Caller, Outcome, done, in_session}
+use Rattle.jv_model.specs.tree.Caller.{Caller, Outcome, done, in_session, session_there}
 use Rattle.jv_model.specs.tree.Changes.{status_changed, change_node, put_entry}
 use Rattle.jv_model.specs.tree.Making.{new_place, is_trashed, linked, link}
 use Rattle.jv_model.specs.tree.Tree.{Tree, EntryKey, is_directory, link_count, links_fit, node_at}
@@ -88,7 +87,7 @@ is_linkable : (t : Tree) (w : WholeShape (shape_of t)) (sid : ℕ) (path : List 
 is_linkable t w sid path inode h =
     let given = λ (i : ℕ). (let found : Result ℕ Fault = Ok i in found) in
     let test = λ (i : ℕ). require (not (is_directory t i || is_trashed t i)) NotPermitted >>= (λ _. given i) in
-    let in_it = went_on (require (is_some (get t.sessions sid)) (Stale (Session sid)))
+    let in_it = went_on (session_there t sid)
     (λ _. inode_by false t path >>= test) inode h in
     let walked = went_on (inode_by false t path) test inode in_it.2 in
     let may = went_on (require (not (is_directory t walked.0 || is_trashed t walked.0)) NotPermitted)

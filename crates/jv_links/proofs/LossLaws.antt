@@ -30,8 +30,8 @@ use Rattle.jv_changes.specs.Ready.{StandsAt, IsThere, MayGo}
 use Rattle.jv_links.specs.declared.fates.Fate.{Fate}
 use Rattle.jv_links.specs.declared.fates.Fate.TheVariants.{Linked, Trashed, Dropped, Sustained}
 use Rattle.jv_links.specs.Losses.{IsToTrash}
-use Rattle.jv_links.specs.Removals.{MayLose, TellsFate, fate_in}
-use Rattle.jv_changes.proofs.DraftSteps.{OfMinds, steps-then, steps-ended, step-fails, step-value, drafting-err, drafting-exit}
+use Rattle.jv_links.specs.Removals.{MayLose, SaysFate, fate_in}
+use Rattle.jv_changes.proofs.DraftStepLaws.{OfMinds, steps-then, steps-ended, step-fails, step-value, drafting-err, drafting-exit}
 use Rattle.jv_links.proofs.RemovalStepLaws.{node_there, stands_at, leaf_apart_dir, leaf_goes}
 
 -- ---- what a fate says of the tree
@@ -54,7 +54,7 @@ fate_from model.Dropped model.Trashed e = absurd (cc)
 fate_from model.Dropped model.Sustained e = absurd (cc)
 fate_from model.Dropped model.Dropped e = refl
 
-abbrev fate_by : Bool → Bool → Bool → model.Fate
+abbrev pub fate_by : Bool → Bool → Bool → model.Fate
 fate_by several days used = (if several then model.Linked else if days then model.Trashed else if used
     then model.Sustained else model.Dropped)
 
@@ -90,7 +90,7 @@ module _ (who : Who) (caller : Caller) (is_for : IsFor who caller) (place : Entr
       (step-fails ready ready start start before told fault (λ t. Ok t) loses (λ t. t) (λ t r. r) (λ t r. refl) d)
 
   module _ (fate : Fate) (d : Drafting ready start start before told (Ok fate) (λ t. Ok t))
-      (tells : TellsFate caller place inode start before (Ok fate)) (one : List Change) (taken : Store) where
+      (says : SaysFate caller place inode start before (Ok fate)) (one : List Change) (taken : Store) where
     stands : OfMinds ready start before (λ t. StandsAt t place inode)
     stands known is bytes t m r = stands_at t place inode r.whole r.is
         (leaf_apart_dir t place inode r.whole r.is r.leaf)
@@ -115,7 +115,7 @@ module _ (who : Who) (caller : Caller) (is_for : IsFor who caller) (place : Entr
       fate_is : (f : model.Fate) → fate ≡ fate_in f
           → OfMinds ready start before (λ t. model.fate_of t caller place inode ≡ f)
       fate_is f same known is bytes t m r = fate_from (model.fate_of t caller place inode) f
-          (sym (tells known is bytes t m r) ∙ same)
+          (sym (says known is bytes t m r) ∙ same)
 
       there : OfMinds ready start before (λ t. IsThere inode (less t))
       there known is bytes t m r =

@@ -1,8 +1,7 @@
 -- How an entry moves to a free place: it is taken, put, and its node has its new parent.
 use Rattle.std.proofs.Common.{◌≡◌, ◌≢◌, ℕ, zero, suc, ◌+◌, ◌≤◌, Bool, true, false, cond, ◌&&◌, List, None, Some, is_some, Result, Ok, Err, refl, sym, ap, subst, ◌∙◌, arith}
 use Rattle.std.specs.Prelude.{IsTrue, nat_le, ◌==◌}
-use Rattle.std.proofs.lemmas.Bool.{le-leb}
-use Rattle.std.proofs.lemmas.Bool.Decides.{nat_tests}
+use Rattle.std.proofs.lemmas.Bool.{le-leb, leb-true}
 use Rattle.jv_model.specs.declared.limits.TheConstants.{MAX_LINKS}
 use Rattle.jv_model.specs.declared.fault.Fault.{Fault}
 use Rattle.jv_model.specs.declared.fault.Fault.TheVariants.{NoSpace}
@@ -39,9 +38,6 @@ entry_apart s at inode whole is same =
     let avoids = above_avoids s.form inode own.0 up.0 n.free own.1 up.1 in
     let here : at.dir ≡ own.0 = ap (λ (k : EntryKey). k.dir) ((whole.entered inode own.0 own.1 n.free).only at is) in
     apart_first s inode avoids.0 own.0 avoids.1 (sym here ∙ same)
-
-pub le_of_test : (m n : ℕ) → nat_le m n ≡ true → m ≤ n
-le_of_test m n h = grind (arith, nat_tests)
 
 standing_most : (dir : ℕ) (at : EntryKey) → standing dir at ≤ 1
 standing_most dir at = by_test (at.dir == dir)
@@ -106,7 +102,7 @@ module _ (t : Tree) (now : ℕ) (from : EntryKey) (source : ℕ) (to : EntryKey)
       omega (arith, added, taken)
 
   fits_least : (j : ℕ) → link_count put j ≤ link_count t j → links_fit t j ≡ true → links_fit put j ≡ true
-  fits_least j least fit = (let known = le_of_test (link_count t j) MAX_LINKS fit in
+  fits_least j least fit = (let known = leb-true (link_count t j) MAX_LINKS fit in
       le-leb (link_count put j) MAX_LINKS (omega (arith, least, known)))
 
   fits_from : (b : Bool) → is_directory t source ≡ b → links_fit put from.dir ≡ true
@@ -134,7 +130,7 @@ module _ (t : Tree) (now : ℕ) (from : EntryKey) (source : ℕ) (to : EntryKey)
 abbrev last_change : ℕ → ℕ → EntryKey → Tree → Result Tree Fault
 last_change now source to u = Ok (change_node u source (moved_node now to.dir))
 
--- a change that is refused for want of room is, whatever comes after it
+-- a change that is refused because there is no room is, whatever comes after it
 pub required_then : (b : Bool) (u : Tree) (change : Tree → Result Tree Fault)
     → ((require b NoSpace >>= (λ _. Ok u)) >>= change) ≡ (require b NoSpace >>= (λ _. change u))
 required_then true u change = refl

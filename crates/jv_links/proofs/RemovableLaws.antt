@@ -23,6 +23,7 @@ use Rattle.jv_volume.specs.TypedRows.{typed}
 use Rattle.jv_volume.specs.TreeOf.{tree_of}
 use Rattle.jv_volume.proofs.WalkShapeLaws.{went_on, required, was_some, same_Ok, entry_within}
 use Rattle.jv_links.specs.Removable.{removable_at, ComesToRemovable}
+use Rattle.jv_model.specs.tree.Caller.{session_there}
 
 -- the entry of a place, with its inode
 abbrev named_at : Tree → EntryKey → Result (EntryKey × ℕ) Fault
@@ -125,7 +126,7 @@ pub is_removable : (t : Tree) (sid : ℕ) (path : List ℕ) (place : EntryKey) (
     → removable_at t sid path ≡ Ok (place, inode)
     → IsRemovable t sid place inode
 is_removable t sid path place inode h =
-    let in_it = went_on (require (is_some (get t.sessions sid)) (Stale (Session sid)))
+    let in_it = went_on (session_there t sid)
     (λ _. entry_of t path >>= tested t) (place, inode) h in
     let entry = went_on (entry_of t path) (tested t) (place, inode) in_it.2 in
     let test = went_on (require (may_go entry.0) NotPermitted) (λ _. named_at t entry.0) (place, inode) entry.2 in

@@ -27,7 +27,7 @@ use Rattle.jv_links.specs.declared.fates.Removed.{Removed}
 use Rattle.jv_links.specs.Removals.{HoldsFiles, has_no_zero}
 use Rattle.jv_links.specs.Moves.{Move, FindsEnds, FindsEntry, IsMove, IsFreeMove, IsOverMove, Renames, move_asked, move_of, place_of, renamed_with}
 use Rattle.jv_links.proofs.EndsLaws.{rename-is, is_move}
-use Rattle.jv_links.proofs.TellLaws.{renames-past, tells_none}
+use Rattle.jv_links.proofs.RenameAnswerLaws.{renames-past, says_none}
 
 -- ---- entries that name one inode
 
@@ -49,7 +49,7 @@ module _ (sid : ℕ) (ready : Tree → Type 0) (store : Store) (source other : �
     does = transacts-answers ready store store (λ removed. Done) unless None
         (past-as store store store unless unless (past-start store unless) done
         (λ known is whole bytes. unless-done (tree_of bytes (typed known))));
-    tells = λ known is whole bytes r inode. tells_none (tree_of bytes (typed known)) sid
+    says = λ known is whole bytes r inode. says_none (tree_of bytes (typed known)) sid
         (unless (tree_of bytes (typed known))) (kept (tree_of bytes (typed known))) inode;
   }
 

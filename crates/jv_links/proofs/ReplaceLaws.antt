@@ -35,10 +35,10 @@ use Rattle.jv_volume.proofs.WalkShapeLaws.{went_on, required}
 use Rattle.jv_links.specs.declared.ends.Ends.{Ends}
 use Rattle.jv_links.specs.declared.fates.Removed.{Removed}
 use Rattle.jv_links.specs.Moves.{EndsStand, IsOverMove, MayMove, Renames, Stands, place_of, moved_within}
-use Rattle.jv_links.specs.Replacements.{MayClear, TellsCleared, may_replace}
+use Rattle.jv_links.specs.Replacements.{MayClear, SaysCleared, may_replace}
 use Rattle.jv_links.proofs.FreeMoveLaws.{leaves_by, moved-sustained, tested_by, refused_by}
 use Rattle.jv_links.proofs.TargetLaws.{may_move-without_target}
-use Rattle.jv_links.proofs.TellLaws.{has_node, links_low}
+use Rattle.jv_links.proofs.RenameAnswerLaws.{has_node, links_low}
 
 -- where a new entry may come, an entry may go
 goes_by : (place : EntryKey) → may_be_new place ≡ true → may_go place ≡ true
@@ -120,7 +120,7 @@ module _ (who : Caller) (how : How) (ends : Ends) (place : Place) (before : Stor
   replace-refused after fault l = record {
     does = transacts-refused ready before after reply act fault
         (past-stops before before after act asks (λ t _. rest t) started fault l);
-    tells = tt;
+    says = tt;
   }
 
   module _ (middle : Store) (l : Looks before middle (Ok tt) asks) (low_from : ends.from.dir.node.nlink ≤ MAX_LINKS)
@@ -198,7 +198,7 @@ module _ (who : Caller) (how : How) (ends : Ends) (place : Place) (before : Stor
         does = steps-stop ready before middle next [] cleared (λ t. t) reply act rest started_steps fault
             (λ t. MayClear t who to other (place.node.kind == 2)) clears (from_none (Err fault) d)
             may_clear (λ known is whole bytes r refused h. absurd (cc));
-        tells = tt;
+        says = tt;
       }
 
       module _ (removed : Option Removed) (d : Clears (Ok removed)) (now : ℕ) (same_now : who.now ≡ now)
@@ -230,7 +230,7 @@ module _ (who : Caller) (how : How) (ends : Ends) (place : Place) (before : Stor
               (λ known is whole bytes r refused h.
               (let after = moved (left (tree_of bytes (typed known))) who.now from source to in
               refused_by (links_fit after from.dir && links_fit after to.dir) after refused h));
-          tells = tt;
+          says = tt;
         }
 
         module _ (m : Moving (Ok tt)) where
@@ -256,7 +256,7 @@ module _ (who : Caller) (how : How) (ends : Ends) (place : Place) (before : Stor
           replace-not_committed after down c = record {
             does = steps-fail ready before last after changes changes final reply act rest went
                 (OfRows (row_fault down)) (fails-commit last after down changes c);
-            tells = tt;
+            says = tt;
           }
 
           ends_done : OfWhole ready before (λ t. rest t ≡ done (final t))
@@ -264,21 +264,21 @@ module _ (who : Caller) (how : How) (ends : Ends) (place : Place) (before : Stor
               ap (λ b. require b NoSpace >>= (λ _. done after)) (fits known is whole bytes r))
 
           -- they were
-          pub replace-made : TellsCleared who to other (place.node.kind == 2) was middle (Ok removed) → (after : Store)
+          pub replace-made : SaysCleared who to other (place.node.kind == 2) was middle (Ok removed) → (after : Store)
               → Commits last after (Ok tt) changes
               → Renames who.sid ready before after (Ok removed) act
-          replace-made tells after c = record {
+          replace-made says after c = record {
             does = steps-commit ready before last after changes changes final reply act rest went removed c ends_done
                 (λ known is whole bytes r. whole-replaced (tree_of bytes (typed known)) who to other
                 (whole-shape bytes (typed known) whole) (may_replaced known is whole bytes r) from source
                 (may_rename known is whole bytes r) apart);
-            tells = λ known is whole bytes r inode.
+            says = λ known is whole bytes r inode.
                 let t = tree_of bytes (typed known) in
                 ap (λ o. is_sustained (outcome t o).tree who.sid inode && not (is_sustained t who.sid inode))
                 (went.goes_on known is whole bytes r ∙ ends_done known is whole bytes r)
                 ∙ ap (λ p. is_some (get p (record { sid = who.sid; inode = inode })) && not
                 (is_sustained t who.sid inode)) (moved-sustained (left t) who.now from source to)
-                ∙ subst (λ (w : List Change). TellsCleared who to other (place.node.kind == 2) w middle (Ok removed))
-                none tells known (l.rows_are ∙ is) bytes t
+                ∙ subst (λ (w : List Change). SaysCleared who to other (place.node.kind == 2) w middle (Ok removed))
+                none says known (l.rows_are ∙ is) bytes t
                 (started_steps.minds known is whole bytes r) (may_clear known is whole bytes r) inode;
           }

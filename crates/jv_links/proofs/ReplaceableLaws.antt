@@ -16,7 +16,7 @@ use Rattle.jv_volume.specs.TreeOf.{tree_of}
 use Rattle.jv_links.specs.declared.ends.Ends.{Ends}
 use Rattle.jv_links.specs.Moves.{EndsStand, Stands}
 use Rattle.jv_links.specs.Replacements.{may_replace}
-use Rattle.jv_links.proofs.TellLaws.{has_node}
+use Rattle.jv_links.proofs.RenameAnswerLaws.{has_node}
 
 -- what is asked of the kinds of both, by whether each is a directory and whether the other one has entries
 abbrev kinds_of : Bool → Bool → Bool → Result (Unit {0}) Fault

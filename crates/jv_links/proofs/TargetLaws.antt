@@ -2,16 +2,16 @@
 use Rattle.std.proofs.Common.{◌≡◌, ◌≢◌, ℕ, ◌≤◌, Bool, true, false, not, ◌&&◌, ◌==◌, Option, None, Some, is_some, refl, sym, ap, ◌∙◌, arith}
 use Rattle.std.specs.Prelude.{IsTrue, nat_lt}
 use Rattle.std.specs.List.{list_any}
-use Rattle.std.proofs.lemmas.Bool.{false≢true, cond_both, and_parts, not-true, le-leb}
+use Rattle.std.proofs.lemmas.Bool.{false≢true, cond_both, and_parts, not-true, le-leb, leb-true}
 use Rattle.std.proofs.lemmas.Option.{same_Some}
-use Rattle.jv_model.specs.declared.limits.TheConstants.{MAX_LINKS}
+use Rattle.jv_model.specs.declared.limits.TheConstants.{MAX_LINKS, READ_ONLY_MODE}
 use Rattle.jv_model.specs.tree.Caller.{Caller}
 use Rattle.jv_model.specs.tree.Changes.{status_changed, take_entry, put_entry, with_node}
 use Rattle.jv_model.specs.tree.HourNames.{hour_at}
 use Rattle.jv_model.specs.tree.Removing.{Fate, Linked, Trashed, Sustained, Dropped, fate_of, with_fate, remove_entry, remove_directory}
 use Rattle.jv_model.specs.tree.Renaming.{without_target}
 use Rattle.jv_model.specs.tree.Trash.{hour_inode, hour_place, trash_place, trash_name, with_hour}
-use Rattle.jv_model.specs.tree.Tree.{Tree, Node, Directory, EntryKey, trash_root, in_trash, new_node, read_only_mode, node_at, is_directory, entry_count, link_count, links_fit}
+use Rattle.jv_model.specs.tree.Tree.{Tree, Node, Directory, EntryKey, trash_root, in_trash, new_node, node_at, is_directory, entry_count, link_count, links_fit}
 use Rattle.jv_volume.specs.Shape.{Shape, WholeShape, shape_of, is_there, is_dir, names, named}
 use Rattle.jv_volume.specs.TypedRows.{is_entry_name}
 use Rattle.jv_volume.proofs.ClimbLaws.{avoids_outside, avoids_without, outside_avoids}
@@ -23,7 +23,6 @@ use Rattle.jv_volume.proofs.ShapeMapLaws.{naming_apart, only_one, parent_of_dir,
 use Rattle.jv_links.specs.Losses.{IsToTrash}
 use Rattle.jv_links.specs.Moves.{MayMove}
 use Rattle.jv_links.specs.Removals.{MayLose}
-use Rattle.jv_links.proofs.MoveEntryLaws.{le_of_test}
 use Rattle.jv_links.proofs.RemovalStepLaws.{top_apart}
 use Rattle.jv_links.proofs.TrashEntryLaws.{trash_name-entry}
 use Rattle.jv_links.proofs.TrashStepLaws.{trash_hour, trash_stands, leaf_made}
@@ -34,7 +33,7 @@ use Rattle.jv_links.proofs.TrashStepLaws.{trash_hour, trash_stands, leaf_made}
 module _ (less : Tree) (now : ℕ) (place : EntryKey) (inode : ℕ) (may : IsToTrash less now place inode) (j : ℕ)
     (off : j ≢ trash_root) (here : is_some (node_at less j) ≡ true) where
   abbrev hour_node : Node
-  hour_node = new_node (Directory trash_root) read_only_mode now
+  hour_node = new_node (Directory trash_root) READ_ONLY_MODE now
 
   beside : link_count (with_hour less now (hour_at now)) j ≡ link_count less j
   unfolding with_hour
@@ -168,7 +167,7 @@ module _ (t : Tree) (who : Caller) (from : EntryKey) (source : ℕ) (to : EntryK
       → links_fit (without_target t who to other) j ≡ true
   fits j aside off here fit =
       let least = least_by (is_directory t other) refl j aside off here in
-      let known = le_of_test (link_count t j) MAX_LINKS fit in
+      let known = leb-true (link_count t j) MAX_LINKS fit in
       le-leb (link_count (without_target t who to other) j) MAX_LINKS (omega (arith, least, known))
 
   -- what is left may move there

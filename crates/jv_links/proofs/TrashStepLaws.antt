@@ -10,7 +10,7 @@ use Rattle.jv_model.specs.tree.Attempt.{◌>>=◌, require}
 use Rattle.jv_model.specs.tree.Changes.{put_entry}
 use Rattle.jv_model.specs.tree.HourNames.{hour_at}
 use Rattle.jv_model.specs.tree.Trash.{hour_inode, hour_place, with_hour, trash_place, trash_name}
-use Rattle.jv_model.specs.tree.Tree.{Tree, EntryKey, entry_key, trash_root, in_trash, is_directory, link_count, links_fit, node_at}
+use Rattle.jv_model.specs.tree.Tree.{Tree, EntryKey, entry_key, trash_root, in_trash, is_directory, link_count, links_fit, node_at, name_count}
 use Rattle.jv_changes.specs.Ready.{MayHaveHour, MayStandAt, IsThere, entry_put}
 use Rattle.jv_links.specs.Losses.{IsToTrash}
 use Rattle.jv_volume.specs.Shape.{Form, Absent, Dir, Shape, Names, form_of, shape_of, is_there, is_dir, named, names, is_hour}
@@ -19,7 +19,7 @@ use Rattle.jv_volume.proofs.HourNameLaws.{last_hour, is_hour-hour_inode}
 use Rattle.jv_volume.proofs.HourShapeLaws.{hour_inode_high, free_hour, WithHour, Was, Comes, shape-with_hour}
 use Rattle.jv_volume.proofs.LinkLaws.{link_count-shape, link_count-put_entry-leaf, dirs_of, within_of}
 use Rattle.jv_volume.proofs.MapLaws.{sum-nothing}
-use Rattle.jv_volume.proofs.ShapeMapLaws.{was_kept, get-insert_apart, get-remove_apart, count-remove_same, count-insert_apart, count_of, with_form-here, with_form-apart, with_entries, there_of_dir, is_there-form, is_dir-form, is_directory-form, shape-take_entry, shape-put_entry}
+use Rattle.jv_volume.proofs.ShapeMapLaws.{was_kept, get-insert_apart, get-remove_apart, count-remove_same, count-insert_apart, with_form-here, with_form-apart, with_entries, there_of_dir, is_there-form, is_dir-form, is_directory-form, shape-take_entry, shape-put_entry}
 use Rattle.jv_volume.proofs.TrashLaws.{trash_place_free}
 
 -- ---- the entries and the forms with an hour's directory
@@ -183,7 +183,7 @@ module _ (less : Tree) (now : ℕ) (place : EntryKey) (inode : ℕ) (may : IsToT
   unnamed_less : names (shape_of less) inode ≡ 0
   unnamed_less =
       let all = count-remove_same s.entries place inode may.named in
-      let left : names (shape_of less) inode ≡ count_of (remove s.entries place) inode =
+      let left : names (shape_of less) inode ≡ name_count (remove s.entries place) inode =
       ap (λ (x : Shape). names x inode) shape_less in
       let all_one = one in
       omega (arith, all, left, all_one)
@@ -196,7 +196,7 @@ module _ (less : Tree) (now : ℕ) (place : EntryKey) (inode : ℕ) (may : IsToT
   links_inode =
       link_count-shape made inode
       ∙ ap (λ b. if b then 2 + sum_over (within_of (dirs_of (shape_of made)) inode) made.entries
-      else count_of made.entries inode) (sym (is_directory-form made inode) ∙ leaf_made)
+      else name_count made.entries inode) (sym (is_directory-form made inode) ∙ leaf_made)
       ∙ unnamed_made
 
   -- no directory stands in an hour
@@ -225,7 +225,7 @@ module _ (less : Tree) (now : ℕ) (place : EntryKey) (inode : ℕ) (may : IsToT
   links_dir =
       link_count-shape made dir
       ∙ ap (λ (f : Form). if is_dir f then 2 + sum_over (within_of (dirs_of (shape_of made)) dir) made.entries
-      else count_of made.entries dir) dir_made
+      else name_count made.entries dir) dir_made
       ∙ ap (λ n. 2 + n) (sum-nothing entry_key (within_of (dirs_of (shape_of made)) dir) made.entries none_in)
 
   abbrev entered : Tree

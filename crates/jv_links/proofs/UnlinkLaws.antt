@@ -10,7 +10,7 @@ use Rattle.jv_model.specs.declared.fault.Fault.{Fault}
 use Rattle.jv_model.specs.declared.fault.Fault.TheVariants.{NotPermitted}
 use Rattle.jv_model.specs.declared.fault.TxFault.{TxFault}
 use Rattle.jv_model.specs.declared.fault.TxFault.TheVariants.{Refused, Rows as OfRows}
-use Rattle.jv_model.specs.declared.limits.TheConstants.{LAST_MOMENT}
+use Rattle.jv_model.specs.declared.limits.TheConstants.{LAST_MOMENT, READ_ONLY_MODE}
 use Rattle.jv_model.specs.declared.op.Reply.{Reply}
 use Rattle.jv_model.specs.declared.op.Reply.TheVariants.{Done}
 use Rattle.jv_model.specs.FiniteMap.{Map, get, insert}
@@ -20,7 +20,7 @@ use Rattle.jv_model.specs.tree.Changes.{touched, status_changed, put_node, put_e
 use Rattle.jv_model.specs.tree.HourNames.{hour_at}
 use Rattle.jv_model.specs.tree.Removing.{Fate, Linked, Trashed, Sustained, Dropped, fate_of, with_fate, remove_entry, unlink}
 use Rattle.jv_model.specs.tree.Trash.{hour_inode, hour_place, trash_place, with_hour}
-use Rattle.jv_model.specs.tree.Tree.{Tree, Node, Directory, EntryKey, pair_key, trash_root, new_node, read_only_mode, node_at, is_directory, is_sustained}
+use Rattle.jv_model.specs.tree.Tree.{Tree, Node, Directory, EntryKey, pair_key, trash_root, new_node, node_at, is_directory, is_sustained}
 use Rattle.jv_outside.specs.declared.batch.Change.{Change}
 use Rattle.jv_outside.specs.Store.{Store, Commits}
 use Rattle.jv_rows.specs.Transactions.{IsFor, Transacts, Always}
@@ -36,7 +36,7 @@ use Rattle.jv_changes.proofs.DraftingLaws.{PastSteps, OfWhole, steps-start, step
 use Rattle.jv_links.specs.declared.fates.Fate.{Fate as Told}
 use Rattle.jv_links.specs.declared.removing.Removable.{Removable}
 use Rattle.jv_links.specs.Removable.{removable_at, place_of, ComesToRemovable}
-use Rattle.jv_links.specs.Removals.{HoldsFiles, MayLose, TellsFate, TellsSustained, fate_in, is_kept}
+use Rattle.jv_links.specs.Removals.{HoldsFiles, MayLose, SaysFate, SaysSustained, fate_in, is_inode, kept_by}
 use Rattle.jv_links.proofs.RemovingLaws.{unlink_at, unlink-is, removing-comes, removing-at, removing-kind, past-refused, past-passes}
 
 -- ---- what the session keeps after a removal, and didn't before
@@ -47,7 +47,7 @@ unfolding with_hour
 with_hour-sustained t now hour = by_node (node_at t (hour_inode hour))
   where
     hour_node : Node
-    hour_node = new_node (Directory trash_root) read_only_mode now
+    hour_node = new_node (Directory trash_root) READ_ONLY_MODE now
 
     by_node : (o : Option Node) → (elim o as (λ _. Tree) [
       | None ↦ with_node t now (hour_place hour) (hour_inode hour) hour_node
@@ -109,18 +109,18 @@ module _ (t : Tree) (who : Caller) (place : EntryKey) (inode : ℕ) (may : MayLo
       same_inode : pair_of who.sid i ≡ pair_of who.sid inode → i ≡ inode
       same_inode e = ap (λ p. p.inode) e
 
-  kept_by : (f : Fate) → newly (with_fate f less who place inode) ≡ (is_kept (fate_in f) && (inode == i))
-  kept_by Linked = none_new (with_fate Linked less who place inode)
+  kept_with : (f : Fate) → newly (with_fate f less who place inode) ≡ is_inode (kept_by (fate_in f) inode) i
+  kept_with Linked = none_new (with_fate Linked less who place inode)
       (change_node-sustained less inode (status_changed who.now) ∙ less_pairs)
-  kept_by Trashed = none_new (with_fate Trashed less who place inode) trashed_pairs
-  kept_by Sustained = kept_new
-  kept_by Dropped = none_new (with_fate Dropped less who place inode) less_pairs
+  kept_with Trashed = none_new (with_fate Trashed less who place inode) trashed_pairs
+  kept_with Sustained = kept_new
+  kept_with Dropped = none_new (with_fate Dropped less who place inode) less_pairs
 
   -- the session keeps what lost its entry where that is its fate, and nothing else is new
   pub kept-remove_entry : newly (remove_entry t who place inode) ≡
-      (is_kept (fate_in (fate_of t who place inode)) && (inode == i))
+      is_inode (kept_by (fate_in (fate_of t who place inode)) inode) i
   unfolding remove_entry
-  kept-remove_entry = kept_by (fate_of t who place inode)
+  kept-remove_entry = kept_with (fate_of t who place inode)
 
 -- ---- an unlink
 
@@ -225,13 +225,13 @@ module _ (who : Who) (caller : Caller) (is_for : IsFor who caller) (path : List 
             (record { is = m.is; leaf = m.leaf; session = m.session; held = m.held; clock = m.clock }))
 
     -- what it answers of what the session keeps
-    pub unlink-tells : (fate : Told) → TellsFate caller place inode draft middle (Ok fate)
-        → TellsSustained caller.sid ready before (Some (Some (record { inode = inode; fate = fate }))) removes
-    unlink-tells fate tells known is whole bytes held i =
+    pub unlink-says : (fate : Told) → SaysFate caller place inode draft middle (Ok fate)
+        → SaysSustained caller.sid ready before (Some (Some (record { inode = inode; fate = fate }))) removes
+    unlink-says fate fate_says known is whole bytes held i =
         let t = tree_of bytes (typed known) in
         let m = may known is whole bytes held in
         ap (λ r. is_sustained (outcome t r).tree caller.sid i && not (is_sustained t caller.sid i))
         (begun.goes_on known is whole bytes held)
         ∙ kept-remove_entry t caller place inode m i
-        ∙ ap (λ f. is_kept f && (inode == i))
-        (sym (tells known (c.looks.rows_are ∙ is) bytes t (begun.minds known is whole bytes held) m))
+        ∙ ap (λ f. is_inode (kept_by f inode) i)
+        (sym (fate_says known (c.looks.rows_are ∙ is) bytes t (begun.minds known is whole bytes held) m))

@@ -1,10 +1,9 @@
 -- Files and symlinks that may have one more entry.
-use Rattle.std.specs.Prelude.{ℕ, List, is_some, not, ◌||◌, Result, Ok}
+use Rattle.std.specs.Prelude.{ℕ, List, not, ◌||◌, Result, Ok}
 use Rattle.jv_model.specs.declared.fault.Fault.{Fault}
-use Rattle.jv_model.specs.declared.fault.Fault.TheVariants.{NotPermitted, Stale}
-use Rattle.jv_model.specs.declared.fault.Gone.TheVariants.{Session}
-use Rattle.jv_model.specs.FiniteMap.{get}
+use Rattle.jv_model.specs.declared.fault.Fault.TheVariants.{NotPermitted}
 use Rattle.jv_model.specs.tree.Attempt.{◌>>=◌, require}
+use Rattle.jv_model.specs.tree.Caller.{session_there}
 use Rattle.jv_model.specs.tree.Making.{is_trashed}
 use Rattle.jv_model.specs.tree.Tree.{Tree, is_directory}
 use Rattle.jv_model.specs.tree.Walk.{unfollowed_inode_of}
@@ -12,7 +11,7 @@ use Rattle.jv_model.specs.tree.Walk.{unfollowed_inode_of}
 -- the inode of a path, where it may have one more entry
 abbrev pub linkable : Tree → ℕ → List ℕ → Result ℕ Fault
 linkable t sid path = do
-  _ ← require (is_some (get t.sessions sid)) (Stale (Session sid))
+  _ ← session_there t sid
   inode ← unfollowed_inode_of t path
   _ ← require (not (is_directory t inode || is_trashed t inode)) NotPermitted
   Ok inode

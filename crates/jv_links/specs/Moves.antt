@@ -3,8 +3,7 @@ use Rattle.std.specs.Prelude.{◌≡◌, ℕ, true, false, ◌&&◌, not, is_som
 use Rattle.jv_model.specs.declared.basics.How.{How}
 use Rattle.jv_model.specs.declared.basics.How.TheVariants.{Plain, NoReplace, Exchange}
 use Rattle.jv_model.specs.declared.fault.Fault.{Fault}
-use Rattle.jv_model.specs.declared.fault.Fault.TheVariants.{AlreadyExists, NotFound, NotPermitted, NoSpace, Stale}
-use Rattle.jv_model.specs.declared.fault.Gone.TheVariants.{Session}
+use Rattle.jv_model.specs.declared.fault.Fault.TheVariants.{AlreadyExists, NotFound, NotPermitted, NoSpace}
 use Rattle.jv_model.specs.declared.fault.TxFault.{TxFault}
 use Rattle.jv_model.specs.declared.op.Reply.TheVariants.{Done}
 use Rattle.jv_model.specs.FiniteMap.{get}
@@ -13,7 +12,7 @@ use Rattle.jv_model.specs.tree.Tree.{Tree, EntryKey, is_directory, links_fit}
 use Rattle.jv_model.specs.tree.Walk.{entry_of}
 use Rattle.jv_model.specs.tree.Making.{may_be_new}
 use Rattle.jv_model.specs.tree.Renaming.{may_leave, moved, is_inside, renamed, renamed_over, unless_same, exchanging}
-use Rattle.jv_model.specs.tree.Caller.{Caller, Outcome}
+use Rattle.jv_model.specs.tree.Caller.{Caller, Outcome, session_there}
 use Rattle.jv_outside.specs.Store.{Store}
 use Rattle.jv_rows.specs.declared.walking.Place.{Place}
 use Rattle.jv_model.specs.rows.RowGrammar.{is_node}
@@ -24,7 +23,7 @@ use Rattle.jv_volume.specs.Shape.{WholeShape, is_top, shape_of}
 use Rattle.jv_volume.specs.TypedRows.{is_entry_name}
 use Rattle.jv_links.specs.declared.ends.Ends.{Ends}
 use Rattle.jv_links.specs.declared.fates.Removed.{Removed}
-use Rattle.jv_links.specs.Removals.{HoldsFiles, TellsSustained, renamed_in}
+use Rattle.jv_links.specs.Removals.{HoldsFiles, SaysSustained, renamed_in}
 
 -- an inode that is to be moved from one entry to another
 pub record Move : Type 0 where
@@ -42,7 +41,7 @@ move_in (Err fault) = Err fault
 -- what a rename asks before it looks at its target
 abbrev pub move_asked : Tree → ℕ → List ℕ → List ℕ → How → Result Move Fault
 move_asked t sid path to how = do
-  _ ← require (is_some (get t.sessions sid)) (Stale (Session sid))
+  _ ← session_there t sid
   from ← entry_of t path
   target ← entry_of t to
   _ ← require (may_leave how from && may_be_new target) NotPermitted
@@ -109,7 +108,7 @@ renamed_with Exchange t who from source to target = do
 pub record Renames (sid : ℕ) (ready : Tree → Type 0) (before after : Store) (result : Result (Option Removed) TxFault)
     (act : Tree → Result Outcome Fault) : Type 0 where
   pub does : Transacts ready before after result (λ removed. Done) act
-  pub tells : TellsSustained sid ready before (renamed_in result) act
+  pub says : SaysSustained sid ready before (renamed_in result) act
 
 abbrev pub inode_of : Result (Option Place) TxFault → Result (Option ℕ) TxFault
 inode_of (Ok None) = Ok None

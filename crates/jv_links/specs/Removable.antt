@@ -1,8 +1,7 @@
 -- An entry that may be removed, and the readings that reach it.
-use Rattle.std.specs.Prelude.{ℕ, List, is_some, Result, Ok, Err, IfOk}
+use Rattle.std.specs.Prelude.{ℕ, List, Result, Ok, Err, IfOk}
 use Rattle.jv_model.specs.declared.fault.Fault.{Fault}
-use Rattle.jv_model.specs.declared.fault.Fault.TheVariants.{NotFound, NotPermitted, Stale}
-use Rattle.jv_model.specs.declared.fault.Gone.TheVariants.{Session}
+use Rattle.jv_model.specs.declared.fault.Fault.TheVariants.{NotFound, NotPermitted}
 use Rattle.jv_model.specs.declared.fault.TxFault.{TxFault}
 use Rattle.jv_model.specs.FiniteMap.{get}
 use Rattle.jv_model.specs.tree.Attempt.{◌>>=◌, require, some_or}
@@ -13,11 +12,12 @@ use Rattle.jv_outside.specs.Store.{Store}
 use Rattle.jv_rows.specs.Transactions.{Looks}
 use Rattle.jv_rows.specs.Walks.{HasNodeRow}
 use Rattle.jv_links.specs.declared.removing.Removable.{Removable}
+use Rattle.jv_model.specs.tree.Caller.{session_there}
 
 -- where an entry stands, and the inode that it names
 abbrev pub removable_at : Tree → ℕ → List ℕ → Result (EntryKey × ℕ) Fault
 removable_at t sid path = do
-  _ ← require (is_some (get t.sessions sid)) (Stale (Session sid))
+  _ ← session_there t sid
   place ← entry_of t path
   _ ← require (may_go place) NotPermitted
   inode ← some_or (get t.entries place) NotFound

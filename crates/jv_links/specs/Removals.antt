@@ -1,5 +1,5 @@
 -- What becomes of inodes that lose an entry.
-use Rattle.std.specs.Prelude.{◌≡◌, ℕ, ◌≤◌, Bool, true, false, ◌&&◌, not, ◌==◌, List, is_some, Option, None, Some, Result, Ok, Err, IfSome, IfOk, IsTrue}
+use Rattle.std.specs.Prelude.{◌≡◌, ℕ, ◌≤◌, Bool, false, ◌&&◌, not, ◌==◌, List, is_some, Option, None, Some, Result, Ok, Err, IfSome, IfOk, IsTrue}
 use Rattle.std.specs.List.{list_any}
 use Rattle.jv_model.specs.declared.fault.Fault.{Fault}
 use Rattle.jv_model.specs.declared.fault.TxFault.{TxFault}
@@ -19,7 +19,7 @@ use Rattle.jv_volume.specs.Whole.{Whole}
 use Rattle.jv_links.specs.declared.fates.Fate.{Fate}
 use Rattle.jv_links.specs.declared.fates.Fate.TheVariants.{Linked, Trashed, Dropped, Sustained}
 use Rattle.jv_links.specs.declared.fates.Removed.{Removed}
-pub use Rattle.jv_model.specs.script.Spelled.{has_no_zero}
+pub use Rattle.jv_model.specs.Lists.{has_no_zero}
 
 -- what a caller has open of a tree's inodes are files
 abbrev pub HoldsFiles : List ℕ → Tree → Type 0
@@ -43,16 +43,25 @@ fate_in model.Sustained = Sustained
 fate_in model.Dropped = Dropped
 
 -- the fate that a removal answers is the model's, for each tree that the rows in mind are those of
-abbrev pub TellsFate : Caller → EntryKey → ℕ → List Change → Store → Result Fate TxFault → Type 0
-TellsFate who place inode was before result = IfOk result (λ fate. (known : RowMap) → before.rows ≡ Some known
+abbrev pub SaysFate : Caller → EntryKey → ℕ → List Change → Store → Result Fate TxFault → Type 0
+SaysFate who place inode was before result = IfOk result (λ fate. (known : RowMap) → before.rows ≡ Some known
     → (bytes : ℕ → ℕ → ℕ) (t : Tree)
     → Minds known was bytes t → MayLose t who place inode → fate ≡ fate_in (model.fate_of t who place inode))
 
-abbrev pub is_kept : Fate → Bool
-is_kept Sustained = true
-is_kept Linked = false
-is_kept Trashed = false
-is_kept Dropped = false
+-- the file that a session keeps once something was removed
+abbrev pub kept_by : Fate → ℕ → Option ℕ
+kept_by Linked inode = None
+kept_by Trashed inode = None
+kept_by Dropped inode = None
+kept_by Sustained inode = Some inode
+
+abbrev pub kept_of : Option Removed → Option ℕ
+kept_of None = None
+kept_of (Some removed) = kept_by removed.fate removed.inode
+
+abbrev pub is_inode : Option ℕ → ℕ → Bool
+is_inode None inode = false
+is_inode (Some kept) inode = kept == inode
 
 -- what an unlink removed, and what a rename replaced, where they were made
 abbrev pub removed_in : Result Removed TxFault → Option (Option Removed)
@@ -63,17 +72,12 @@ abbrev pub renamed_in : Result (Option Removed) TxFault → Option (Option Remov
 renamed_in (Ok removed) = Some removed
 renamed_in (Err fault) = None
 
--- whether an inode was removed and the session keeps it
-abbrev pub keeps_removed : Option Removed → ℕ → Bool
-keeps_removed None inode = false
-keeps_removed (Some removed) inode = is_kept removed.fate && (removed.inode == inode)
-
 -- Over whole rows, whose tree is ready, what was removed says which file the session keeps from then on.
-abbrev pub TellsSustained : ℕ → (Tree → Type 0) → Store → Option (Option Removed) → (Tree → Result Outcome Fault)
+abbrev pub SaysSustained : ℕ → (Tree → Type 0) → Store → Option (Option Removed) → (Tree → Result Outcome Fault)
     → Type 0
-TellsSustained sid ready before result act = IfSome result (λ removed. (known : RowMap) → before.rows ≡ Some known
+SaysSustained sid ready before result act = IfSome result (λ removed. (known : RowMap) → before.rows ≡ Some known
     → Whole (typed known) → (bytes : ℕ → ℕ → ℕ)
     → ready (tree_of bytes (typed known)) → (inode : ℕ)
     → (is_sustained (outcome (tree_of bytes (typed known)) (act (tree_of bytes (typed known)))).tree sid inode && not
     (is_sustained (tree_of bytes (typed known)) sid inode))
-    ≡ keeps_removed removed inode)
+    ≡ is_inode (kept_of removed) inode)

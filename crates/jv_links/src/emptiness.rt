@@ -3,6 +3,7 @@ ghost use Rattle.std.specs.Prelude.{Ok};
 ghost use Rattle.jv_model.specs.tree.Tree as model;
 ghost use Rattle.jv_rows.specs.Transactions.{Looks};
 
+use jv_model::tables::TABLE_OF_EDGES;
 use jv_model::{RowKey, Sequence, TxFault};
 use jv_outside::Keeper;
 use jv_rows::scan_rows;
@@ -17,11 +18,11 @@ pub(crate) fn has_entries<K: Keeper>(alloc: Global, k: &mut K, dir: u64) -> Resu
     ensures { Looks (K.seen k.old) (K.seen k.new) result (λ t. Ok (model.has_entries t dir)) }
 {
     let start = RowKey {
-        tab: 3,
+        tab: TABLE_OF_EDGES,
         a: dir,
         b: Sequence::new(alloc),
     };
-    let page = scan_rows(alloc, k, 3, Some(&start), 1)?;
+    let page = scan_rows(alloc, k, TABLE_OF_EDGES, Some(&start), 1)?;
     match page.as_slice() {
         [] => Ok(false),
         [(key, _), ..] => Ok(key.a == dir),

@@ -3,7 +3,7 @@ ghost use Rattle.std.specs.Prelude.{◌≡◌, Ok};
 ghost use Rattle.jv_changes.specs.Drafting.{Drafting};
 ghost use Rattle.jv_changes.specs.Ready.{IsThere};
 ghost use Rattle.jv_links.specs.Losses.{IsToTrash};
-ghost use Rattle.jv_links.specs.Removals.{MayLose, TellsFate};
+ghost use Rattle.jv_links.specs.Removals.{MayLose, SaysFate};
 ghost use Rattle.jv_model.specs.tree.Caller.{Caller};
 ghost use Rattle.jv_model.specs.tree.Removing as model;
 ghost use Rattle.jv_model.specs.tree.Trash.{trashed};
@@ -51,9 +51,9 @@ fn fate_of<K: Keeper>(
         → IsFor who.entry.now caller
         → Drafting (λ t. MayLose t caller place inode) draft.now draft.now
         (K.seen k.old) (K.seen k.new) result (λ t. Ok t) }
-    ensures tells { (caller : Caller) (place : EntryKey) → place.dir ≡ dir
+    ensures says { (caller : Caller) (place : EntryKey) → place.dir ≡ dir
         → IsFor who.entry.now caller
-        → TellsFate caller place inode draft.now (K.seen k.old) result }
+        → SaysFate caller place inode draft.now (K.seen k.old) result }
 {
     let Some(node) = draft.node(k, inode)? else {
         return Err(TxFault::Refused(Fault::Stale(Gone::Node(inode))));
@@ -121,8 +121,8 @@ pub fn remove_entry<K: Keeper>(
         → Drafting (λ t. MayLose t caller (record { dir = dir; name = name.now }) inode)
         draft.old draft.new (K.seen k.old) (K.seen k.new) result
         (λ t. Ok (model.remove_entry t caller (record { dir = dir; name = name.now }) inode)) }
-    ensures tells { (caller : Caller) → IsFor who.entry.now caller
-        → TellsFate caller (record { dir = dir; name = name.now }) inode draft.old
+    ensures says { (caller : Caller) → IsFor who.entry.now caller
+        → SaysFate caller (record { dir = dir; name = name.now }) inode draft.old
         (K.seen k.old) result }
 {
     let fate = fate_of(alloc, draft, k, who, dir, inode)?;

@@ -32,7 +32,7 @@ fn find_linkable<K: Keeper>(alloc: Global, k: &mut K, sid: u64, path: &Path) -> 
     Ok(node.inode)
 }
 
-// The links of a directory as its row has them, which are never too many: the proof wants the bound of their type, as an entry of
+// The links of a directory as its row has them, which are never too many: the proof needs the bound of their type, as an entry of
 // a file or a symlink adds none to them.
 fn stored_links(links: u32) -> u32
     ensures is { result ≡ links }
@@ -41,13 +41,13 @@ fn stored_links(links: u32) -> u32
     links
 }
 
-/// Adds an entry of a file or a symlink, which isn't followed.
+/// Adds an entry of a file or a symlink, which isn't followed. POSIX.1-2017, linkat.
 ///
 /// # Errors
 ///
-/// Stale where the session is gone, a walk's to the file or the symlink, NotPermitted for directories and in the trash, as of
-/// [`new_place`] for the new entry, and NoSpace where the link count is full. Bad for a row that is malformed or names none,
-/// Failed if the keeper failed, Memory.
+/// Stale where the session is gone, a walk's to the file or the symlink, NotPermitted for directories and in the trash,
+/// as of [`new_place`] for the new entry, and NoSpace where the link count is full. Bad for a row that is malformed or
+/// names none, Failed if the keeper failed, Memory. On error no row has changed.
 pub fn link<K: Keeper>(
     alloc: Global,
     k: &mut K,

@@ -1,7 +1,7 @@
 //! Entries removed, by POSIX.1-2017's "unlinkat" and "rmdir".
 ghost use Rattle.std.specs.Prelude.{◌≡◌, IsTrue};
 ghost use Rattle.jv_links.specs.Removable.{ComesToRemovable, removable_at};
-ghost use Rattle.jv_links.specs.Removals.{HoldsFiles, TellsSustained, removed_in};
+ghost use Rattle.jv_links.specs.Removals.{HoldsFiles, SaysSustained, removed_in};
 ghost use Rattle.jv_model.specs.declared.op.Reply.TheVariants.{Done};
 ghost use Rattle.jv_model.specs.tree.Caller.{Caller};
 ghost use Rattle.jv_model.specs.tree.Removing as model;
@@ -53,12 +53,13 @@ fn find_removable<K: Keeper>(
     })
 }
 
-/// Removes the entry of a file or a symlink, and returns what became of that.
+/// Removes the entry of a file or a symlink, and returns what became of that. POSIX.1-2017, unlinkat; JuiceFS, Trash.
 ///
 /// # Errors
 ///
-/// Stale where the session is gone, a walk's to the entry's directory, NotPermitted for `.trash`, its hours and directories, and
-/// NotFound where there is no such entry. Bad for a row that is malformed or names none, Failed if the keeper failed, Memory.
+/// Stale where the session is gone, a walk's to the entry's directory, NotPermitted for `.trash`, its hours and
+/// directories, and NotFound where there is no such entry. Bad for a row that is malformed or names none, Failed if the
+/// keeper failed, Memory. On error no row has changed.
 pub fn unlink<K: Keeper>(
     alloc: Global,
     k: &mut K,
@@ -68,8 +69,8 @@ pub fn unlink<K: Keeper>(
     ensures does { (caller : Caller) → IsFor who.entry.now caller
         → Transacts (HoldsFiles caller.held) (K.seen k.old) (K.seen k.new)
         result (λ removed. Done) (λ t. model.unlink t caller path.now) }
-    ensures tells { (caller : Caller) → IsFor who.entry.now caller
-        → TellsSustained caller.sid (HoldsFiles caller.held) (K.seen k.old) (removed_in result)
+    ensures says { (caller : Caller) → IsFor who.entry.now caller
+        → SaysSustained caller.sid (HoldsFiles caller.held) (K.seen k.old) (removed_in result)
         (λ t. model.unlink t caller path.now) }
 {
     let entry = find_removable(alloc, k, who.sid, path)?;
@@ -87,7 +88,7 @@ pub fn unlink<K: Keeper>(
     }
 }
 
-/// Removes an empty directory.
+/// Removes an empty directory. POSIX.1-2017, unlinkat with AT_REMOVEDIR.
 ///
 /// # Errors
 ///

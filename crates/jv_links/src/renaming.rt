@@ -1,7 +1,7 @@
 //! Entries renamed, by POSIX.1-2017's "renameat" and Linux's "renameat2".
 ghost use Rattle.std.specs.Prelude.{◌≡◌, IsTrue, None, Some};
 ghost use Rattle.jv_links.specs.Moves.{EndsStand, IsFreeMove, IsOverMove, Renames, Stands, place_of, renamed_with};
-ghost use Rattle.jv_links.specs.Removals.{HoldsFiles, TellsSustained, has_no_zero, renamed_in};
+ghost use Rattle.jv_links.specs.Removals.{HoldsFiles, SaysSustained, has_no_zero, renamed_in};
 ghost use Rattle.jv_model.specs.declared.op.Reply.TheVariants.{Done};
 ghost use Rattle.jv_model.specs.tree.Caller.{Caller};
 ghost use Rattle.jv_model.specs.tree.Renaming as model;
@@ -17,8 +17,17 @@ use jv_outside::Keeper;
 use jv_rows::Place;
 use std::alloc::Global;
 
-/// Renames an entry, over another, only where there is none, or in exchange with it. Returns what became of a file or a symlink
-/// that it replaced.
+/// Renames an entry, over another, only where there is none, or in exchange with it. Returns what became of a file or a
+/// symlink that it replaced. POSIX.1-2017, renameat; Linux, renameat2.
+///
+/// # Errors
+///
+/// Stale where the session is gone; then as of [`jv_rows::walk_to_entry`] for one path and the other; NotPermitted for
+/// `.trash` and its hours, for a target in the trash, and for an exchange with an entry of it; NotFound where no entry
+/// is at `path`, or for an exchange at `to`; AlreadyExists where one is at `to` and none may be. Then Invalid for a
+/// directory that would come into itself, IsADirectory, NotADirectory or DirectoryNotEmpty for what can't replace the
+/// other, and NoSpace where a link count is at its greatest number. Bad for a row that is malformed or names none,
+/// Failed if the keeper failed, Memory. On error no row has changed.
 pub fn rename<K: Keeper>(
     alloc: Global,
     k: &mut K,
@@ -31,8 +40,8 @@ pub fn rename<K: Keeper>(
     ensures does { (caller : Caller) → IsFor who.entry.now caller
         → Transacts (HoldsFiles caller.held) (K.seen k.old) (K.seen k.new)
         result (λ removed. Done) (λ t. model.rename t caller path.now to.now how) }
-    ensures tells { (caller : Caller) → IsFor who.entry.now caller
-        → TellsSustained caller.sid (HoldsFiles caller.held) (K.seen k.old) (renamed_in result)
+    ensures says { (caller : Caller) → IsFor who.entry.now caller
+        → SaysSustained caller.sid (HoldsFiles caller.held) (K.seen k.old) (renamed_in result)
         (λ t. model.rename t caller path.now to.now how) }
 {
     let ends = find_ends(alloc, k, who.sid, path, to, how)?;

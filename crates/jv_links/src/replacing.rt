@@ -2,7 +2,7 @@
 ghost use Rattle.std.specs.Prelude.{◌≡◌, ◌≢◌, ◌==◌, Ok};
 ghost use Rattle.jv_changes.specs.Drafting.{Drafting};
 ghost use Rattle.jv_links.specs.Moves.{EndsStand, IsOverMove, Renames, Stands, place_of};
-ghost use Rattle.jv_links.specs.Replacements.{MayClear, TellsCleared, may_replace as asked};
+ghost use Rattle.jv_links.specs.Replacements.{MayClear, SaysCleared, may_replace as asked};
 ghost use Rattle.jv_model.specs.declared.basics.How.{How};
 ghost use Rattle.jv_model.specs.tree.Caller.{Caller};
 ghost use Rattle.jv_model.specs.tree.Renaming as model;
@@ -62,8 +62,8 @@ fn remove_target<K: Keeper>(
         → Drafting (λ t. MayClear t caller (place_of to.now) other.now.inode
         (other.now.node.kind == 2)) draft.old draft.new (K.seen k.old) (K.seen k.new) result
         (λ t. Ok (model.without_target t caller (place_of to.now) other.now.inode)) }
-    ensures tells { (caller : Caller) → IsFor who.entry.now caller
-        → TellsCleared caller (place_of to.now) other.now.inode (other.now.node.kind == 2)
+    ensures says { (caller : Caller) → IsFor who.entry.now caller
+        → SaysCleared caller (place_of to.now) other.now.inode (other.now.node.kind == 2)
         draft.old (K.seen k.old) result }
 {
     let inode = other.inode;

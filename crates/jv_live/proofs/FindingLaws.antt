@@ -6,6 +6,7 @@ use Rattle.std.specs.Option.{option_map}
 use Rattle.std.specs.declared.cmp.Ordering.TheVariants.{Less}
 use Rattle.std.specs.Ordering.{is_lt}
 use Rattle.std.proofs.lemmas.Bool.{cases_order, ltb-true, ltb-false}
+use Rattle.jv_model.specs.declared.tables.TheConstants.{TABLE_OF_SUSTAINED}
 use Rattle.jv_model.specs.declared.fault.Fault.{Fault}
 use Rattle.jv_model.specs.declared.fault.RowFault.{RowFault}
 use Rattle.jv_model.specs.declared.fault.TxFault.TheVariants.{Rows as OfRows}
@@ -14,6 +15,7 @@ use Rattle.jv_model.specs.declared.row.Row.TheVariants.{OfSustained}
 use Rattle.jv_model.specs.declared.row.RowKey.{RowKey}
 use Rattle.jv_model.specs.FiniteMap.{get}
 use Rattle.jv_model.proofs.FiniteMapLaws.{first_where-found}
+use Rattle.jv_model.proofs.TestLaws.{known_is}
 use Rattle.jv_model.specs.rows.RowFields.{long}
 use Rattle.jv_model.specs.rows.RowGrammar.{row_of, sustained_of}
 use Rattle.jv_model.specs.rows.RowKeys.{RowMap, row_key, row_cmp}
@@ -115,18 +117,15 @@ of_first sid after key row inode h = by_sid (key.a == sid) refl (number_in key.b
     by_sid true same (Some n) spells e = by_past same n spells (is_past after n) refl e
     by_sid false same o spells e = absurd (cc)
 
-some_of : (P : ℕ → Type 0) (o : Option ℕ) (n : ℕ) → o ≡ Some n → IfSome o P → P n
-some_of P o n is h = subst (λ (x : Option ℕ). IfSome x P) is h
-
 -- the key of a row of the table is that of the file that it spells
-key_is : (sid : ℕ) (key : RowKey) (n : ℕ) → key.tab ≡ 7 → key.a ≡ sid → key.b ≡ long n → sustained_key sid n ≡ key
-key_is sid key n tab number spelled = same_key_parts key 7 sid (long n) (sym tab) (sym number) (sym spelled)
+key_is : (sid : ℕ) (key : RowKey) (n : ℕ) → key.tab ≡ TABLE_OF_SUSTAINED → key.a ≡ sid → key.b ≡ long n → sustained_key sid n ≡ key
+key_is sid key n tab number spelled = same_key_parts key TABLE_OF_SUSTAINED sid (long n) (sym tab) (sym number) (sym spelled)
 
 sustained_is : (o : Option (Unit {0})) (row : Row) → option_map (λ unit. OfSustained) o ≡ Some row → row ≡ OfSustained
 sustained_is None row h = absurd (cc)
 sustained_is (Some unit) row h = cc
 
-last_tab : (sid : ℕ) (after : Option ℕ) → (last_key sid after).tab ≡ 7
+last_tab : (sid : ℕ) (after : Option ℕ) → (last_key sid after).tab ≡ TABLE_OF_SUSTAINED
 last_tab sid None = refl
 last_tab sid (Some inode) = refl
 
@@ -135,7 +134,7 @@ last_number sid None = refl
 last_number sid (Some inode) = refl
 
 -- where a row of the table has its key, eight bytes spell its file
-eight_bytes : (key : RowKey) → key.tab ≡ 7 → IsTrue (is_key key) → number_in key.b ≡ Some (from_be_bytes w64 key.b)
+eight_bytes : (key : RowKey) → key.tab ≡ TABLE_OF_SUSTAINED → IsTrue (is_key key) → number_in key.b ≡ Some (from_be_bytes w64 key.b)
 eight_bytes key tab is = ap (λ b. if b then Some (from_be_bytes w64 key.b) else None)
     (sym (ap (λ (t : ℕ). is_key (record { tab = t; a = key.a; b = key.b })) tab) ∙ is)
 
@@ -148,14 +147,14 @@ module _ (sid : ℕ) (after : Option ℕ) (before now : Store) (list : List (Row
   read known is = reads-one 7 last known list (of_known (λ known. rows_read (rows_after known 7 (Some last) 1) ≡ Ok list) before.rows known is s.found)
 
   module _ (known : RowMap) (e : RowKey × List ℕ) (r : IsRead 7 last known list e) where
-    table : (e.0.tab ≡ 7) × (row_cmp last e.0 ≡ Less)
-    table = tab_of 7 last e.0 e.1 (first_where-found row_key (passes 7 last) known e r.first).passes
+    table : (e.0.tab ≡ TABLE_OF_SUSTAINED) × (row_cmp last e.0 ≡ Less)
+    table = tab_of TABLE_OF_SUSTAINED last e.0 e.1 (first_where-found row_key (passes TABLE_OF_SUSTAINED last) known e r.first).passes
 
     there : get known e.0 ≡ Some e.1
-    there = (first_where-found row_key (passes 7 last) known e r.first).there
+    there = (first_where-found row_key (passes TABLE_OF_SUSTAINED last) known e r.first).there
 
     bytes_are : (n : ℕ) → number_in e.0.b ≡ Some n → e.0.b ≡ long n
-    bytes_are n spells = some_of (λ number. e.0.b ≡ long number) (number_in e.0.b) n spells (subst IsSpelled r.list_is spelled)
+    bytes_are n spells = known_is (number_in e.0.b) n (λ number. e.0.b ≡ long number) spells (subst IsSpelled r.list_is spelled)
 
     row_is : r.row ≡ OfSustained
     row_is = sustained_is (sustained_of e.1) r.row (sym (sustained_row e.1) ∙ ap (λ (t : ℕ). row_of t e.1) (sym table.0) ∙ r.read)
@@ -242,10 +241,10 @@ module _ (sid : ℕ) (after : Option ℕ) (before now : Store) (list : List (Row
 
   none_by : (known : RowMap) → Whole (typed known) → (j : ℕ) → j < 2 ^ 64 → is_past after j ≡ true → is_ahead found j ≡ true → (y : List ℕ)
       → get known (sustained_key sid j) ≡ Some y → ReadsOne 7 last known list → ⊥
-  none_by known whole j small past ahead y stored (NoRow first none) = first_where-none row_key (passes 7 last) known (sustained_key sid j) y first
+  none_by known whole j small past ahead y stored (NoRow first none) = first_where-none row_key (passes TABLE_OF_SUSTAINED last) known (sustained_key sid j) y first
       stored (ap is_lt (key-past sid after j small past))
   none_by known whole j small past ahead y stored (OneRow e r) = not_between known e r whole j small past ahead
-      (first_where-least row_key (passes 7 last) known e (sustained_key sid j) y r.first stored (ap is_lt (key-past sid after j small past)))
+      (first_where-least row_key (passes TABLE_OF_SUSTAINED last) known e (sustained_key sid j) y r.first stored (ap is_lt (key-past sid after j small past)))
 
   keeps_none : (known : RowMap) → before.rows ≡ Some known → Whole (typed known) → KeepsNone (typed known) sid after found
   keeps_none known is whole j small past ahead = by_stored (get known (sustained_key sid j)) refl

@@ -17,7 +17,7 @@ use Rattle.jv_model.specs.declared.row.RowKey.{RowKey}
 use Rattle.jv_model.specs.declared.row.Row.TheVariants.{OfNode, OfSustained}
 use Rattle.jv_model.specs.FiniteMap.{get}
 use Rattle.jv_model.specs.rows.RowGrammar.{is_node, node_bytes, node_of}
-use Rattle.jv_model.specs.rows.RowKeys.{RowMap, row_key}
+use Rattle.jv_model.specs.rows.RowKeys.{RowMap, row_key, is_key_of}
 use Rattle.jv_model.specs.rows.RowPlaces.{node_key, sustained_key}
 use Rattle.jv_model.specs.tree.Attempt.{◌>>=◌}
 use Rattle.jv_model.specs.tree.Caller.{Caller, Outcome, done}
@@ -30,7 +30,7 @@ use Rattle.jv_outside.specs.Store.{Store, Commits}
 use Rattle.jv_rows.specs.Drafts.{drafted, cell, Sees}
 use Rattle.jv_rows.specs.Readings.{ReadsRow}
 use Rattle.jv_rows.specs.Tables.{node_row}
-use Rattle.jv_rows.specs.Transactions.{IsFor, IsBad, NamesNone, is_key_of, Looks, Transacts, Always}
+use Rattle.jv_rows.specs.Transactions.{IsFor, IsBad, NamesNone, Looks, Transacts, Always}
 use Rattle.jv_rows.proofs.DraftLaws.{sees_stored}
 use Rattle.jv_rows.proofs.NeedingLaws.{session_is}
 use Rattle.jv_rows.proofs.TransactionLaws.{of_known, if_known, Past, past-start, past-as, past-calm, past-looks, past-stops, past-fails, fails-looks, fails-sees, stands-sees, transacts-refused, transacts-answers, none_kept}

@@ -8,6 +8,7 @@ use Rattle.jv_model.specs.FiniteMap.{get, alter}
 use Rattle.jv_model.specs.rows.RowKeys.{RowMap}
 use Rattle.jv_model.specs.rows.RowPlaces.{counters_key, session_key, sustained_key}
 use Rattle.jv_model.specs.tree.Tree.{Tree}
+use Rattle.jv_model.proofs.TestLaws.{some_same}
 use Rattle.jv_outside.specs.declared.batch.Change.{Change}
 use Rattle.jv_outside.specs.Store.{Store}
 use Rattle.jv_rows.specs.Drafts.{drafted}
@@ -32,10 +33,7 @@ use Rattle.jv_live.specs.Steps.{keeping_session, ending_session, letting_go}
 
 -- a row that is a row is one at its key, whatever it is
 well_put : (q : RowKey) (good x : Cell) → IsRowAt q good → Some good ≡ Some x → IsRowAt q x
-well_put q good x is e = subst (IsRowAt q) (same_some good x e) is
-  where
-    same_some : (a b : Cell) → Some a ≡ Some b → a ≡ b
-    same_some a b h = cc
+well_put q good x is e = subst (IsRowAt q) (some_same good x e) is
 
 -- a change at a key, by what it does to rows
 module _ (known : RowMap) (was now : List Change) (bytes : ℕ → ℕ → ℕ) (t : Tree) (m : Minds known was bytes t) (q : RowKey) (stands : Option Cell)

@@ -2,6 +2,7 @@
 use Rattle.std.proofs.Common.{◌≡◌, ℕ, ◌+◌, ◌<◌, ◌≤◌, true, false, List, [], Option, None, Some, Result, Ok, Err, refl, sym, ap, subst, ◌∙◌, arith}
 use Rattle.std.specs.Prelude.{◌&&◌, nat_le, nat_lt}
 use Rattle.std.proofs.lemmas.Bool.{lt-ltb, le-ltb, leb-true}
+use Rattle.jv_model.specs.declared.limits.TheConstants.{FULL_COUNT}
 use Rattle.jv_model.specs.declared.lifetimes.TheConstants.{SESSION_LIFE}
 use Rattle.jv_model.specs.declared.basics.Who.{Who}
 use Rattle.jv_model.specs.declared.fault.Fault.{Fault}
@@ -22,7 +23,7 @@ use Rattle.jv_model.specs.rows.RowPlaces.{counters_key, session_key}
 use Rattle.jv_model.specs.tree.Attempt.{◌>>=◌, require, some_or}
 use Rattle.jv_model.specs.tree.Caller.{Caller, Outcome, answered, done}
 use Rattle.jv_model.specs.tree.Sessions.{mount, with_session, beat, kept_alive}
-use Rattle.jv_model.specs.tree.Tree.{Tree, SessionEntry, full_count}
+use Rattle.jv_model.specs.tree.Tree.{Tree, SessionEntry}
 use Rattle.jv_outside.specs.declared.batch.Change.{Change}
 use Rattle.jv_outside.specs.Store.{Store, Commits}
 use Rattle.jv_rows.specs.Drafts.{Sees, Needs}
@@ -52,11 +53,6 @@ pub fresh-steps : (before middle : Store) (changes : List Change) → changes �
 fresh-steps before middle changes none act rest p =
     subst (λ ch. PastSteps Always before middle ch (λ t. t) act rest) (sym none) (steps-start Always before middle act rest p)
 
--- what isn't there at all
-pub absent : {A : Type 0} (found : Option A) → ((x : A) → found ≡ Some x → ⊥) → found ≡ None
-absent None none = refl
-absent (Some x) none = absurd (none x refl)
-
 -- a step that was made wasn't refused
 pub not_made : {A : Type 0} (t : Tree) (refused : Fault) → ◌≡◌ {A = Result Tree Fault} (Ok t) (Err refused) → A
 not_made t refused e = absurd (cc)
@@ -74,7 +70,7 @@ steps-fell before middle after was now so_far step reply act rest p fault d =
 -- ---- mount
 
 mount-is : (t : Tree) (who : Caller) → mount t who
-    ≡ (require (nat_lt t.next_session full_count) NoSpace >>= (λ _. answered (with_session t who) (SessionMade t.next_session)))
+    ≡ (require (nat_lt t.next_session FULL_COUNT) NoSpace >>= (λ _. answered (with_session t who) (SessionMade t.next_session)))
 unfolding mount
 mount-is t who = refl
 
@@ -110,14 +106,14 @@ module _ (caller : Caller) (before middle : Store) (changes : List Change) (none
         (ap (λ o. counters_in (row_in o)) (counters_there known is))).next_session
 
     -- no number is left
-    pub mount-full : full_count ≤ c.session → Transacts {A = ℕ} Always before middle (Err (Refused NoSpace)) made mounts
+    pub mount-full : FULL_COUNT ≤ c.session → Transacts {A = ℕ} Always before middle (Err (Refused NoSpace)) made mounts
     mount-full full = transacts-refused Always before middle made mounts (Refused NoSpace) (past-refuses before middle mounts NoSpace
         (past-as before middle middle mounts mounts counted (λ t. Err NoSpace) (λ known is whole bytes.
         let t = tree_of bytes (typed known) in
         mount-is t caller ∙ ap (λ b. require b NoSpace >>= (λ _. answered (with_session t caller) (SessionMade t.next_session)))
-        (ap (λ k. nat_lt k full_count) (next_is known is whole bytes) ∙ le-ltb c.session full_count full))))
+        (ap (λ k. nat_lt k FULL_COUNT) (next_is known is whole bytes) ∙ le-ltb c.session FULL_COUNT full))))
 
-    module _ (room : c.session < full_count) (d1 d2 : List Change) (one : Drafted counters_key
+    module _ (room : c.session < FULL_COUNT) (d1 d2 : List Change) (one : Drafted counters_key
         (Some (Ok (OfCounters (record c { session = c.session + 1 })))) changes d1)
         (session : Session) (session_is : session ≡ record { client = caller.client; expiry = caller.now + SESSION_LIFE }) where
       abbrev risen : Tree → Tree
@@ -161,7 +157,7 @@ module _ (caller : Caller) (before middle : Store) (changes : List Change) (none
           let t = tree_of bytes (typed known) in
           let next = next_is known is whole bytes in
           mount-is t caller ∙ ap (λ b. require b NoSpace >>= (λ _. answered (with_session t caller) (SessionMade t.next_session)))
-          (ap (λ k. nat_lt k full_count) next ∙ lt-ltb c.session full_count room)
+          (ap (λ k. nat_lt k FULL_COUNT) next ∙ lt-ltb c.session FULL_COUNT room)
           ∙ (λ i. answered (tree_is t next i) (SessionMade (next i))))
           (λ known is whole bytes ready.
           let t = tree_of bytes (typed known) in

@@ -1,6 +1,7 @@
 -- What changes of a draft do to a tree: sessions that come and go, and files that a session lets go.
 use Rattle.std.specs.Prelude.{◌≡◌, ℕ, ◌<◌, ◌^◌, Bool, true, false, ◌==◌, nat_lt, if◌then◌else◌, List, [], ◌∷◌, length, Option, None, Some, Result, Ok, IfOk, IfSome}
 use Rattle.std.specs.Int.{w64, from_be_bytes}
+use Rattle.jv_model.specs.declared.tables.TheConstants.{TABLE_OF_SUSTAINED}
 use Rattle.jv_model.specs.declared.fault.TxFault.{TxFault}
 use Rattle.jv_model.specs.declared.row.Row.{Row}
 use Rattle.jv_model.specs.declared.row.RowKey.{RowKey}
@@ -39,7 +40,7 @@ HasPair store sid inode = IfSome store.rows (λ known. get (typed known) (sustai
 
 -- the key of a session's file, or one below the keys of all its files
 abbrev pub last_key : ℕ → Option ℕ → RowKey
-last_key sid None = record { tab = 7; a = sid; b = [] }
+last_key sid None = record { tab = TABLE_OF_SUSTAINED; a = sid; b = [] }
 last_key sid (Some inode) = sustained_key sid inode
 
 -- the number that eight bytes spell

@@ -31,12 +31,13 @@ fn kept_node<K: Keeper>(alloc: Global, k: &mut K, sid: u64, inode: u64) -> Resul
     Ok(())
 }
 
-/// Drops a file without entries, if the caller's session keeps it.
+/// Drops a file without entries, if the caller's session keeps it. POSIX.1-2017, close: a file without links goes with
+/// its last descriptor. JuiceFS, Architecture: sessions.
 ///
 /// # Errors
 ///
 /// Stale where the session is gone. Bad where a row that is read is malformed, or the pair names a node that isn't
-/// there. Failed if the keeper failed. Memory.
+/// there. Failed if the keeper failed. Memory. On error no row has changed.
 pub fn release<K: Keeper>(alloc: Global, k: &mut K, who: &Who, inode: u64) -> Result<(), TxFault>
     ensures { (caller : Caller) → IsFor who.entry.now caller → caller.inode ≡ inode
         → Transacts Always (K.seen k.old) (K.seen k.new)
@@ -56,12 +57,12 @@ pub fn release<K: Keeper>(alloc: Global, k: &mut K, who: &Who, inode: u64) -> Re
     }
 }
 
-/// Ends the caller's session, and drops the files that it keeps.
+/// Ends the caller's session, and drops the files that it keeps. JuiceFS, Architecture: sessions.
 ///
 /// # Errors
 ///
-/// Stale where the session is gone. Bad where a row that is read is malformed, or a pair names a node that isn't
-/// there. Failed if the keeper failed. Memory.
+/// Stale where the session is gone. Bad where a row that is read is malformed, or a pair names a node that isn't there.
+/// Failed if the keeper failed. Memory. On error no row has changed.
 pub fn close_session<K: Keeper>(alloc: Global, k: &mut K, who: &Who) -> Result<(), TxFault>
     ensures { (caller : Caller) → IsFor who.entry.now caller
         → Transacts Always (K.seen k.old) (K.seen k.new)

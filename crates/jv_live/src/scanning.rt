@@ -3,6 +3,7 @@ ghost use Rattle.std.specs.Prelude.{◌≡◌, IfOk, IfSome};
 ghost use Rattle.jv_live.specs.Steps.{last_key, number_in, first_kept, IsSpelled, FindsKept};
 ghost use Rattle.jv_model.specs.rows.RowFields.{long};
 
+use jv_model::tables::TABLE_OF_SUSTAINED;
 use jv_model::{Row, RowKey, Sequence, TxFault};
 use jv_outside::Keeper;
 use jv_rows::{key_of_sustained, scan_rows};
@@ -15,7 +16,7 @@ fn key_after(alloc: Global, sid: u64, after: Option<u64>) -> Result<RowKey, Allo
     match after {
         Some(inode) => key_of_sustained(alloc, sid, inode),
         None => Ok(RowKey {
-            tab: 7,
+            tab: TABLE_OF_SUSTAINED,
             a: sid,
             b: Sequence::new(alloc),
         }),
@@ -68,6 +69,6 @@ pub(crate) fn next_kept<K: Keeper>(
     ensures { FindsKept sid after (K.seen k.old) (K.seen k.new) result }
 {
     let last = key_after(alloc, sid, after)?;
-    let rows = scan_rows(alloc, k, 7, Some(&last), 1)?;
+    let rows = scan_rows(alloc, k, TABLE_OF_SUSTAINED, Some(&last), 1)?;
     Ok(first_in(sid, after, rows.as_slice()))
 }

@@ -14,12 +14,13 @@ use jv_outside::Keeper;
 use jv_rows::{Draft, needed_counters};
 use std::alloc::Global;
 
-/// Makes the next session, which is the client's and lasts 60 seconds, and returns its number.
+/// Makes the next session, which is the client's and lasts 60 seconds, and returns its number. JuiceFS, Architecture:
+/// sessions.
 ///
 /// # Errors
 ///
-/// NoSpace where the number of sessions is at its greatest. Bad where the counters are malformed or absent. Failed
-/// if the keeper failed. Memory.
+/// NoSpace where the number of sessions is at its greatest. Bad where the counters are malformed or absent. Failed if
+/// the keeper failed. Memory. On error no row has changed.
 pub fn mount<K: Keeper>(
     alloc: Global,
     k: &mut K,
@@ -52,11 +53,12 @@ pub fn mount<K: Keeper>(
     }
 }
 
-/// Keeps the caller's session alive for 60 seconds from the moment on.
+/// Keeps the caller's session alive for 60 seconds from the moment on. JuiceFS, Architecture: sessions.
 ///
 /// # Errors
 ///
-/// Stale where the session is gone. Bad where its row is malformed. Failed if the keeper failed. Memory.
+/// Stale where the session is gone. Bad where its row is malformed. Failed if the keeper failed. Memory. On error no
+/// row has changed.
 pub fn beat<K: Keeper>(alloc: Global, k: &mut K, who: &Who) -> Result<(), TxFault>
     ensures { (caller : Caller) → IsFor who.entry.now caller
         → Transacts Always (K.seen k.old) (K.seen k.new)

@@ -1,6 +1,5 @@
 -- A transaction of an operation is that of the call which makes it, and its answer says what that returned.
-use Rattle.std.proofs.Common.{◌≡◌, ℕ, false, ◌&&◌, List, Option, None, Some, Result, Ok, Err, refl, sym, subst, ◌∙◌}
-use Rattle.std.specs.Prelude.{◌==◌}
+use Rattle.std.proofs.Common.{◌≡◌, ℕ, false, List, Option, Some, Result, Ok, Err, refl, sym, subst}
 use Rattle.jv_model.specs.declared.basics.How.{How}
 use Rattle.jv_model.specs.declared.fault.Fault.{Fault}
 use Rattle.jv_model.specs.declared.fault.RowFault.TheVariants.{Bad, Failed, Memory}
@@ -17,15 +16,14 @@ use Rattle.jv_model.specs.tree.Caller.{Caller, Outcome, outcome}
 use Rattle.jv_model.specs.tree.Removing.{unlink}
 use Rattle.jv_model.specs.tree.Renaming.{rename}
 use Rattle.jv_outside.specs.Store.{Store}
+use Rattle.jv_model.specs.journal.State.{is_refused}
 use Rattle.jv_rows.specs.Transactions.{Landed, Lands, Transacts, Always}
 use Rattle.jv_volume.specs.TypedRows.{typed}
 use Rattle.jv_volume.specs.TreeOf.{tree_of}
-use Rattle.jv_links.specs.declared.fates.Fate.{Fate}
-use Rattle.jv_links.specs.declared.fates.Fate.TheVariants.{Linked, Trashed, Dropped, Sustained}
 use Rattle.jv_links.specs.declared.fates.Removed.{Removed}
-use Rattle.jv_links.specs.Removals.{HoldsFiles, TellsSustained, removed_in, renamed_in, keeps_removed, is_kept}
+use Rattle.jv_links.specs.Removals.{HoldsFiles, SaysSustained, kept_of, removed_in, renamed_in}
 use Rattle.jv_metadata.specs.declared.answers.Answer.{Answer}
-use Rattle.jv_metadata.specs.Attempts.{AnswersPlainly, mapped, kept_of, kept_by, is_inode, is_refusal, attempt, TellsKept}
+use Rattle.jv_metadata.specs.Attempts.{AnswersPlainly, mapped, attempt, SaysKept}
 
 -- what the tree does for an operation is its transaction
 pub tree_act-attempt : (t : Tree) (who : Caller) (o : Op) → tree_act t who o ≡ outcome t (attempt t who o)
@@ -103,43 +101,33 @@ module _ {A : Type 0} (held : List ℕ) (before after : Store) (reply : A → Re
   transacts-always made t result is next acts = transacts-mapped Always (HoldsFiles held) before after reply act f (λ u l. tt) same made t result is next acts
 
 -- its answer is no refusal
-pub answers-mapped : {A : Type 0} (f : A → Answer) → ((x : A) → is_refusal (f x).reply ≡ false) → (made : Result A TxFault)
+pub answers-mapped : {A : Type 0} (f : A → Answer) → ((x : A) → is_refused (f x).reply ≡ false) → (made : Result A TxFault)
     (result : Result Answer TxFault) → result ≡ mapped f made → AnswersPlainly result
 answers-mapped f none (Ok x) result is = subst AnswersPlainly (sym is) (none x)
 answers-mapped f none (Err fault) result is = subst AnswersPlainly (sym is) tt
 
 -- ---- the file that is kept
 
-kept_same : (fate : Fate) (removed inode : ℕ) → (is_kept fate && (removed == inode)) ≡ is_inode (kept_by fate removed) inode
-kept_same Linked removed inode = refl
-kept_same Trashed removed inode = refl
-kept_same Dropped removed inode = refl
-kept_same Sustained removed inode = refl
-
-keeps-told : (removed : Option Removed) (inode : ℕ) → keeps_removed removed inode ≡ is_inode (kept_of removed) inode
-keeps-told None inode = refl
-keeps-told (Some removed) inode = kept_same removed.fate removed.inode inode
-
 -- an unlink answers the file that is kept
-pub tells-unlinked : (who : Caller) (before : Store) (path : List ℕ) (o : Op) → o ≡ op.Unlink path → (made : Result Removed TxFault)
-    → TellsSustained who.sid (HoldsFiles who.held) before (removed_in made) (λ t. unlink t who path)
-    → (result : Result Answer TxFault) → result ≡ mapped (λ removed. record { reply = Done; kept = kept_of (Some removed) }) made → TellsKept who o before result
-tells-unlinked who before path o is made tells result same =
-    subst (λ x. TellsKept who x before result) (sym is) (subst (λ r. TellsKept who (op.Unlink path) before r) (sym same) (by_result made tells))
+pub says-unlinked : (who : Caller) (before : Store) (path : List ℕ) (o : Op) → o ≡ op.Unlink path → (made : Result Removed TxFault)
+    → SaysSustained who.sid (HoldsFiles who.held) before (removed_in made) (λ t. unlink t who path)
+    → (result : Result Answer TxFault) → result ≡ mapped (λ removed. record { reply = Done; kept = kept_of (Some removed) }) made → SaysKept who o before result
+says-unlinked who before path o is made says result same =
+    subst (λ x. SaysKept who x before result) (sym is) (subst (λ r. SaysKept who (op.Unlink path) before r) (sym same) (by_result made says))
   where
-    by_result : (m : Result Removed TxFault) → TellsSustained who.sid (HoldsFiles who.held) before (removed_in m) (λ t. unlink t who path)
-        → TellsKept who (op.Unlink path) before (mapped (λ removed. record { reply = Done; kept = kept_of (Some removed) }) m)
-    by_result (Ok removed) h = λ known at whole bytes holds inode. h known at whole bytes holds inode ∙ keeps-told (Some removed) inode
+    by_result : (m : Result Removed TxFault) → SaysSustained who.sid (HoldsFiles who.held) before (removed_in m) (λ t. unlink t who path)
+        → SaysKept who (op.Unlink path) before (mapped (λ removed. record { reply = Done; kept = kept_of (Some removed) }) m)
+    by_result (Ok removed) h = λ known at whole bytes holds inode. h known at whole bytes holds inode
     by_result (Err fault) h = tt
 
 -- and so does a rename
-pub tells-renamed : (who : Caller) (before : Store) (path to : List ℕ) (how : How) (o : Op) → o ≡ op.Rename path to how → (made : Result (Option Removed) TxFault)
-    → TellsSustained who.sid (HoldsFiles who.held) before (renamed_in made) (λ t. rename t who path to how)
-    → (result : Result Answer TxFault) → result ≡ mapped (λ removed. record { reply = Done; kept = kept_of removed }) made → TellsKept who o before result
-tells-renamed who before path to how o is made tells result same =
-    subst (λ x. TellsKept who x before result) (sym is) (subst (λ r. TellsKept who (op.Rename path to how) before r) (sym same) (by_result made tells))
+pub says-renamed : (who : Caller) (before : Store) (path to : List ℕ) (how : How) (o : Op) → o ≡ op.Rename path to how → (made : Result (Option Removed) TxFault)
+    → SaysSustained who.sid (HoldsFiles who.held) before (renamed_in made) (λ t. rename t who path to how)
+    → (result : Result Answer TxFault) → result ≡ mapped (λ removed. record { reply = Done; kept = kept_of removed }) made → SaysKept who o before result
+says-renamed who before path to how o is made says result same =
+    subst (λ x. SaysKept who x before result) (sym is) (subst (λ r. SaysKept who (op.Rename path to how) before r) (sym same) (by_result made says))
   where
-    by_result : (m : Result (Option Removed) TxFault) → TellsSustained who.sid (HoldsFiles who.held) before (renamed_in m) (λ t. rename t who path to how)
-        → TellsKept who (op.Rename path to how) before (mapped (λ removed. record { reply = Done; kept = kept_of removed }) m)
-    by_result (Ok removed) h = λ known at whole bytes holds inode. h known at whole bytes holds inode ∙ keeps-told removed inode
+    by_result : (m : Result (Option Removed) TxFault) → SaysSustained who.sid (HoldsFiles who.held) before (renamed_in m) (λ t. rename t who path to how)
+        → SaysKept who (op.Rename path to how) before (mapped (λ removed. record { reply = Done; kept = kept_of removed }) m)
+    by_result (Ok removed) h = λ known at whole bytes holds inode. h known at whole bytes holds inode
     by_result (Err fault) h = tt

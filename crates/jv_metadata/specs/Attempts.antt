@@ -1,11 +1,11 @@
 -- The operations that are one transaction on metadata, what the model's transaction of each is, and what is answered of it.
-use Rattle.std.specs.Prelude.{◌≡◌, ℕ, Bool, true, false, ◌&&◌, ◌==◌, not, Option, None, Some, Result, Ok, Err, IfOk, MatchBool}
+use Rattle.std.specs.Prelude.{◌≡◌, ℕ, Bool, true, false, ◌&&◌, not, Option, None, Some, Result, Ok, Err, IfOk, MatchBool}
 use Rattle.jv_model.specs.declared.fault.Fault.{Fault}
 use Rattle.jv_model.specs.declared.fault.TxFault.{TxFault}
 use Rattle.jv_model.specs.declared.op.Op.{Op}
 use Rattle.jv_model.specs.declared.op.Op.TheVariants as op
 use Rattle.jv_model.specs.declared.op.Reply.{Reply}
-use Rattle.jv_model.specs.declared.op.Reply.TheVariants.{Refused}
+use Rattle.jv_model.specs.journal.State.{is_refused}
 use Rattle.jv_model.specs.rows.RowKeys.{RowMap}
 use Rattle.jv_model.specs.tree.Tree.{Tree, is_sustained}
 use Rattle.jv_model.specs.tree.Caller.{Caller, Outcome, outcome, done}
@@ -15,15 +15,13 @@ use Rattle.jv_model.specs.tree.Making as making
 use Rattle.jv_model.specs.tree.Removing as removing
 use Rattle.jv_model.specs.tree.Renaming as renaming
 use Rattle.jv_model.specs.tree.Sessions as sessions
+use Rattle.jv_model.specs.client.OpForms.{takes_entries}
+pub use Rattle.jv_model.specs.client.OpForms.{is_metadata}
 use Rattle.jv_outside.specs.Store.{Store}
 use Rattle.jv_volume.specs.TypedRows.{typed}
 use Rattle.jv_volume.specs.TreeOf.{tree_of}
 use Rattle.jv_volume.specs.Whole.{Whole}
-use Rattle.jv_links.specs.declared.fates.Fate.{Fate}
-use Rattle.jv_links.specs.declared.fates.Fate.TheVariants.{Linked, Trashed, Dropped, Sustained}
-use Rattle.jv_links.specs.declared.fates.Removed.{Removed}
-use Rattle.jv_links.specs.Removals.{HoldsFiles}
-use Rattle.jv_volume.specs.Holding.{takes_entries}
+use Rattle.jv_links.specs.Removals.{HoldsFiles, is_inode}
 pub use Rattle.jv_model.specs.script.Spelled.{is_spelled}
 use Rattle.jv_metadata.specs.declared.answers.Answer.{Answer}
 
@@ -36,60 +34,9 @@ mapped f (Err fault) = Err fault
 abbrev pub plain : Reply → Answer
 plain reply = record { reply = reply; kept = None }
 
--- whether a reply is a refusal
-abbrev pub is_refusal : Reply → Bool
-is_refusal (Refused fault) = true
-is_refusal _ = false
-
 -- an answer that was given is none
 abbrev pub AnswersPlainly : Result Answer TxFault → Type 0
-AnswersPlainly result = IfOk result (λ answer. is_refusal answer.reply ≡ false)
-
-abbrev pub kept_by : Fate → ℕ → Option ℕ
-kept_by Linked inode = None
-kept_by Trashed inode = None
-kept_by Dropped inode = None
-kept_by Sustained inode = Some inode
-
--- the file that a session keeps once something was removed
-abbrev pub kept_of : Option Removed → Option ℕ
-kept_of None = None
-kept_of (Some removed) = kept_by removed.fate removed.inode
-
--- the operations that are one transaction on metadata and no more
-abbrev pub is_metadata : Op → Bool
-is_metadata (op.Mount writeback) = false
-is_metadata op.Umount = true
-is_metadata op.Beat = true
-is_metadata (op.Lookup path) = true
-is_metadata (op.Stat path) = true
-is_metadata (op.Lstat path) = true
-is_metadata (op.Fstat handle) = true
-is_metadata (op.Mkdir path mode) = true
-is_metadata (op.Create path mode) = true
-is_metadata (op.Open path) = true
-is_metadata (op.Close handle) = true
-is_metadata (op.Flush handle) = false
-is_metadata (op.Read handle offset len) = false
-is_metadata (op.Write handle offset bytes) = false
-is_metadata (op.Truncate handle len) = false
-is_metadata (op.Copy source from target to len) = false
-is_metadata (op.Readdir path) = true
-is_metadata (op.Chmod path mode) = true
-is_metadata (op.Chown path uid gid) = true
-is_metadata (op.Utimes path mtime) = true
-is_metadata op.Statfs = true
-is_metadata (op.Symlink target path) = true
-is_metadata (op.Readlink path) = true
-is_metadata (op.Unlink path) = true
-is_metadata (op.Rmdir path) = true
-is_metadata (op.Link path to) = true
-is_metadata (op.Rename path to how) = true
-is_metadata (op.Compact path window) = false
-is_metadata op.Clean = false
-is_metadata (op.Gc delete) = false
-is_metadata op.Upload = false
-is_metadata op.Stats = false
+AnswersPlainly result = IfOk result (λ answer. is_refused answer.reply ≡ false)
 
 -- the model's transaction of an operation
 abbrev pub attempt : Tree → Caller → Op → Result Outcome Fault
@@ -131,10 +78,6 @@ pub record Asks (caller : Caller) (handle inode : ℕ) : Type 0 where
   pub gets : caller.free_handle ≡ handle
   pub names : caller.inode ≡ inode
 
-abbrev pub is_inode : Option ℕ → ℕ → Bool
-is_inode None inode = false
-is_inode (Some kept) inode = kept == inode
-
 -- the file that the session keeps from then on, by whole rows whose caller has files open, is the one that is answered
 abbrev pub KeepsOne : Caller → Op → Store → Option ℕ → Type 0
 KeepsOne who o before kept = (known : RowMap) → before.rows ≡ Some known → Whole (typed known) → (bytes : ℕ → ℕ → ℕ) → HoldsFiles who.held (tree_of bytes (typed known))
@@ -142,5 +85,5 @@ KeepsOne who o before kept = (known : RowMap) → before.rows ≡ Some known →
     → (is_sustained (outcome (tree_of bytes (typed known)) (attempt (tree_of bytes (typed known)) who o)).tree who.sid inode
     && not (is_sustained (tree_of bytes (typed known)) who.sid inode)) ≡ is_inode kept inode
 
-abbrev pub TellsKept : Caller → Op → Store → Result Answer TxFault → Type 0
-TellsKept who o before result = IfOk result (λ answer. MatchBool (takes_entries o) (KeepsOne who o before answer.kept) (answer.kept ≡ None))
+abbrev pub SaysKept : Caller → Op → Store → Result Answer TxFault → Type 0
+SaysKept who o before result = IfOk result (λ answer. MatchBool (takes_entries o) (KeepsOne who o before answer.kept) (answer.kept ≡ None))

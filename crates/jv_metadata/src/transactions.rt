@@ -1,8 +1,9 @@
 //! An operation's transaction.
 ghost use Rattle.std.specs.Prelude.{◌≡◌, IsTrue};
-ghost use Rattle.jv_metadata.specs.Attempts.{AnswersPlainly, Asks, attempt, is_metadata, is_spelled, TellsKept};
+ghost use Rattle.jv_metadata.specs.Attempts.{AnswersPlainly, Asks, attempt, is_spelled, SaysKept};
 ghost use Rattle.jv_links.specs.Removals.{HoldsFiles};
 ghost use Rattle.jv_model.specs.tree.Caller.{Caller};
+ghost use Rattle.jv_model.specs.client.OpForms.{is_metadata};
 ghost use Rattle.jv_rows.specs.Transactions.{IsFor, Transacts};
 
 use crate::answers::{
@@ -18,13 +19,14 @@ use jv_tree::{
 };
 use std::alloc::Global;
 
-/// Makes the transaction of an operation. `handle` is the number that a file which it opens gets, and `inode` is what the handle
-/// that it names has open, 0 where it names none.
+/// Makes the transaction of an operation. `handle` is the number that a file which it opens gets, and `inode` is what
+/// the handle that it names has open, 0 where it names none. POSIX.1-2017 has the operations, by the functions that
+/// docs/MODEL.md names.
 ///
 /// # Errors
 ///
-/// Refused as the operation is (docs/MODEL.md). Bad for a malformed row, or one that names a node that isn't there. Failed if the
-/// keeper failed. Memory. The rows are then as before.
+/// Refused as the operation is (docs/MODEL.md). Bad for a malformed row, or one that names a node that isn't there.
+/// Failed if the keeper failed. Memory. The rows are then as before.
 pub fn transact<K: Keeper>(
     alloc: Global,
     k: &mut K,
@@ -38,8 +40,8 @@ pub fn transact<K: Keeper>(
     ensures does { (caller : Caller) → IsFor who.entry.now caller → Asks caller handle inode
         → Transacts (HoldsFiles caller.held) (K.seen k.old) (K.seen k.new)
         result (λ answer. answer.reply) (λ t. attempt t caller op.now) }
-    ensures tells { (caller : Caller) → IsFor who.entry.now caller
-        → TellsKept caller op.now (K.seen k.old) result }
+    ensures says { (caller : Caller) → IsFor who.entry.now caller
+        → SaysKept caller op.now (K.seen k.old) result }
     ensures answers { AnswersPlainly result }
 {
     match op {

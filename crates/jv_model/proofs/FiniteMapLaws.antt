@@ -6,7 +6,7 @@ use Rattle.std.specs.Ordering.{eq_by_cmp, is_eq}
 use Rattle.std.specs.Cmp.{alike_right, eq_by_cmp_equiv}
 use Rattle.std.specs.FinMap.Entries.{put, find, where_key, below_all, is_sorted, find-put, find-where_key, same_entries, by_order}
 use Rattle.jv_model.specs.FiniteMap.{KeyOrder, Map, empty_map, first_passing, first_where, get, insert, remove, retain_keys, alter, map_of, maps_of_entries, sum_over, total_over}
-use Rattle.jv_model.proofs.TestLaws.{first_of_both, second_of_both, less_is}
+use Rattle.jv_model.proofs.TestLaws.{first_of_both, second_of_both, less_is, tie_is}
 
 -- what an entry adds to a sum
 abbrev pub share : {K X : Type 0} → (K → X → ℕ) → K → Option X → ℕ
@@ -54,6 +54,20 @@ module _ {K X : Type 0} (order : KeyOrder K) where
   get-map_of [] q = get-empty_map q
   get-map_of (e ∷ es) q = get-insert (map_of es) e.0 e.1 q ∙ ap (cond (eq_by_cmp order.cmp q e.0) (Some e.1)) (get-map_of es q)
 
+-- entries that all stand above a key
+pub find-below_all : {K X : Type 0} (order : KeyOrder K) (k : K) (es : List (K × X)) → T (below_all order.cmp k es) → find order.cmp k es ≡ None
+find-below_all order k [] h = refl
+find-below_all order k (e ∷ es) h =
+    ap (λ o. cond (is_eq o) (Some e.1) (find order.cmp k es)) (less_is _ (first_of_both _ _ h)) ∙ find-below_all order k es (second_of_both _ _ h)
+
+pub put_first : {K X : Type 0} (order : KeyOrder K) (k : K) (x : X) (es : List (K × X)) → T (below_all order.cmp k es) → put order.cmp k x es ≡ (k, x) ∷ es
+put_first order k x [] below = refl
+put_first order k x (e ∷ es) below =
+    ap (λ o. by_order o ((k, x) ∷ e ∷ es) ((e.0, x) ∷ es) (e ∷ put order.cmp k x es)) (less_is (order.cmp k e.0) (first_of_both _ _ below))
+
+pub found_here : {K X : Type 0} (order : KeyOrder K) (e : K × X) (es : List (K × X)) → find order.cmp e.0 (e ∷ es) ≡ Some e.1
+found_here order e es = ap (λ b. cond b (Some e.1) (find order.cmp e.0 es)) ((eq_by_cmp_equiv order.total).refl e.0)
+
 module _ {K X : Type 0} (order : KeyOrder K) (f : K → X → ℕ) where
   find-below : (k x : K) (es : List (K × X)) → order.cmp k x ≡ Less → T (below_all order.cmp x es) → find order.cmp k es ≡ None
   find-below k x [] p h = refl
@@ -82,16 +96,6 @@ module _ {K X : Type 0} (order : KeyOrder K) (f : K → X → ℕ) where
   unfolding sum_over insert get
   sum-insert m k v = total-put k v m.list m.sorted
 
-  find-below_all : (k : K) (es : List (K × X)) → T (below_all order.cmp k es) → find order.cmp k es ≡ None
-  find-below_all k [] h = refl
-  find-below_all k (e ∷ es) h =
-      ap (λ o. cond (is_eq o) (Some e.1) (find order.cmp k es)) (less_is _ (first_of_both _ _ h)) ∙ find-below_all k es (second_of_both _ _ h)
-
-  equal_is : (o : Ordering) → is_eq o ≡ true → o ≡ Equal
-  equal_is Less p = absurd (cc)
-  equal_is Equal p = refl
-  equal_is Greater p = absurd (cc)
-
   -- the entries without a key
   abbrev without : K → List (K × X) → List (K × X)
   without k es = where_key order.cmp (λ q. not (eq_by_cmp order.cmp k q)) es
@@ -100,8 +104,8 @@ module _ {K X : Type 0} (order : KeyOrder K) (f : K → X → ℕ) where
       → total_over f (without k es) + share f k (find order.cmp k es) ≡ total_over f es
       → total_over f (cond (not b) (e ∷ without k es) (without k es)) + share f k (cond b (Some e.1) (find order.cmp k es)) ≡ f e.0 e.1 + total_over f es
   total-without_at k e es true p below rest =
-      let same : k ≡ e.0 = order.same k e.0 (equal_is _ p) in
-      let absent : share f k (find order.cmp k es) ≡ 0 = ap (share f k) (find-below_all k es (subst (λ q. T (below_all order.cmp q es)) (sym same) below)) in
+      let same : k ≡ e.0 = order.same k e.0 (tie_is _ p) in
+      let absent : share f k (find order.cmp k es) ≡ 0 = ap (share f k) (find-below_all order k es (subst (λ q. T (below_all order.cmp q es)) (sym same) below)) in
       let one : f k e.1 ≡ f e.0 e.1 = ap (λ q. f q e.1) same in
       omega (arith, absent, one, rest)
   total-without_at k e es false p below rest = omega (arith, rest)
@@ -126,21 +130,14 @@ record FoundIn {K X : Type 0} (order : KeyOrder K) (test : K → X → Bool) (es
   passes : test key value ≡ true
 
 module _ {K X : Type 0} (order : KeyOrder K) (test : K → X → Bool) where
-  find-self_below : (x : K) (es : List (K × X)) → T (below_all order.cmp x es) → find order.cmp x es ≡ None
-  find-self_below x [] h = refl
-  find-self_below x (e ∷ es) h = ap (λ o. cond (is_eq o) (Some e.1) (find order.cmp x es)) (less_is _ (first_of_both _ _ h)) ∙ find-self_below x es (second_of_both _ _ h)
-
   found_later : (e : K × X) (es : List (K × X)) (k : K) (x : X) (o : Ordering) → order.cmp k e.0 ≡ o → find order.cmp k es ≡ Some x → T (below_all order.cmp e.0 es) → cond (is_eq o) (Some e.1) (find order.cmp k es) ≡ Some x
   found_later e es k x Less p h below = h
   found_later e es k x Greater p h below = h
-  found_later e es k x Equal p h below = let none : find order.cmp k es ≡ None = ap (λ q. find order.cmp q es) (order.same k e.0 p) ∙ find-self_below e.0 es below in absurd (cc)
-
-  found_here : (e : K × X) (es : List (K × X)) → find order.cmp e.0 (e ∷ es) ≡ Some e.1
-  found_here e es = ap (λ b. cond b (Some e.1) (find order.cmp e.0 es)) ((eq_by_cmp_equiv order.total).refl e.0)
+  found_later e es k x Equal p h below = let none : find order.cmp k es ≡ None = ap (λ q. find order.cmp q es) (order.same k e.0 p) ∙ find-below_all order e.0 es below in absurd (cc)
 
   found_branch : (e : K × X) (es : List (K × X)) (found : K × X) (b : Bool) → test e.0 e.1 ≡ b → T (below_all order.cmp e.0 es) → (first_passing test es ≡ Some found → FoundIn order test es found.0 found.1)
       → (elim b as (λ _. Option (K × X)) [ true ↦ Some e | false ↦ first_passing test es ]) ≡ Some found → FoundIn order test (e ∷ es) found.0 found.1
-  found_branch e es found true t below rest h = let same : e ≡ found = cc in subst (λ (p : K × X). FoundIn order test (e ∷ es) p.0 p.1) same (record { there = found_here e es; passes = t })
+  found_branch e es found true t below rest h = let same : e ≡ found = cc in subst (λ (p : K × X). FoundIn order test (e ∷ es) p.0 p.1) same (record { there = found_here order e es; passes = t })
   found_branch e es found false t below rest h = let r = rest h in record { there = found_later e es found.0 found.1 (order.cmp found.0 e.0) refl r.there below; passes = r.passes }
 
   found_in : (es : List (K × X)) (found : K × X) → T (is_sorted order.cmp es) → first_passing test es ≡ Some found → FoundIn order test es found.0 found.1

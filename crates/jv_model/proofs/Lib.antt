@@ -6,7 +6,7 @@ pub mod TestLaws
 pub mod FiniteMapLaws
 pub mod ClientsLaws
 pub mod PendingLaws
-pub mod TreeComputes
+pub mod TreeComputeLaws
 pub mod BlockNamesExamples
 pub mod SlicesExamples
 pub mod RowGrammarExamples

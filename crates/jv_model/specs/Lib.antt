@@ -3,6 +3,7 @@ pub mod FiniteMap
 pub mod Optional
 pub mod Counts
 pub mod Lists
+pub mod Ranges
 pub mod tree
 pub mod script
 pub mod client

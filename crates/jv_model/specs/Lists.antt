@@ -1,6 +1,39 @@
--- A list without items.
-use Rattle.std.specs.Prelude.{Bool, true, false, List, [], ◌∷◌}
+-- Lists of any items, and the parts of a text.
+use Rattle.std.specs.Prelude.{ℕ, zero, suc, Bool, true, false, not, ◌==◌, List, [], ◌∷◌, slice_get, Option, None, Some}
+use Rattle.std.specs.List.{list_all, list_any, slice_split}
 
+-- a list without items
 abbrev pub is_nil : {A : Type 0} → List A → Bool
 is_nil [] = true
 is_nil (x ∷ xs) = false
+
+-- the parts of a text between the places of one byte, which are words at a space
+abbrev pub parted : ℕ → List ℕ → List (List ℕ)
+parted separator text = slice_split (λ c. c == separator) text
+
+-- no byte is 0
+abbrev pub has_no_zero : List ℕ → Bool
+has_no_zero bytes = list_all (λ b. not (b == 0)) bytes
+
+-- whether a number is among numbers
+abbrev pub is_among : ℕ → List ℕ → Bool
+is_among n numbers = list_any (λ i. i == n) numbers
+
+-- the first of numbers, 0 where there is none
+abbrev pub first_number : List ℕ → ℕ
+first_number [] = 0
+first_number (n ∷ ns) = n
+
+abbrev pub first_item : {A : Type 0} → List A → Option A
+first_item [] = None
+first_item (x ∷ xs) = Some x
+
+abbrev pub last_item : {A : Type 0} → List A → Option A
+last_item [] = None
+last_item (x ∷ []) = Some x
+last_item (_ ∷ x ∷ xs) = last_item (x ∷ xs)
+
+-- the item of a number, which are counted from 1 on
+abbrev pub numbered : {A : Type 0} → List A → ℕ → Option A
+numbered items zero = None
+numbered items (suc index) = slice_get items index

@@ -97,7 +97,7 @@ pub struct Act {
     /// The line of the script, from 1, or 0 where no script is run.
     pub line: u32,
     pub at: Moment,
-    /// The client, 0 to 7, or [`NO_CLIENT`].
+    /// The client, 0 to [`crate::LAST_CLIENT`], or [`NO_CLIENT`].
     pub client: u8,
     pub kind: ActKind,
 }

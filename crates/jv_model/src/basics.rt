@@ -1,6 +1,6 @@
 //! Moments, clients, and what names a caller.
 ghost use Rattle.std.specs.Prelude.{◌≡◌, ℕ, ◌≤◌};
-ghost use Rattle.jv_model.specs.declared.limits.TheConstants.{LAST_MOMENT};
+ghost use Rattle.jv_model.specs.declared.limits.TheConstants.{LAST_MOMENT, LAST_CLIENT};
 
 use crate::sequence::Sequence;
 use std::marker::Model;
@@ -29,7 +29,7 @@ impl Moment {
     }
 }
 
-/// One of the eight clients, A to H, as a number from 0 to 7.
+/// One of the eight clients, A to H, as a number from 0 to [`crate::LAST_CLIENT`].
 #[derive(Clone, Copy, Debug, PartialEq, Eq, PartialOrd, Ord)]
 pub struct ClientId(pub u8);
 
@@ -38,16 +38,16 @@ impl Model for ClientId {
 
     ghost view = { λ c. c.0 };
 
-    ghost invariant = { λ c. c.0 ≤ 7 };
+    ghost invariant = { λ c. c.0 ≤ LAST_CLIENT };
 
     ghost inverse = { λ n. record { 0 = n } };
 }
 
 impl ClientId {
-    /// The client as a number from 0 to 7.
+    /// The client as a number from 0 to [`crate::LAST_CLIENT`].
     pub fn number(self) -> u8
         ensures number { result ≡ self }
-        ensures limit { result ≤ 7 }
+        ensures limit { result ≤ LAST_CLIENT }
     {
         self.0
     }
@@ -69,7 +69,7 @@ pub struct Who {
 /// What bounds a client of a session.
 #[derive(Clone, Copy, Debug, PartialEq, Eq)]
 pub struct Limits {
-    /// Bytes that may be pending, from 8,388,608 on.
+    /// Bytes that may be pending, from [`crate::MAX_DATA`] on.
     pub buffer: u64,
     /// Blocks that the cache may hold.
     pub entries: usize,

@@ -16,7 +16,7 @@ pub type Path = Sequence<u8>;
 /// Text in UTF-8, as a volume's name, a bucket or a place.
 pub type Text = Sequence<u8>;
 
-/// A copy of bytes.
+/// A copy of bytes. The only error is out of memory.
 pub fn copied(alloc: Global, bytes: &[u8]) -> Result<Bytes, AllocError>
     ensures { IfOk result (λ copy. copy ≡ bytes.now) }
 {

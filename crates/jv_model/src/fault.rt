@@ -37,13 +37,13 @@ pub enum Fault {
     NotFound,
     /// EEXIST: the entry is there.
     AlreadyExists,
-    /// ENOTDIR.
+    /// ENOTDIR: something else is where a directory has to be.
     NotADirectory,
-    /// EISDIR.
+    /// EISDIR: a directory is where something else has to be.
     IsADirectory,
-    /// ENOTEMPTY.
+    /// ENOTEMPTY: a directory that would go has entries.
     DirectoryNotEmpty,
-    /// EINVAL.
+    /// EINVAL: a path, a kind of node or a range that the operation doesn't take.
     Invalid,
     /// ENAMETOOLONG: a name of over 255 bytes, or a path or target of over 4,096.
     NameTooLong,
@@ -55,7 +55,7 @@ pub enum Fault {
     FileTooLarge,
     /// ELOOP: over 40 symlinks in one walk.
     SymlinkLoop,
-    /// EPERM.
+    /// EPERM: an operation that isn't done on directories, or in the trash.
     NotPermitted,
     /// EMFILE: 1,024 handles are open.
     TooManyHandles,
@@ -66,7 +66,7 @@ pub enum Fault {
     /// ETIMEDOUT: an upload's commit came 3,600 seconds after its start, or later.
     /// Both moments are in seconds.
     TimedOut { started: u64, now: u64 },
-    /// EBUSY.
+    /// EBUSY: the operation gave way to others.
     Contended(Busy),
     /// EIO: the device failed.
     DeviceFailed(Device),
@@ -84,7 +84,7 @@ pub enum Down {
     /// The device failed, and its count of faults rose.
     #[error("the device failed")]
     Failed,
-    /// Want of memory.
+    /// Out of memory.
     #[error("out of memory")]
     Memory,
 }
@@ -103,10 +103,10 @@ impl From<AllocError> for Down {
 /// Why a row wasn't read.
 #[derive(Debug, Drop, PartialEq, Eq)]
 pub enum RowFault {
-    /// The row is off its grammar, or names a row that isn't there; no bytes where it is absent itself.
+    /// The row is malformed, or names a row that isn't there; without bytes where it is absent itself.
     Bad(RowKey, Bytes),
     Failed,
-    /// Want of memory.
+    /// Out of memory.
     Memory,
 }
 

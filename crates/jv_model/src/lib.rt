@@ -10,11 +10,13 @@ mod journal;
 pub mod lifetimes;
 mod limits;
 mod op;
+pub mod options;
 mod profile;
 mod row;
 mod sequence;
 mod setting;
 mod slice;
+pub mod tables;
 
 pub use act::{Act, ActKind, NO_CLIENT, Told};
 pub use basics::{ClientId, How, InodeList, Limits, Moment, Who};
@@ -22,11 +24,11 @@ pub use bytes::{Bytes, Name, Path, Text, copied};
 pub use fault::{Busy, Device, Down, Fault, Gone, RowFault, TxFault};
 pub use journal::Journal;
 pub use limits::{
-    DEFAULT_BLOCK, DEFAULT_BUFFER, DIRECTORY_LENGTH, FILE_END, FULL_COUNT, GIB, KIB, LAST_MOMENT,
-    MAX_BLOCK, MAX_BLOCKS, MAX_BUCKET, MAX_CAPACITY, MAX_DATA, MAX_HANDLES, MAX_ITEMS, MAX_LINE,
-    MAX_LINES, MAX_LINKS, MAX_MISSES, MAX_MODE, MAX_NAME, MAX_PATH, MAX_SYMLINKS, MAX_TICK,
-    MAX_TRASH_DAYS, MAX_VOLUME_NAME, MIB, MIN_BLOCK, MIN_VOLUME_NAME, ROOT, SPACE_UNIT, TRASH_ROOT,
-    WINDOW,
+    CLIENTS, DEFAULT_BLOCK, DEFAULT_BUFFER, DIRECTORY_LENGTH, FILE_END, FULL_COUNT, FULL_MODE, GIB,
+    KIB, LAST_CLIENT, LAST_MOMENT, MAX_BLOCK, MAX_BLOCKS, MAX_BUCKET, MAX_CAPACITY, MAX_DATA,
+    MAX_HANDLES, MAX_ITEMS, MAX_LINE, MAX_LINES, MAX_LINKS, MAX_MISSES, MAX_MODE, MAX_NAME,
+    MAX_PATH, MAX_SYMLINKS, MAX_TICK, MAX_TRASH_DAYS, MAX_VOLUME_NAME, MIB, MIN_BLOCK,
+    MIN_VOLUME_NAME, READ_ONLY_MODE, ROOT, SPACE_UNIT, TRASH_ROOT, WINDOW,
 };
 pub use op::{Line, Op, Reply, Step};
 pub use profile::{Answer, Does, Flushes, Handles, Profile};

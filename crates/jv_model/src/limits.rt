@@ -57,6 +57,18 @@ pub const MAX_ITEMS: u64 = 65_536;
 /// All permission bits of a mode, and so the greatest one: four octal digits.
 pub const MAX_MODE: u16 = 0o7777;
 
+/// The mode of a volume's root and of symlinks: all may read, write and search.
+pub const FULL_MODE: u16 = 0o777;
+
+/// The mode of the trash and of its hours: none may write.
+pub const READ_ONLY_MODE: u16 = 0o555;
+
+/// The clients of a volume, A to H.
+pub const CLIENTS: u8 = 8;
+
+/// The number of the last client, H.
+pub const LAST_CLIENT: u8 = CLIENTS - 1;
+
 /// The shortest name of a volume in bytes.
 pub const MIN_VOLUME_NAME: usize = 3;
 

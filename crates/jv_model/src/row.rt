@@ -10,13 +10,16 @@ use std::alloc::{AllocError, Global};
 /// The key of a row: its table and two parts, of which some tables use one. Keys go by table, number and bytes.
 #[derive(Debug, Drop, PartialEq, Eq, PartialOrd, Ord, Hash)]
 pub struct RowKey {
+    /// The table's number.
     pub tab: u8,
+    /// The first part, a number: 0 where the table uses none.
     pub a: u64,
+    /// The second part: empty where the table uses none.
     pub b: Bytes,
 }
 
 impl RowKey {
-    /// A copy of the key.
+    /// A copy of the key. The only error is out of memory.
     pub fn copied(&self, alloc: Global) -> Result<RowKey, AllocError>
         ensures { IfOk result (λ copy. copy ≡ self.now) }
     {
@@ -34,8 +37,11 @@ pub type Rows = Sequence<(RowKey, Bytes)>;
 /// The next numbers and the running totals.
 #[derive(Clone, Copy, Debug, PartialEq, Eq)]
 pub struct Counters {
+    /// The next inode.
     pub inode: u64,
+    /// The next slice's number.
     pub slice: u64,
+    /// The next session's number.
     pub session: u64,
     /// Used space in bytes.
     pub used_space: u64,
@@ -51,12 +57,13 @@ pub struct Node {
     pub mode: u16,
     pub uid: u32,
     pub gid: u32,
+    /// How many entries name it; for a directory 2 and one for each directory in it.
     pub nlink: u32,
     /// Seconds.
     pub mtime: u64,
     /// Seconds.
     pub ctime: u64,
-    /// Bytes; 4,096 for a directory.
+    /// Bytes; [`crate::DIRECTORY_LENGTH`] for a directory.
     pub length: u64,
     /// A directory's parent, else 0.
     pub parent: u64,
@@ -77,13 +84,14 @@ pub struct Edge {
 pub struct SliceRow {
     /// Bytes.
     pub size: u32,
+    /// How many records name it.
     pub count: u64,
 }
 
 /// A mounted client.
 #[derive(Clone, Copy, Debug, PartialEq, Eq)]
 pub struct Session {
-    /// 0 to 7.
+    /// 0 to [`crate::LAST_CLIENT`].
     pub client: u8,
     /// Seconds.
     pub expiry: u64,
@@ -136,6 +144,7 @@ pub enum Finding {
     Orphan {
         inode: u64,
     },
+    /// A node's stored link count is another than its entries' number.
     LinkCountOff {
         inode: u64,
         stored: u32,
@@ -146,6 +155,7 @@ pub enum Finding {
         inode: u64,
         window: u32,
     },
+    /// A slice's stored count is another than the number of records that name it.
     RefCountOff {
         id: u64,
         stored: u64,
@@ -155,10 +165,12 @@ pub enum Finding {
     PastEnd {
         inode: u64,
     },
+    /// The stored sum of used space, in bytes, is another than that of the nodes.
     UsedSpaceOff {
         stored: u64,
         counted: u128,
     },
+    /// The stored number of used inodes is another than that of the nodes.
     UsedInodesOff {
         stored: u64,
         counted: u64,
@@ -174,4 +186,5 @@ pub enum Finding {
     },
 }
 
+/// What a check of a volume finds, in the order in which it does.
 pub type Findings = Sequence<Finding>;

@@ -42,12 +42,14 @@ impl<T> Sequence<T> {
         self.items
     }
 
+    /// The values, in their order.
     pub fn as_slice(&self) -> &[T]
         ensures { result.now ≡ self.now }
     {
         self.items.as_slice()
     }
 
+    /// How many values there are.
     pub fn len(&self) -> usize
         ensures length { result ≡ length self.now }
         ensures small { result < 2 ^ 63 }
@@ -55,6 +57,7 @@ impl<T> Sequence<T> {
         self.items.len()
     }
 
+    /// Whether there is no value.
     pub fn is_empty(&self) -> bool
         ensures { IsTrue result ↔ (self.now ≡ []) }
     {

@@ -33,7 +33,9 @@ pub enum Spot {
 /// Positions in a row that one record shows, or none.
 #[derive(Clone, Copy, Debug, PartialEq, Eq)]
 pub struct Piece {
+    /// The first position in the window.
     pub from: u32,
+    /// How many positions.
     pub len: u32,
     /// Where the byte of the first position comes from.
     pub spot: Spot,
@@ -45,12 +47,15 @@ pub type Pieces = Sequence<Piece>;
 /// A block of a slice.
 #[derive(Clone, Copy, Debug, PartialEq, Eq)]
 pub struct BlockId {
+    /// The slice's number.
     pub id: u64,
+    /// Which of the slice's blocks, from 0.
     pub index: u32,
     /// The block's length in bytes.
     pub size: u32,
 }
 
+/// Blocks, as a reader needs them one after another.
 pub type BlockKeys = Sequence<BlockId>;
 
 /// An object as a listing shows it.
@@ -62,8 +67,10 @@ pub struct Seen {
     pub at: Moment,
 }
 
+/// Objects that a depot lists, in the order of their names.
 pub type SeenList = Sequence<Seen>;
 
+/// Names of blocks that a shelf lists, in their order.
 pub type NameList = Sequence<Name>;
 
 /// Entries of a directory: names with the inodes that they name.

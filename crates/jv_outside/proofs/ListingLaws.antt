@@ -10,10 +10,11 @@ use Rattle.std.specs.List.Sorted.{IsStrictlySortedBy}
 use Rattle.std.specs.Map.{keys_of}
 use Rattle.std.specs.Cmp.Lexicographic.{slice_cmp}
 use Rattle.std.specs.BTreeMap.Range.{entries_between, range_contains}
+use Rattle.std.specs.Prelude.{unwrap_or}
 use Rattle.jv_model.proofs.TestLaws.{lt_is, and_true}
 use Rattle.jv_outside.specs.Blocks.{staged_cmp}
 use Rattle.jv_outside.specs.Objects.{is_later}
-use Rattle.jv_outside.specs.StoredBlocks.{key_start, name_or_least}
+use Rattle.jv_outside.specs.StoredBlocks.{key_start}
 use Rattle.jv_outside.specs.StoredObjects.{list_start}
 use Rattle.jv_outside.proofs.ScanLaws.{front, least_bytes, table_rises}
 
@@ -53,7 +54,7 @@ client_ends client name q y from other less =
 
 pub blocks-from : {X : Type 0} (client : ℕ) (last : Option (List ℕ)) (es : List ((ℕ × List ℕ) × X)) → IsStrictlySortedBy staged_cmp (keys_of es)
     → take_while (λ e. e.0.0 == client)
-    (entries_between staged_cmp (key_start (client, name_or_least last) last) Unbounded es)
+    (entries_between staged_cmp (key_start (client, unwrap_or last []) last) Unbounded es)
     ≡ filter (λ e. (e.0.0 == client) && is_later last e.0.1) es
 blocks-from client None es h =
     front staged_cmp (range_contains staged_cmp (Included (client, [])) Unbounded) (λ q. q.0 == client) (λ q. (q.0 == client) && is_later None q.1)

@@ -1,7 +1,7 @@
 -- Which calls of a device in memory are to fail, and what is counted of them.
-use Rattle.std.specs.Prelude.{ℕ, ◌==◌, Bool, if◌then◌else◌}
-use Rattle.std.specs.List.{list_any}
+use Rattle.std.specs.Prelude.{ℕ, Bool, if◌then◌else◌}
 use Rattle.jv_model.specs.Counts.{counted}
+use Rattle.jv_model.specs.Lists.{is_among}
 use Rattle.jv_outside.specs.declared.calls.Fails.{Fails}
 use Rattle.jv_outside.specs.declared.calls.Fails.TheVariants.{At}
 
@@ -13,7 +13,7 @@ pub record CallsValue : Type 0 where
 
 -- whether the call of that number is to fail
 abbrev pub is_to_fail : Fails → ℕ → Bool
-is_to_fail (At numbers) number = list_any (λ n. n == number) numbers
+is_to_fail (At numbers) number = is_among number numbers
 
 -- whether the next call is to fail
 abbrev pub fails_next : CallsValue → Bool

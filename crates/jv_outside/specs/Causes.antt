@@ -1,11 +1,12 @@
 -- What a device's error says of its count of faults.
-use Rattle.std.specs.Prelude.{◌≡◌, ℕ, zero, suc, ◌+◌, ◌-◌, ◌^◌, ◌≤◌, min, max, Bool, true, false}
+use Rattle.std.specs.Prelude.{◌≡◌, ℕ, zero, suc, ◌≤◌, max, Bool, true, false}
 use Rattle.jv_model.specs.declared.fault.Down.{Down}
 use Rattle.jv_model.specs.declared.fault.Down.TheVariants.{Failed, Memory}
+use Rattle.jv_model.specs.Counts.{counted}
 
 -- the count rose, or is saturated at 2^64 - 1
 abbrev pub Rose : ℕ → ℕ → Type 0
-Rose before now = max before (min (before + 1) (2 ^ 64 - 1)) ≤ now
+Rose before now = max before (counted before) ≤ now
 
 -- the error is Failed, never Memory, and the count rose
 pub record HasFailed (before now : ℕ) (down : Down) : Type 0 where

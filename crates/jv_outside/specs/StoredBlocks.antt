@@ -11,11 +11,6 @@ use Rattle.jv_outside.specs.Overlaid.{overlaid}
 abbrev pub blocks_in : BlockStore → StagedMap
 blocks_in store = overlaid key_of bytes_of store.listed.items (map_of store.sorted.entries)
 
--- a name, or the least of all
-abbrev pub name_or_least : Option (List ℕ) → List ℕ
-name_or_least None = []
-name_or_least (Some name) = name
-
 -- where a listing begins: after the key of a name, or at that key where no name is given
 abbrev pub key_start : ℕ × List ℕ → Option (List ℕ) → Bound (ℕ × List ℕ)
 key_start key None = Included key

@@ -64,6 +64,7 @@ impl Batch {
         self.changes.len()
     }
 
+    /// Whether it changes nothing.
     pub fn is_empty(&self) -> bool
         ensures { IsTrue result ↔ (self.now ≡ []) }
     {

@@ -1,11 +1,11 @@
 //! Staged blocks in memory, in the order of their clients and names.
-ghost use Rattle.std.specs.Prelude.{◌≡◌, ◌==◌, [], map, take, take_while, IfOk, IfErr, OnOk, OnErr};
+ghost use Rattle.std.specs.Prelude.{◌≡◌, ◌==◌, [], map, take, take_while, IfOk, IfErr, OnOk, OnErr, unwrap_or};
 ghost use Rattle.std.specs.Option.{option_copied};
 ghost use Rattle.std.specs.Ordering.{eq_by_cmp};
 ghost use Rattle.std.specs.Range.Bound.{bound_map};
 ghost use Rattle.jv_model.specs.FiniteMap.{map_of};
 ghost use Rattle.jv_outside.specs.Blocks.{key_of, names_after, staged_at, staged_cmp, staged_key, staged_map, staging, unstaged};
-ghost use Rattle.jv_outside.specs.StoredBlocks.{blocks_in, key_start, name_or_least};
+ghost use Rattle.jv_outside.specs.StoredBlocks.{blocks_in, key_start};
 
 use crate::object::{Staged, StagedList};
 use jv_model::{Bytes, ClientId, Name, NameList, Sequence, copied, push_in_room};
@@ -176,7 +176,7 @@ fn key_for(alloc: Global, client: u8, name: &Name) -> Result<(u8, Name), AllocEr
 
 /// The key of a client's name, or the client's least.
 fn first_key(alloc: Global, client: u8, name: Option<&Name>) -> Result<(u8, Name), AllocError>
-    ensures { IfOk result (λ key. key ≡ (client, name_or_least (option_copied name.entry))) }
+    ensures { IfOk result (λ key. key ≡ (client, unwrap_or (option_copied name.entry) [])) }
 {
     match name {
         Some(name) => key_for(alloc, client, name),

@@ -3,7 +3,7 @@ ghost use Rattle.jv_outside.specs.Carriage.{Carriage, Moves, Sends};
 use crate::parcel::Parcel;
 use jv_model::{Down, Moment, Name, Text};
 
-/// What sends an object's bytes on their way to a depot, which then publishes them.
+/// What sends an object's bytes on their way to a depot, which then publishes them (JuiceFS, Architecture: data storage).
 ///
 /// Each call returns [`Down::Failed`] if the device failed, or [`Down::Memory`] if it is out of memory. The place is then
 /// the same as before the call.

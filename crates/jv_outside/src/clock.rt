@@ -2,7 +2,7 @@ ghost use Rattle.jv_outside.specs.Ticks.{Ticks, Answers};
 
 use jv_model::{Down, Moment};
 
-/// A clock of whole seconds since 1970, up to [`jv_model::LAST_MOMENT`].
+/// A clock of whole seconds since 1970, up to [`jv_model::LAST_MOMENT`] (POSIX.1-2017, 4.16 "Seconds Since the Epoch").
 pub trait Clock {
     // The answers to come, where they are known, and how many calls failed: a count of 64 bits at least, which
     // saturates.

@@ -135,7 +135,7 @@ impl MemDepot {
 }
 
 impl MemCarrier {
-    /// The number of calls so far, of all two kinds. It saturates at 2^64 - 1.
+    /// The number of calls so far, of both kinds. It saturates at 2^64 - 1.
     pub fn made(&self) -> u64
         ensures { result ≡ self.now.calls.made }
     {

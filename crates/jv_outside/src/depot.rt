@@ -5,7 +5,7 @@ ghost use Rattle.jv_outside.specs.Objects.{ObjectMap, Publishes, bytes_at, witho
 use crate::parcel::Parcel;
 use jv_model::{Bytes, Down, Moment, Name, SeenList, Text};
 
-/// A store of objects, each with its bytes and its moment at its name.
+/// A store of objects, each with its bytes and its moment at its name (JuiceFS, Architecture: data storage).
 ///
 /// Each call returns [`Down::Failed`] if the device failed, or [`Down::Memory`] if it is out of memory. Objects and
 /// place are then the same as before the call.

@@ -4,7 +4,8 @@ ghost use Rattle.jv_outside.specs.Store.{Store, Opens, Finds, Scans, Commits};
 use crate::batch::Batch;
 use jv_model::{Bytes, Down, RowKey, Rows, Text};
 
-/// Where the rows of a volume's metadata are kept, each with its bytes at its key.
+/// Where the rows of a volume's metadata are kept, each with its bytes at its key (JuiceFS, Architecture: metadata
+/// engine).
 ///
 /// Each call returns [`Down::Failed`] if the device failed, or [`Down::Memory`] if it is out of memory. Rows and place
 /// are then the same as before the call.

@@ -10,6 +10,7 @@ pub struct Object {
     pub at: Moment,
 }
 
+/// Objects that a depot in memory begins with.
 pub type ObjectList = Sequence<Object>;
 
 /// A block that a client has staged on a shelf.
@@ -20,4 +21,5 @@ pub struct Staged {
     pub bytes: Bytes,
 }
 
+/// Staged blocks that a shelf in memory begins with.
 pub type StagedList = Sequence<Staged>;

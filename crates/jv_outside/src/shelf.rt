@@ -6,7 +6,7 @@ ghost use Rattle.jv_outside.specs.Blocks.{StagedMap, staged_at, staging, unstage
 
 use jv_model::{Bytes, ClientId, Down, Name, NameList, Text};
 
-/// A local disk, on which each client stages blocks until they are published.
+/// A local disk, on which each client stages blocks until they are published (JuiceFS, Cache: writeback).
 ///
 /// Each call returns [`Down::Failed`] if the device failed, or [`Down::Memory`] if it is out of memory. Blocks and place
 /// are then the same as before the call.

@@ -2,7 +2,7 @@ ghost use Rattle.jv_outside.specs.Stream.{Stream, Writes, WritesAll};
 
 use jv_model::Down;
 
-/// Where bytes are written.
+/// Where bytes are written (POSIX.1-2017, write).
 pub trait Sink {
     // The bytes taken, where they are known, and how many calls failed: a count of 64 bits at least, which saturates.
     ghost seen: { Self → Stream };

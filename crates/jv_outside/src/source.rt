@@ -2,7 +2,7 @@ ghost use Rattle.jv_outside.specs.Stream.{Stream, Reads};
 
 use jv_model::Down;
 
-/// Where bytes are read.
+/// Where bytes are read (POSIX.1-2017, read).
 pub trait Source {
     // The bytes left, where they are known, and how many calls failed: a count of 64 bits at least, which saturates.
     ghost seen: { Self → Stream };

@@ -3,17 +3,11 @@ ghost use Rattle.std.specs.Prelude.{◌<◌};
 
 use jv_model::{Bytes, Down, Moment, RowKey, Rows, Sequence, copied};
 use jv_outside::{
-    Batch, Clock, Fails, Keeper, MemClock, MemKeeper, MemSink, MemSource, NeverClock, NeverKeeper,
+    Batch, Clock, Keeper, MemClock, MemKeeper, MemSink, MemSource, NeverClock, NeverKeeper,
     NeverSink, NeverSource, Sink, Source, write_whole,
 };
+use jv_samples::failing_at;
 use std::alloc::{AllocError, Global};
-
-/// The number of a device's only call that fails, or 0.
-pub(crate) fn failing_at(alloc: Global, number: u64) -> Result<Fails, AllocError> {
-    let mut numbers = Sequence::new(alloc);
-    numbers.push(number)?;
-    Ok(Fails::At(numbers))
-}
 
 /// Reads eight times, and returns the bytes and the number of errors.
 fn drained<S: Source>(alloc: Global, source: &mut S) -> Result<(Vec<u8>, u32), AllocError> {

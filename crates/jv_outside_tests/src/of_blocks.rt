@@ -5,12 +5,12 @@ ghost use Rattle.std.specs.Option.{option_map};
 ghost use Rattle.jv_outside.specs.Carriage.{Sends};
 ghost use Rattle.jv_outside.specs.Objects.{with_object};
 
-use crate::in_memory::failing_at;
 use jv_model::{ClientId, Down, Moment, Name, NameList, Seen, SeenList, Sequence, copied};
 use jv_outside::{
     Carrier, Depot, Load, MemCarrier, MemDepot, MemShelf, NeverCarrier, NeverDepot, NeverShelf,
     Object, ObjectList, Parcel, Shelf, Staged, StagedList,
 };
+use jv_samples::failing_at;
 use std::alloc::{AllocError, Global};
 
 /// Sends bytes and publishes what stands for them.
@@ -278,7 +278,7 @@ fn fails(worker: &mut Worker, same: &Parcel) -> bool {
 }
 
 #[test]
-fn a_carrier_fails_as_told(rt: HostRuntime) -> Result<(), AllocError> {
+fn a_carrier_fails_as_asked(rt: HostRuntime) -> Result<(), AllocError> {
     let alloc = rt.alloc();
     let same = held(alloc)?;
     let carrier = MemCarrier::new(alloc, failing_at(alloc, 1)?);

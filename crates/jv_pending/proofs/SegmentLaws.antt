@@ -3,8 +3,10 @@ use Rattle.std.proofs.Common.{◌≡◌, ℕ, ◌+◌, ◌%◌, ◌<◌, ◌≤�
 use Rattle.std.proofs.lemmas.Bool.{cases_eq, cond-true, cond-false, cond_both, and_parts, eqb-true, eq-eqb, ne_eqb}
 use Rattle.std.proofs.lemmas.Bool.Decides.{nat_tests}
 use Rattle.std.proofs.lemmas.Option.{none-some}
-use Rattle.jv_model.specs.client.Pending.{PendingByte, Segment, comes_before, all_after, is_rising, stands_at, is_in_range, without_range, pending_of, pending_of_others, pending_end, end_of, run_length, first_segment, window_size, byte_set, written}
+use Rattle.jv_model.specs.declared.limits.TheConstants.{WINDOW}
+use Rattle.jv_model.specs.client.Pending.{PendingByte, Segment, comes_before, all_after, is_rising, stands_at, is_in_range, without_range, pending_of, pending_of_others, pending_end, end_of, run_length, first_segment, byte_set, written}
 use Rattle.jv_model.proofs.TestLaws.{some_same}
+use Rattle.jv_model.proofs.PendingLaws.{no_first_segment}
 
 -- an inode's first segment is its own, and its first byte lies in it
 out_of_range : (i f n : ℕ) (b : PendingByte) → (b.inode ≡ i → ⊥) → is_in_range i f n b ≡ false
@@ -32,8 +34,8 @@ segment-some [] s h = absurd (none-some s h)
 segment-some (b ∷ bytes) s h =
     let same = some_same _ s h in
     let more : ℕ = run_length b.inode (b.position + 1) bytes in
-    let ahead : ℕ = cond ((b.position + 1) % window_size == 0) 1 (1 + more) in
-    let some : 0 < ahead = cond_both ((b.position + 1) % window_size == 0) 1 (1 + more) (λ n. 0 < n) (λ _. omega arith) (λ _. omega arith) in
+    let ahead : ℕ = cond ((b.position + 1) % WINDOW == 0) 1 (1 + more) in
+    let some : 0 < ahead = cond_both ((b.position + 1) % WINDOW == 0) 1 (1 + more) (λ n. 0 < n) (λ _. omega arith) (λ _. omega arith) in
     let is : cond (stands_at b.inode b.position b) ahead 0 ≡ ahead = cond-true (stands_at b.inode b.position b) ahead 0 (stands_here b) in
     subst (λ (t : Segment). 0 < t.len) same (subst (λ n. 0 < n) (sym is) some)
 
@@ -78,14 +80,14 @@ above_none : (i : ℕ) (bs : List PendingByte) → Above i 0 bs
 above_none i [] = tt
 above_none i (b ∷ bs) = (λ e. omega arith, above_none i bs)
 
-before_tells : (i p : ℕ) (b : PendingByte) → comes_before i p b ≡ true → b.inode ≡ i → p < b.position
-before_tells i p b h e = grind (arith, nat_tests)
+before_says : (i p : ℕ) (b : PendingByte) → comes_before i p b ≡ true → b.inode ≡ i → p < b.position
+before_says i p b h e = grind (arith, nat_tests)
 
 above_after : (i p : ℕ) (bs : List PendingByte) → all_after i p bs ≡ true → Above i (p + 1) bs
 above_after i p [] h = tt
 above_after i p (b ∷ bs) h =
     let both = and_parts (comes_before i p b) (all_after i p bs) h in
-    (λ e. let l = before_tells i p b both.0 e in omega arith, above_after i p bs both.1)
+    (λ e. let l = before_says i p b both.0 e in omega arith, above_after i p bs both.1)
 
 -- the bytes of an inode rise
 rises_of : (i low : ℕ) (bs : List PendingByte) → is_rising bs ≡ true → Above i low bs → RiseFrom i low (pending_of i bs)
@@ -104,6 +106,31 @@ rises i bs r = rises_of i 0 bs r (above_none i bs)
 ends_after : (i low : ℕ) (b : PendingByte) (bs : List PendingByte) → RiseFrom i low (b ∷ bs) → b.position < pending_end (b ∷ bs)
 ends_after i low b [] r = omega arith
 ends_after i low b (c ∷ cs) r = let l = ends_after i (b.position + 1) c cs r.2 in let m = r.2.1 in omega arith
+
+-- a run from the first of them on ends by the last
+run_ends : (i j low p : ℕ) (b : PendingByte) (bs : List PendingByte) → RiseFrom i low (b ∷ bs) → p ≤ b.position
+    → p + run_length j p (b ∷ bs) ≤ pending_end (b ∷ bs)
+run_ends i j low p b [] r first =
+    let most : run_length j p (b ∷ []) ≤ 1 = cond_both (stands_at j p b) (cond ((p + 1) % WINDOW == 0) 1 1) 0 (λ n. n ≤ 1)
+    (λ _. cond_both ((p + 1) % WINDOW == 0) 1 1 (λ n. n ≤ 1) (λ _. omega arith) (λ _. omega arith)) (λ _. omega arith) in
+    omega (arith, most, first)
+run_ends i j low p b (c ∷ cs) r first =
+    let more : ℕ = run_length j (p + 1) (c ∷ cs) in
+    let rises = r.2.1 in
+    let later : p + 1 + more ≤ pending_end (c ∷ cs) = run_ends i j (b.position + 1) (p + 1) c cs r.2 (omega (arith, first, rises)) in
+    let most : run_length j p (b ∷ c ∷ cs) ≤ 1 + more = cond_both (stands_at j p b) (cond ((p + 1) % WINDOW == 0) 1 (1 + more)) 0 (λ n. n ≤ 1 + more)
+    (λ _. cond_both ((p + 1) % WINDOW == 0) 1 (1 + more) (λ n. n ≤ 1 + more) (λ _. omega arith) (λ _. omega arith)) (λ _. omega arith) in
+    omega (arith, later, most)
+
+-- an inode's first segment ends by its last byte
+pub segment-ends : (i : ℕ) (bytes : List PendingByte) (s : Segment) → is_rising bytes ≡ true → first_segment (pending_of i bytes) ≡ Some s
+    → s.from + s.len ≤ end_of i bytes
+segment-ends i bytes s rising first = of_list (pending_of i bytes) (rises i bytes rising) first
+  where
+    of_list : (bs : List PendingByte) → RiseFrom i 0 bs → first_segment bs ≡ Some s → s.from + s.len ≤ pending_end bs
+    of_list [] r e = absurd (none-some s e)
+    of_list (b ∷ bs) r e = subst (λ (t : Segment). t.from + t.len ≤ pending_end (b ∷ bs)) (some_same _ s e)
+        (run_ends i b.inode 0 b.position b bs r (omega arith))
 
 -- the others' bytes stay
 pub others_stay : (i f n : ℕ) (bytes : List PendingByte) → pending_of_others i (without_range i f n bytes) ≡ pending_of_others i bytes
@@ -137,11 +164,7 @@ others_all i (b ∷ bytes) h =
     (cases_eq b.inode i)
 
 pub none_of_others : (i : ℕ) (bytes : List PendingByte) → first_segment (pending_of i bytes) ≡ None → pending_of i bytes ≡ []
-none_of_others i bytes h = none (pending_of i bytes) h
-  where
-    none : (bs : List PendingByte) → first_segment bs ≡ None → bs ≡ []
-    none [] e = refl
-    none (b ∷ bs) e = absurd (some_segment b bs e)
+none_of_others i bytes h = no_first_segment (pending_of i bytes) h
 
 pub no_end : (i : ℕ) (bytes : List PendingByte) → first_segment (pending_of i bytes) ≡ None → end_of i bytes ≡ 0
 no_end i bytes h = ap pending_end (none_of_others i bytes h)

@@ -1,11 +1,12 @@
 -- Runs: how the pending bytes lie in memory.
-use Rattle.std.specs.Prelude.{◌≡◌, ℕ, ◌+◌, ◌-◌, ◌*◌, ◌%◌, ◌<◌, ◌≤◌, ◌==◌, nat_lt, nat_le, if◌then◌else◌, Bool, List, [], ◌∷◌, ◌++◌, length, take, drop, min, filter, Option, None, Some, IsSome, IfSome, IsSomeAnd}
+use Rattle.std.specs.Prelude.{◌≡◌, ℕ, ◌+◌, ◌-◌, ◌*◌, ◌%◌, ◌<◌, ◌≤◌, ◌==◌, nat_lt, nat_le, if◌then◌else◌, Bool, List, [], ◌∷◌, ◌++◌, length, take, drop, min, filter, Option, Some, IsSome, IfSome, IsSomeAnd}
 use Rattle.std.specs.declared.cmp.Ordering.{Ordering}
 use Rattle.std.specs.Ordering.{nat_cmp, ordering_then}
 use Rattle.std.specs.BTreeMap.{is_at}
 use Rattle.std.specs.Map.{lookup}
 use Rattle.jv_model.specs.declared.limits.TheConstants.{FILE_END, WINDOW}
 use Rattle.jv_model.specs.client.Pending.{PendingByte, Segment, written}
+use Rattle.jv_model.specs.Lists.{first_item, last_item}
 use Rattle.jv_pending.specs.declared.run.RunStart.{RunStart}
 
 -- a run: where it begins, and its bytes
@@ -85,15 +86,6 @@ runs_from n = filter (λ r. nat_le n (start_place r))
 abbrev pub runs_within : ℕ → ℕ → List Run → List Run
 runs_within low high runs = runs_from low (runs_before high runs)
 
-abbrev pub first_of : List Run → Option Run
-first_of [] = None
-first_of (r ∷ rs) = Some r
-
-abbrev pub last_of : List Run → Option Run
-last_of [] = None
-last_of (r ∷ []) = Some r
-last_of (_ ∷ r ∷ rs) = last_of (r ∷ rs)
-
 -- where the first run begins, or else this place
 abbrev pub first_place : ℕ → List Run → ℕ
 first_place n [] = n
@@ -157,8 +149,8 @@ pub record IsFirst (inode from : ℕ) (runs : List Run) (first : RunStart) : Typ
   pub inode_is : first.inode ≡ inode
   pub from_is : first.from ≤ from
   pub before : EndBy (place inode from - gap from) (runs_before (place_of first) runs)
-  pub reached : IfSome (first_of (runs_from (place_of first) runs)) (λ r. r.0.inode ≡ inode → from + 1 ≤ end_of_run r + gap from)
-  pub begins : (first.from < from → IsSomeAnd (first_of (runs_from (place_of first) runs)) (λ r. r.0 ≡ first))
+  pub reached : IfSome (first_item (runs_from (place_of first) runs)) (λ r. r.0.inode ≡ inode → from + 1 ≤ end_of_run r + gap from)
+  pub begins : (first.from < from → IsSomeAnd (first_item (runs_from (place_of first) runs)) (λ r. r.0 ≡ first))
 
 -- the runs from `first` on and before `end` are those that a write overlaps or touches in a window
 pub record IsTouched (inode from to : ℕ) (runs : List Run) (first end : RunStart) : Type 0 where
@@ -183,7 +175,7 @@ given_back s is_new bytes runs = if is_new then without_run s runs else with_run
 -- the last run before `end` begins behind `first`, and more than `count` of its bytes lie behind a position
 pub record IsLonger (first end : RunStart) (to count : ℕ) (runs : List Run) (last : RunStart) : Type 0 where
   pub bytes : List ℕ
-  pub is_last : Some (last, bytes) ≡ last_of (runs_before (place_of end) runs)
+  pub is_last : Some (last, bytes) ≡ last_item (runs_before (place_of end) runs)
   pub behind : place_of first < place_of last
   pub from : last.from ≤ to
   pub longer : count + (to - last.from) < length bytes

@@ -6,7 +6,7 @@
 ghost use Rattle.std.specs.Prelude.{◌≡◌, ℕ, ◌+◌, ◌*◌, ◌<◌, ◌≤◌, ◌↔◌, [], length, Some, OnOk, OnErr, IfSome, IsErrOf, IsOk, IsOkUnless, IsTrue};
 ghost use Rattle.std.specs.Option.{option_map};
 ghost use Rattle.jv_model.specs.declared.limits.TheConstants.{FILE_END, WINDOW};
-ghost use Rattle.jv_model.specs.client.Pending.{window_size, written, next_segment, bytes_in_range, without_range, pending_of, pending_of_others, end_of, is_rising};
+ghost use Rattle.jv_model.specs.client.Pending.{written, next_segment, bytes_in_range, without_range, pending_of, pending_of_others, end_of, is_rising};
 ghost use Rattle.jv_pending.specs.At.{segment_at};
 
 use crate::run::{RunStart, Runs, find_end, find_first};
@@ -114,7 +114,9 @@ impl Pending {
         ensures own { IfSome result (λ at.
             next_segment (Some at.inode) self.now.bytes ≡ Some (segment_at at)) }
         ensures some { IfSome result (λ at. 0 < at.len) }
-        ensures inside { IfSome result (λ at. at.pos + at.len ≤ window_size) }
+        ensures inside { IfSome result (λ at. at.pos + at.len ≤ WINDOW) }
+        ensures ends { IfSome result (λ at.
+            (segment_at at).from + at.len ≤ end_of at.inode self.now.bytes) }
         ensures file { IfSome result (λ at. at.window * WINDOW < FILE_END) }
     {
         find_first(&self.runs, inode)

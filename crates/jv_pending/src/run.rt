@@ -1,9 +1,10 @@
 //! Runs of pending bytes, and where to find them.
 ghost use Rattle.std.specs.Prelude.{◌≡◌, ℕ, ◌+◌, ◌*◌, ◌<◌, ◌≤◌, ◌^◌, ◌↔◌, length, Option, Some, None, IfSome, IsTrue};
 ghost use Rattle.std.specs.Option.{option_map};
-ghost use Rattle.jv_model.specs.client.Pending.{window_size, next_segment, end_of};
+ghost use Rattle.jv_model.specs.client.Pending.{next_segment, end_of};
+ghost use Rattle.jv_model.specs.Lists.{first_item, last_item};
 ghost use Rattle.jv_pending.specs.At.{segment_at};
-ghost use Rattle.jv_pending.specs.Runs.{place_of, end_of_run, segment_of_run, IsRun, InOrder, Rise, pending_bytes, runs_before, runs_from, runs_within, first_of, last_of};
+ghost use Rattle.jv_pending.specs.Runs.{place_of, end_of_run, segment_of_run, IsRun, InOrder, Rise, pending_bytes, runs_before, runs_from, runs_within};
 
 use crate::run_bytes::RunBytes;
 use crate::segment::SegmentAt;
@@ -58,7 +59,7 @@ impl RunStart {
     pub(crate) fn segment(self, bytes: &RunBytes) -> SegmentAt
         requires { IsRun (self, bytes.now) }
         ensures same { segment_at result ≡ segment_of_run (self, bytes.now) }
-        ensures inside { result.pos + result.len ≤ window_size }
+        ensures inside { result.pos + result.len ≤ WINDOW }
         ensures file { result.window * WINDOW < FILE_END }
     {
         SegmentAt {
@@ -75,7 +76,7 @@ pub(crate) fn first_from(runs: &Runs, start: RunStart) -> Option<(RunStart, &Run
     requires rise { Rise 0 runs.now.entries }
     requires file { start.from ≤ FILE_END }
     ensures { option_map (λ r. (r.0, r.1.now)) result
-        ≡ first_of (runs_from (place_of start) runs.now.entries) }
+        ≡ first_item (runs_from (place_of start) runs.now.entries) }
 {
     let (start, bytes) = runs.range(start..).next()?;
     Some((*start, bytes))
@@ -86,7 +87,7 @@ pub(crate) fn last_before(runs: &Runs, end: RunStart) -> Option<(RunStart, &RunB
     requires rise { Rise 0 runs.now.entries }
     requires file { end.from ≤ FILE_END }
     ensures { option_map (λ r. (r.0, r.1.now)) result
-        ≡ last_of (runs_before (place_of end) runs.now.entries) }
+        ≡ last_item (runs_before (place_of end) runs.now.entries) }
 {
     let (start, bytes) = runs.range(..end).next_back()?;
     Some((*start, bytes))
@@ -117,7 +118,7 @@ pub(crate) fn find_first(runs: &Runs, inode: Option<u64>) -> Option<SegmentAt>
     ensures own { IfSome result (λ at.
         next_segment (Some at.inode) (pending_bytes runs.now.entries) ≡ Some (segment_at at)) }
     ensures some { IfSome result (λ at. 0 < at.len) }
-    ensures inside { IfSome result (λ at. at.pos + at.len ≤ window_size) }
+    ensures inside { IfSome result (λ at. at.pos + at.len ≤ WINDOW) }
     ensures file { IfSome result (λ at. at.window * WINDOW < FILE_END) }
 {
     match inode {

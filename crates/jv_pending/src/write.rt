@@ -11,7 +11,7 @@ ghost use Rattle.std.specs.Prelude.{◌≡◌, ℕ, ◌+◌, ◌-◌, ◌<◌, �
 ghost use Rattle.std.specs.Option.{option_map};
 ghost use Rattle.jv_model.specs.declared.limits.TheConstants.{FILE_END};
 ghost use Rattle.jv_model.specs.client.Pending.{written};
-ghost use Rattle.jv_pending.specs.Runs.{place_of, bytes_at, gap, pending_bytes, InOrder, Rise, IsFirst, IsTouched, runs_before, runs_within, last_of, with_runs, tail_of, joined_behind, IsLonger, IsOnly, Starts, Writes};
+ghost use Rattle.jv_pending.specs.Runs.{place_of, bytes_at, gap, pending_bytes, InOrder, Rise, IsFirst, IsTouched, runs_before, runs_within, with_runs, tail_of, joined_behind, IsLonger, IsOnly, Starts, Writes};
 
 use crate::place::{give_back, put_over, swap_bytes, take_run};
 use crate::run::{RunStart, Runs, count_bytes, last_before};

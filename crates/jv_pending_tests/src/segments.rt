@@ -10,19 +10,13 @@ type Write = (u64, &'static str);
 /// A window, a position in it, and the text of the segment that begins there.
 type Segment = (u32, u32, &'static str);
 
-/// Writes texts, and takes out the segments that are wanted, the least one first.
-fn assert_leaves(
+/// Takes out the segments that are asked for, the least one first, after which nothing is left.
+fn assert_takes(
     rt: &(impl Abort + AllocGlobal),
     name: &str,
-    writes: &[Write],
+    pending: &mut Pending,
     wanted: &[Segment],
 ) -> Result<(), Fail> {
-    let mut pending = Pending::new(rt.alloc(), 100);
-    for (from, text) in writes {
-        assert!(rt; *from <= 2 * WINDOW && text.len() < 100, "{name}");
-        let bytes = copied(rt.alloc(), text.as_bytes())?;
-        assert_eq!(rt; pending.write(1, *from, &bytes), Ok(()), "{name}");
-    }
     for (window, pos, text) in wanted {
         let at = pending.first(None).ok_or("no segment")?;
         let named = SegmentAt {
@@ -37,6 +31,22 @@ fn assert_leaves(
     }
     assert_eq!(rt; (pending.first(None), pending.bytes()), (None, 0), "{name}");
     Ok(())
+}
+
+/// Writes texts, and takes out the segments that are asked for.
+fn assert_leaves(
+    rt: &(impl Abort + AllocGlobal),
+    name: &str,
+    writes: &[Write],
+    wanted: &[Segment],
+) -> Result<(), Fail> {
+    let mut pending = Pending::new(rt.alloc(), 100);
+    for (from, text) in writes {
+        assert!(rt; *from <= 2 * WINDOW && text.len() < 100, "{name}");
+        let bytes = copied(rt.alloc(), text.as_bytes())?;
+        assert_eq!(rt; pending.write(1, *from, &bytes), Ok(()), "{name}");
+    }
+    assert_takes(rt, name, &mut pending, wanted)
 }
 
 #[test]

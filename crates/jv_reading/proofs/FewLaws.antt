@@ -13,7 +13,7 @@ use Rattle.jv_reading.specs.Copies.{IsCopied}
 use Rattle.jv_reading.specs.Overlaps.{overlaps_in, shown_of, with_overlap}
 use Rattle.jv_reading.proofs.CopyLaws.{copied_push}
 
--- blocks are equal in each field exactly where they are the same
+-- blocks are equal in each field if and only if they are the same
 pub same_if_equal : (a b : BlockId) → ((a.id == b.id) && ((a.index == b.index) && (a.size == b.size))) ≡ is_same_block a b
 same_if_equal a b = and_assoc (a.id == b.id) (a.index == b.index) (a.size == b.size)
 

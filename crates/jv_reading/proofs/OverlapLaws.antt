@@ -1,9 +1,8 @@
 -- Laws of the overlaps of blocks with a part.
 use Rattle.std.proofs.Common.{◌≡◌, ℕ, ◌+◌, ◌-◌, ◌*◌, ◌/◌, ◌%◌, ◌<◌, ◌≤◌, Bool, true, false, cond, List, [], ◌∷◌, ◌++◌, None, Some, refl, sym, ap, ◌∙◌, subst, ⊎_elim, arith}
-use Rattle.std.specs.Prelude.{◌||◌, ◌&&◌, ◌==◌, All}
+use Rattle.std.specs.Prelude.{◌||◌, All}
 use Rattle.std.specs.List.{list_any}
 use Rattle.std.specs.Global.{Vec}
-use Rattle.std.specs.Ordering.{nat_cmp, ordering_then}
 use Rattle.std.specs.BTreeMap.{is_at}
 use Rattle.std.specs.Map.{lookup}
 use Rattle.std.proofs.lemmas.Nat.{div-add-mod', div-mul-add}
@@ -17,36 +16,30 @@ use Rattle.jv_model.specs.declared.slice.Rec.{Rec}
 use Rattle.jv_model.specs.declared.slice.Spot.{Spot}
 use Rattle.jv_model.specs.declared.slice.Spot.TheVariants.{Zero, Slice}
 use Rattle.jv_model.specs.blocks.Slices.{IsPlan, IsAsStored, block_at, block_length, is_same_block, place_after, stored_place}
-use Rattle.jv_slices.proofs.ListingLaws.{then_eq, is_eq_nat, and_assoc}
+use Rattle.jv_slices.proofs.ListingLaws.{same_at}
 use Rattle.jv_slices.proofs.NeedLaws.{equal_if_same, same_self}
-use Rattle.jv_reading.specs.declared.table.BlockKey.{BlockKey}
+use Rattle.jv_slices.specs.Listing.{ordered_of, ordered_cmp}
+use Rattle.jv_slices.specs.declared.blocks.OrderedBlock.{OrderedBlock}
 use Rattle.jv_reading.specs.declared.copying.Overlap.{Overlap}
-use Rattle.jv_reading.specs.Overlaps.{BeginsBy, HasOverlaps, IsByteOf, IsListed, IsOverlap, Entries, Overlaps, ShowsPiece, key_cmp, key_of, or_none, overlaps_under, reaches, with_overlap}
-
--- the table's order takes blocks as equal exactly where they are the same
-pub same_at : (a b : BlockId) → is_at (key_cmp (key_of a)) (key_of b) ≡ is_same_block a b
-same_at a b =
-    then_eq a.id b.id (ordering_then (nat_cmp a.index b.index) (nat_cmp a.size b.size))
-    ∙ ap (λ x. (a.id == b.id) && x) (then_eq a.index b.index (nat_cmp a.size b.size) ∙ ap (λ x. (a.index == b.index) && x) (is_eq_nat a.size b.size))
-    ∙ and_assoc (a.id == b.id) (a.index == b.index) (a.size == b.size)
+use Rattle.jv_reading.specs.Overlaps.{BeginsBy, HasOverlaps, IsByteOf, IsListed, IsOverlap, Entries, Overlaps, ShowsPiece, or_none, overlaps_under, reaches, with_overlap}
 
 pub with_own : (t : Overlaps) (b : BlockId) (o : Overlap) → with_overlap t b o b ≡ t b ++ o ∷ []
 with_own t b o = rw (same_self b) refl
 
 -- a block's overlaps were taken out, and put back with one more
 pub put_back : (before without after : Entries) (block : BlockId) (o : Overlap) (v : Vec Overlap) → v.items ≡ overlaps_under before block ++ o ∷ []
-    → ((q : BlockKey) → lookup (is_at (key_cmp q)) without ≡ cond (is_at (key_cmp (key_of block)) q) None (lookup (is_at (key_cmp q)) before))
-    → ((q : BlockKey) → lookup (is_at (key_cmp q)) after ≡ cond (is_at (key_cmp (key_of block)) q) (Some v) (lookup (is_at (key_cmp q)) without))
+    → ((q : OrderedBlock) → lookup (is_at (ordered_cmp q)) without ≡ cond (is_at (ordered_cmp (ordered_of block)) q) None (lookup (is_at (ordered_cmp q)) before))
+    → ((q : OrderedBlock) → lookup (is_at (ordered_cmp q)) after ≡ cond (is_at (ordered_cmp (ordered_of block)) q) (Some v) (lookup (is_at (ordered_cmp q)) without))
     → (b : BlockId) → overlaps_under after b ≡ with_overlap (overlaps_under before) block o b
 put_back before without after block o v is taken put b =
-    let there : overlaps_under after b ≡ or_none (cond (is_same_block block b) (Some v) (lookup (is_at (key_cmp (key_of b))) without)) =
-    ap or_none (put (key_of b)) ∙ ap (λ (x : Bool). or_none (cond x (Some v) (lookup (is_at (key_cmp (key_of b))) without))) (same_at block b) in
-    let gone : lookup (is_at (key_cmp (key_of b))) without ≡ cond (is_same_block block b) None (lookup (is_at (key_cmp (key_of b))) before) =
-    taken (key_of b) ∙ ap (λ (x : Bool). cond x None (lookup (is_at (key_cmp (key_of b))) before)) (same_at block b) in
+    let there : overlaps_under after b ≡ or_none (cond (is_same_block block b) (Some v) (lookup (is_at (ordered_cmp (ordered_of b))) without)) =
+    ap or_none (put (ordered_of b)) ∙ ap (λ (x : Bool). or_none (cond x (Some v) (lookup (is_at (ordered_cmp (ordered_of b))) without))) (same_at block b) in
+    let gone : lookup (is_at (ordered_cmp (ordered_of b))) without ≡ cond (is_same_block block b) None (lookup (is_at (ordered_cmp (ordered_of b))) before) =
+    taken (ordered_of b) ∙ ap (λ (x : Bool). cond x None (lookup (is_at (ordered_cmp (ordered_of b))) before)) (same_at block b) in
     there ∙ go (is_same_block block b) refl gone
   where
-    go : (same : Bool) → is_same_block block b ≡ same → lookup (is_at (key_cmp (key_of b))) without ≡ cond same None (lookup (is_at (key_cmp (key_of b))) before)
-        → or_none (cond same (Some v) (lookup (is_at (key_cmp (key_of b))) without)) ≡ cond same (overlaps_under before b ++ o ∷ []) (overlaps_under before b)
+    go : (same : Bool) → is_same_block block b ≡ same → lookup (is_at (ordered_cmp (ordered_of b))) without ≡ cond same None (lookup (is_at (ordered_cmp (ordered_of b))) before)
+        → or_none (cond same (Some v) (lookup (is_at (ordered_cmp (ordered_of b))) without)) ≡ cond same (overlaps_under before b ++ o ∷ []) (overlaps_under before b)
     go true e gone = is ∙ ap (λ (x : BlockId). overlaps_under before x ++ o ∷ []) (equal_if_same block b e)
     go false e gone = ap or_none gone
 

@@ -3,13 +3,13 @@ use Rattle.std.specs.Prelude.{◌≡◌, ℕ, ◌<◌, List, slice_get, All, Som
 use Rattle.jv_model.specs.declared.slice.BlockId.{BlockId}
 use Rattle.jv_model.specs.declared.slice.Rec.{Rec}
 use Rattle.jv_volume.specs.TypedRows.{Rows}
-use Rattle.jv_contents.specs.Blocks.{Blocks, Grows, HasBlocks, IsThere, told_by}
+use Rattle.jv_contents.specs.Blocks.{Blocks, Grows, HasBlocks, IsThere, known_by}
 use Rattle.jv_contents.specs.Counts.{HadSize}
-use Rattle.jv_reading.specs.Parts.{FillsIn, IsNamed, IsToldOf, Part, ReadsAs}
+use Rattle.jv_reading.specs.Parts.{FillsIn, IsNamed, IsKnownOf, Part, ReadsAs}
 
 -- of each block that is there its bytes are known
-abbrev pub BlocksAreTold : Type 0
-BlocksAreTold = (block : ℕ) (blocks : Blocks) (b : BlockId) (bytes : List ℕ) → blocks b ≡ Some bytes → IsToldOf (told_by block blocks) block bytes b
+abbrev pub BlocksAreKnown : Type 0
+BlocksAreKnown = (block : ℕ) (blocks : Blocks) (b : BlockId) (bytes : List ℕ) → blocks b ≡ Some bytes → IsKnownOf (known_by block blocks) block bytes b
 
 -- the slices of the records have rows with their sizes
 abbrev pub HaveSlices : Rows → List Rec → Type 0
@@ -22,7 +22,7 @@ NamedAreThere = (block : ℕ) (rows : Rows) (blocks : Blocks) (list : List Rec) 
 
 -- a part reads as these blocks have it, and as all do that may be there later
 abbrev pub ReadsBlocks : Blocks → Part → Type 0
-ReadsBlocks blocks part = (later : Blocks) → Grows blocks later → ReadsAs (told_by part.block later) part
+ReadsBlocks blocks part = (later : Blocks) → Grows blocks later → ReadsAs (known_by part.block later) part
 
 -- that goes on where blocks come, and where a block that is there is filled in
 pub record ReadsGoOn : Type 0 where

@@ -1,9 +1,7 @@
 -- Where the bytes of blocks are shown in a part of a window. Positions are counted from the part's first.
-use Rattle.std.specs.Prelude.{◌≡◌, ℕ, ◌+◌, ◌/◌, ◌%◌, ◌<◌, ◌≤◌, Bool, true, ◌&&◌, nat_le, nat_lt, List, [], ◌∷◌, ◌++◌, if◌then◌else◌, Option, None, Some, All}
+use Rattle.std.specs.Prelude.{◌≡◌, ℕ, ◌+◌, ◌/◌, ◌%◌, ◌<◌, ◌≤◌, Bool, true, List, [], ◌∷◌, ◌++◌, if◌then◌else◌, Option, None, Some, All}
 use Rattle.std.specs.List.{filter_map, list_any}
 use Rattle.std.specs.Global.{Vec}
-use Rattle.std.specs.declared.cmp.Ordering.{Ordering}
-use Rattle.std.specs.Ordering.{nat_cmp, ordering_then}
 use Rattle.std.specs.BTreeMap.{is_at}
 use Rattle.std.specs.Map.{lookup}
 use Rattle.jv_model.specs.declared.slice.BlockId.{BlockId}
@@ -11,18 +9,13 @@ use Rattle.jv_model.specs.declared.slice.Piece.{Piece}
 use Rattle.jv_model.specs.declared.slice.Spot.{Spot}
 use Rattle.jv_model.specs.declared.slice.Spot.TheVariants.{Zero, Slice}
 use Rattle.jv_model.specs.blocks.Slices.{block_at, is_same_block, place_after}
-use Rattle.jv_reading.specs.declared.table.BlockKey.{BlockKey}
+use Rattle.jv_model.specs.Ranges.{in_range}
 use Rattle.jv_reading.specs.declared.copying.Overlap.{Overlap}
 use Rattle.jv_reading.specs.declared.copying.Shown.{Shown}
 use Rattle.jv_reading.specs.declared.table.Table.{Table}
 use Rattle.jv_reading.specs.declared.table.Table.TheVariants.{Few, Many}
-
-abbrev pub key_of : BlockId → BlockKey
-key_of b = record { id = b.id; index = b.index; size = b.size }
-
--- the order of the table: by id, index and size
-abbrev pub key_cmp : BlockKey → BlockKey → Ordering
-key_cmp a b = ordering_then (nat_cmp a.id b.id) (ordering_then (nat_cmp a.index b.index) (nat_cmp a.size b.size))
+use Rattle.jv_slices.specs.Listing.{ordered_of, ordered_cmp}
+use Rattle.jv_slices.specs.declared.blocks.OrderedBlock.{OrderedBlock}
 
 abbrev pub or_none : Option (Vec Overlap) → List Overlap
 or_none None = []
@@ -37,10 +30,10 @@ abbrev pub overlaps_in : List Shown → BlockId → List Overlap
 overlaps_in few b = filter_map (shown_of b) few
 
 abbrev pub Entries : Type 0
-Entries = List (BlockKey × Vec Overlap)
+Entries = List (OrderedBlock × Vec Overlap)
 
 abbrev pub overlaps_under : Entries → BlockId → List Overlap
-overlaps_under many b = or_none (lookup (is_at (key_cmp (key_of b))) many)
+overlaps_under many b = or_none (lookup (is_at (ordered_cmp (ordered_of b))) many)
 
 abbrev pub overlaps_at : Table → BlockId → List Overlap
 overlaps_at (Few few) b = overlaps_in few.items b
@@ -60,7 +53,7 @@ with_overlap overlaps block overlap b = (if is_same_block block b then overlaps 
 
 -- the overlap has this position
 abbrev pub reaches : ℕ → Overlap → Bool
-reaches position overlap = nat_le overlap.start position && nat_lt position (overlap.start + overlap.len)
+reaches position overlap = in_range overlap.start overlap.len position
 
 -- the spot is the byte at a place of a block
 abbrev pub IsByteOf : ℕ → BlockId → ℕ → Spot → Type 0

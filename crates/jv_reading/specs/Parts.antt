@@ -5,7 +5,7 @@ use Rattle.jv_model.specs.declared.slice.Rec.{Rec}
 use Rattle.jv_model.specs.declared.slice.Spot.{Spot}
 use Rattle.jv_model.specs.declared.slice.Spot.TheVariants.{Zero, Slice}
 use Rattle.jv_model.specs.blocks.Slices.{block_at, block_count, stored_place}
-use Rattle.jv_contents.specs.Bytes.{Told, spot_byte}
+use Rattle.jv_contents.specs.Bytes.{KnownBytes, spot_byte}
 
 -- the positions of a window from one to another, by its list; the length of blocks; the blocks that are left; the bytes so far
 pub record Part : Type 0 where
@@ -24,8 +24,8 @@ pub record IsPartOf (list : List Rec) (from to block : ℕ) (part : Part) : Type
   pub block_is : part.block ≡ block
 
 -- the byte that a position of a window has
-abbrev pub window_byte : Told → List Rec → ℕ → ℕ
-window_byte told list position = spot_byte told (stored_place list position)
+abbrev pub window_byte : KnownBytes → List Rec → ℕ → ℕ
+window_byte known_bytes list position = spot_byte known_bytes (stored_place list position)
 
 -- the byte is of none of these blocks
 abbrev pub IsOfNone : ℕ → List BlockId → Spot → Type 0
@@ -33,17 +33,17 @@ IsOfNone block blocks Zero = Unit {0}
 IsOfNone block blocks (Slice id size at) = Contains blocks (block_at id size block (at / block)) → ⊥
 
 -- each position has the byte that is known of it, unless that is of a block that is left
-abbrev pub ReadsAs : Told → Part → Type 0
-ReadsAs told part = (n : ℕ) → n < part.to - part.from → IsOfNone part.block part.left (stored_place part.list (part.from + n))
-    → slice_index part.bytes n ≡ window_byte told part.list (part.from + n)
+abbrev pub ReadsAs : KnownBytes → Part → Type 0
+ReadsAs known_bytes part = (n : ℕ) → n < part.to - part.from → IsOfNone part.block part.left (stored_place part.list (part.from + n))
+    → slice_index part.bytes n ≡ window_byte known_bytes part.list (part.from + n)
 
 -- these bytes are known of a block
-abbrev pub IsToldOf : Told → ℕ → List ℕ → BlockId → Type 0
-IsToldOf told block bytes b = (id size at : ℕ) → at < size → block_at id size block (at / block) ≡ b → slice_index bytes (at % block) ≡ told id size at
+abbrev pub IsKnownOf : KnownBytes → ℕ → List ℕ → BlockId → Type 0
+IsKnownOf known_bytes block bytes b = (id size at : ℕ) → at < size → block_at id size block (at / block) ≡ b → slice_index bytes (at % block) ≡ known_bytes id size at
 
 -- where the bytes are those of the block that is next, the part reads as is known, as it did before
 abbrev pub FillsIn : List ℕ → Part → Part → Type 0
-FillsIn bytes before after = (told : Told) → IfSome (slice_get before.left 0) (IsToldOf told before.block bytes) → ReadsAs told before → ReadsAs told after
+FillsIn bytes before after = (known_bytes : KnownBytes) → IfSome (slice_get before.left 0) (IsKnownOf known_bytes before.block bytes) → ReadsAs known_bytes before → ReadsAs known_bytes after
 
 -- a block of the slice of one of the records
 pub record IsNamed (list : List Rec) (block : ℕ) (b : BlockId) : Type 0 where

@@ -1,9 +1,9 @@
 //! What a reader of a part may rely on. Each law is a function that does nothing.
-ghost use Rattle.jv_reading.specs.Laws.{BlocksAreTold, NamedAreThere, ReadsGoOn};
+ghost use Rattle.jv_reading.specs.Laws.{BlocksAreKnown, NamedAreThere, ReadsGoOn};
 
 /// Of each block that is there the bytes are known.
-pub fn blocks_are_told()
-    ensures { BlocksAreTold }
+pub fn blocks_are_known()
+    ensures { BlocksAreKnown }
 {}
 
 /// Where all blocks of all slices are there, so is each block of the slice of a record.

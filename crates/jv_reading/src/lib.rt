@@ -6,5 +6,5 @@ mod laws;
 mod table;
 mod window;
 
-pub use laws::{blocks_are_told, named_are_there, reads_go_on};
+pub use laws::{blocks_are_known, named_are_there, reads_go_on};
 pub use window::WindowRead;

@@ -4,29 +4,21 @@ ghost use Rattle.jv_model.specs.declared.slice.Rec.{Rec as RecSeen};
 ghost use Rattle.jv_model.specs.declared.slice.BlockId.{BlockId as BlockSeen};
 ghost use Rattle.jv_model.specs.declared.slice.Spot.{Spot as SpotSeen};
 ghost use Rattle.jv_model.specs.blocks.Slices.{IsPart, IsPlan, IsAsStored, stored_place};
-ghost use Rattle.jv_slices.specs.Listing.{AreFew};
+ghost use Rattle.jv_slices.specs.Listing.{AreFew, ordered_of};
 ghost use Rattle.jv_slices.specs.Shown.{EndsBy};
 ghost use Rattle.jv_model.specs.declared.limits.TheConstants.{WINDOW};
 ghost use Rattle.jv_reading.specs.Copies.{Fits, HasBytes, IsCopied};
 ghost use Rattle.jv_reading.specs.Overlaps.{HasOverlaps, IsFew, ShowsPiece, BeginsBy};
-ghost use Rattle.jv_reading.specs.Overlaps.{key_of, overlaps_at, overlaps_under, with_overlap};
+ghost use Rattle.jv_reading.specs.Overlaps.{overlaps_at, overlaps_under, with_overlap};
 
 use crate::copying::{Overlap, Shown, copy_few, copy_overlaps};
 use jv_model::{BlockId, Piece, Pieces, Spot};
-use jv_slices::{are_few, block_len};
+use jv_slices::{OrderedBlock, are_few, block_len};
 use std::alloc::{AllocError, Global};
 use std::collections::BTreeMap;
 
-/// A block in the order of the table.
-#[derive(Clone, Copy, Debug, Drop, PartialEq, Eq, PartialOrd, Ord)]
-pub(crate) struct BlockKey {
-    id: u64,
-    index: u32,
-    size: u32,
-}
-
 /// Overlaps, by their blocks.
-pub(crate) type ByBlock = BTreeMap<BlockKey, Vec<Overlap>>;
+pub(crate) type ByBlock = BTreeMap<OrderedBlock, Vec<Overlap>>;
 
 /// The overlaps of blocks with a part.
 #[derive(Drop)]
@@ -37,11 +29,11 @@ pub(crate) enum Table {
     Many(ByBlock),
 }
 
-fn key_of(block: BlockId) -> BlockKey
-    ensures { result ≡ key_of block }
+fn key_of(block: BlockId) -> OrderedBlock
+    ensures { result ≡ ordered_of block }
 {
     let BlockId { id, index, size } = block;
-    BlockKey { id, index, size }
+    OrderedBlock { id, index, size }
 }
 
 /// Copies the bytes of a block to each position of a part that shows one of them.

@@ -3,7 +3,7 @@ ghost use Rattle.jv_model.specs.declared.limits.TheConstants.{WINDOW};
 ghost use Rattle.jv_model.specs.declared.slice.Piece.{Piece as PieceSeen};
 ghost use Rattle.jv_model.specs.blocks.Slices.{IsRecord, IsPlan, needed_blocks};
 ghost use Rattle.jv_model.specs.journal.Reading.{bytes_from};
-ghost use Rattle.jv_contents.specs.Bytes.{Told};
+ghost use Rattle.jv_contents.specs.Bytes.{KnownBytes};
 ghost use Rattle.jv_reading.specs.Parts.{IsPartOf, IsNamed, FillsIn, ReadsAs, window_byte};
 
 use crate::table::{Table, copy_shown, table_of};
@@ -40,8 +40,9 @@ impl Model for WindowRead {
 }
 
 impl WindowRead {
-    /// The positions of a window from `from` up to `to`, at most 67,108,864, by the window's list, over slices in blocks of
-    /// `block` bytes, at least 1. No block is filled in yet, and each byte is 0. Takes n log n time for n records and blocks.
+    /// The positions of a window from `from` up to `to`, at most 67,108,864, by the window's list, over slices in
+    /// blocks of `block` bytes, at least 1. No block is filled in yet, and each byte is 0. Takes n log n time for n
+    /// records and blocks. The only error is out of memory.
     pub fn new(
         alloc: Global,
         list: &List,
@@ -58,7 +59,8 @@ impl WindowRead {
             IsPlan list.now from to pieces → part.left ≡ needed_blocks block pieces) }
         ensures few { IfOk result (λ part. length part.left ≤ to - from) }
         ensures named { IfOk result (λ part. All (IsNamed list.now block) part.left) }
-        ensures reads { IfOk result (λ part. (told : Told) → ReadsAs told part) }
+        ensures reads { IfOk result (λ part.
+            (known_bytes : KnownBytes) → ReadsAs known_bytes part) }
     {
         let pieces = plan(alloc, list, from, to)?;
         let needed = needs(alloc, &pieces, block)?.into_vec();
@@ -101,8 +103,9 @@ impl WindowRead {
     /// The bytes, where no block is left. Takes no memory.
     pub fn into_bytes(self) -> Bytes
         requires { self.left ≡ [] }
-        ensures { (told : Told) → ReadsAs told self →
-            result ≡ bytes_from (window_byte told self.list) self.from (self.to - self.from) }
+        ensures { (known_bytes : KnownBytes) → ReadsAs known_bytes self →
+            result ≡ bytes_from (window_byte known_bytes self.list) self.from
+            (self.to - self.from) }
     {
         Bytes::from_vec(self.bytes)
     }

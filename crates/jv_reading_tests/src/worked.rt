@@ -1,39 +1,12 @@
-ghost use Rattle.std.specs.Prelude.{◌≡◌, ◌<◌, ◌≤◌, ◌^◌, length, All, IfOk};
+ghost use Rattle.std.specs.Prelude.{◌<◌, ◌≤◌, ◌^◌, All, IfOk};
 ghost use Rattle.jv_model.specs.declared.limits.TheConstants.{WINDOW};
 ghost use Rattle.jv_model.specs.blocks.Slices.{IsRecord};
 
 use jv_model::{BlockId, Bytes, List, Rec};
 use jv_reading::WindowRead;
+use jv_samples::{BLOCK, block_bytes, byte};
 use std::alloc::{AllocError, Global};
 use std::test::Fail;
-
-const BLOCK: u32 = 65_536;
-
-/// The byte at a place of a slice.
-fn byte(id: u64, place: u64) -> u8 {
-    ((40 * (id % 4) + place % 91) % 251 + 1) as u8
-}
-
-/// The bytes of a block, each by its place in the slice.
-fn bytes_of(alloc: Global, block: BlockId) -> Result<Vec<u8>, AllocError>
-    ensures { IfOk result (λ bytes. length bytes.items ≡ block.size) }
-{
-    let mut bytes = vec![in alloc; 0; block.size as usize]?;
-    put_bytes(
-        &mut bytes,
-        block.id,
-        u64::from(block.index) * u64::from(BLOCK),
-    );
-    Ok(bytes)
-}
-
-fn put_bytes(bytes: &mut [u8], id: u64, first: u64)
-    requires { first < 2 ^ 60 }
-{
-    for at in 0..bytes.len() {
-        bytes[at] = byte(id, first + at as u64);
-    }
-}
 
 /// Reads a part of a window, and lists the blocks in the order in which they were asked for.
 fn read(alloc: Global, list: &List, from: u32, to: u32) -> Result<(Vec<BlockId>, Bytes), AllocError>
@@ -44,7 +17,7 @@ fn read(alloc: Global, list: &List, from: u32, to: u32) -> Result<(Vec<BlockId>,
     let mut part = WindowRead::new(alloc, list, from, to, BLOCK)?;
     let mut asked = Vec::new(alloc);
     while let Some(block) = part.next() {
-        let bytes = bytes_of(alloc, block)?;
+        let bytes = block_bytes(alloc, block)?;
         part.fill(&bytes);
         asked.push(block)?;
     }

@@ -27,23 +27,22 @@ use Rattle.jv_model.specs.tree.Caller.{Caller, Outcome, outcome}
 use Rattle.jv_model.specs.tree.FileBytes.{copy, truncate}
 use Rattle.jv_model.specs.client.ModelClient.{ModelClient, Doing, Working, inode_at}
 use Rattle.jv_model.specs.client.Submission.{is_flushed}
-use Rattle.jv_model.specs.journal.State.{State, after_told, caller}
+use Rattle.jv_model.specs.journal.State.{State, after_told, caller, without_views}
 use Rattle.jv_model.specs.journal.Steps.{Start, is_crowded}
 use Rattle.jv_outside.specs.Store.{Store}
 use Rattle.jv_volume.specs.TypedRows.{Rows, typed}
 use Rattle.jv_contents.specs.Bytes.{tree_with}
 use Rattle.jv_contents.specs.Counts.{record_count}
-use Rattle.jv_data.specs.Changing.{AnyTold, Changes, IsCrowded, IsFull, LandsChanged, Makes, Never}
+use Rattle.jv_data.specs.Changing.{AnyBytes, Changes, IsCrowded, IsFull, LandsChanged, Makes, Never}
 use Rattle.jv_shared.specs.Keeping.{HoldsSame}
 use Rattle.jv_shared.specs.Shared.{HasStore, Known, Shared, rows_in, typed_in}
 use Rattle.jv_shared.proofs.SameLaws.{same-rows}
 use Rattle.jv_steps.specs.IsStep.{IsStep}
-use Rattle.jv_steps.specs.Stages.{without_views}
 use Rattle.jv_steps.proofs.ChangeStepLaws.{truncate-made, truncate-refused, copy-made, copy-refused, copy-crowded}
 use Rattle.jv_steps.proofs.RefusalStepLaws.{goes-working}
 use Rattle.jv_steps.proofs.TreeChangeLaws.{IsCalm, copy-calm, truncate-calm}
 use Rattle.jv_requests.specs.Request.{IsWithin, Request}
-use Rattle.jv_requests.proofs.LandedLaws.{acted-stays, landed-request, told_in}
+use Rattle.jv_requests.proofs.LandedLaws.{acted-stays, landed-request, known_in}
 use Rattle.jv_requests.proofs.StillLaws.{fault_of_rows, rows-failed, still-request, still-within}
 
 -- ---- the outcome of a change, by the tree of the rows
@@ -51,22 +50,22 @@ use Rattle.jv_requests.proofs.StillLaws.{fault_of_rows, rows-failed, still-reque
 module _ {A : Type 0} (makes : Makes) (crowded : Rows → Type 0) (t : Tree) (g : Known) (v : Shared)
     (has : HasStore t g v)
     (keeper : Store) (reply : A → Reply) (act : Tree → Result Outcome Fault) where
-  lands-in : (result : Result A TxFault) → Changes {A = A} makes AnyTold crowded v.keeper keeper result reply act
-      → LandsChanged {A = A} makes crowded has.rows keeper.rows (told_in t g v has) reply act result
-  lands-in result changes = changes.lands has.rows has.rows_are has.whole (told_in t g v has) tt
+  lands-in : (result : Result A TxFault) → Changes {A = A} makes AnyBytes crowded v.keeper keeper result reply act
+      → LandsChanged {A = A} makes crowded has.rows keeper.rows (known_in t g v has) reply act result
+  lands-in result changes = changes.lands has.rows has.rows_are has.whole (known_in t g v has) tt
 
   -- a change that wasn't made leaves the rows
-  pub change-still : (fault : TxFault) → Changes {A = A} makes AnyTold crowded v.keeper keeper (Err fault) reply act
+  pub change-still : (fault : TxFault) → Changes {A = A} makes AnyBytes crowded v.keeper keeper (Err fault) reply act
       → HoldsSame v (record v { keeper = keeper })
   change-still fault changes = same-rows v keeper v.carrier changes.undone
 
   -- it meets no malformed row, and no list that has moved
   pub change-never_bad : (at : RowKey) (bytes : List ℕ)
-      → Changes {A = A} makes AnyTold crowded v.keeper keeper (Err (OfRows (Bad at bytes))) reply act → ⊥
+      → Changes {A = A} makes AnyBytes crowded v.keeper keeper (Err (OfRows (Bad at bytes))) reply act → ⊥
   change-never_bad at bytes changes = lands-in (Err (OfRows (Bad at bytes))) changes
 
   pub change-never_moved : (list : List Rec)
-      → Changes {A = A} makes AnyTold crowded v.keeper keeper (Err (Moved list)) reply act → ⊥
+      → Changes {A = A} makes AnyBytes crowded v.keeper keeper (Err (Moved list)) reply act → ⊥
   change-never_moved list changes = lands-in (Err (Moved list)) changes
 
 -- ---- in a client's step
@@ -85,7 +84,7 @@ module _ (s : State) (client now : ℕ) (d : Doing) (busy : (s.clients client).d
 
   -- the tree of rows that are left
   abbrev left_tree : RowMap → Tree
-  left_tree left = tree_with (told_in s.tree g v has) (typed left)
+  left_tree left = tree_with (known_in s.tree g v has) (typed left)
 
   -- a change is refused
   abbrev IsRefused : Fault → Type 0
@@ -105,7 +104,7 @@ module _ (s : State) (client now : ℕ) (d : Doing) (busy : (s.clients client).d
 
   module _ (handle len : ℕ) (of_op : d.op ≡ op.Truncate handle len) where
     abbrev pub Truncates_to : Result (Unit {0}) TxFault → Type 0
-    Truncates_to result = Changes {A = Unit {0}} (record { own = 0; size = 0; more = 1; due = due }) AnyTold Never
+    Truncates_to result = Changes {A = Unit {0}} (record { own = 0; size = 0; more = 1; due = due }) AnyBytes Never
         v.keeper keeper result (λ unit. reply.Done) (λ t. truncate t who len)
 
     abbrev IsTruncated : Tree → Type 0
@@ -140,9 +139,9 @@ module _ (s : State) (client now : ℕ) (d : Doing) (busy : (s.clients client).d
         fault (refusal (lands-in (record { own = 0; size = 0; more = 1; due = due }) Never s.tree g v has keeper
         (λ unit. reply.Done) (λ t. truncate t who len) (Err (RefusedBy fault)) changes)))
       where
-        refusal : (truncate (tree_with (told_in s.tree g v has) (typed has.rows)) who len ≡ Err fault)
+        refusal : (truncate (tree_with (known_in s.tree g v has) (typed has.rows)) who len ≡ Err fault)
             ⊎ IsFull Never (typed has.rows) fault
-            (truncate (tree_with (told_in s.tree g v has) (typed has.rows)) who len)
+            (truncate (tree_with (known_in s.tree g v has) (typed has.rows)) who len)
             → truncate s.tree who len ≡ Err fault
         refusal (inl e) = ap (λ (t : Tree). truncate t who len) has.tree ∙ e
         refusal (inr full) = absurd full.full
@@ -153,7 +152,7 @@ module _ (s : State) (client now : ℕ) (d : Doing) (busy : (s.clients client).d
         s.tree g v has keeper (λ unit. reply.Done) (λ t. truncate t who len) (Err (RefusedBy fault)) changes)
       where
         rows_tree : Tree
-        rows_tree = tree_with (told_in s.tree g v has) (typed has.rows)
+        rows_tree = tree_with (known_in s.tree g v has) (typed has.rows)
 
         by_cause : (truncate rows_tree who len ≡ Err fault)
             ⊎ IsFull Never (typed has.rows) fault (truncate rows_tree who len) → IsCalm fault
@@ -167,7 +166,7 @@ module _ (s : State) (client now : ℕ) (d : Doing) (busy : (s.clients client).d
 
   module _ (source from target to len : ℕ) (of_op : d.op ≡ op.Copy source from target to len) where
     abbrev pub Copies_to : ℕ → Result ℕ TxFault → Type 0
-    Copies_to more result = Changes {A = ℕ} (record { own = 0; size = 0; more = more; due = due }) AnyTold
+    Copies_to more result = Changes {A = ℕ} (record { own = 0; size = 0; more = more; due = due }) AnyBytes
         (IsCrowded FILE_END)
         v.keeper keeper result (λ n. reply.Count n) (λ t. copy t who from to len)
 
@@ -215,7 +214,7 @@ module _ (s : State) (client now : ℕ) (d : Doing) (busy : (s.clients client).d
         same = same-rows v keeper v.carrier changes.undone
 
         rows_tree : Tree
-        rows_tree = tree_with (told_in s.tree g v has) (typed has.rows)
+        rows_tree = tree_with (known_in s.tree g v has) (typed has.rows)
 
         refused : (fault : Fault) → ((start : Start) (alone : Bool) → IsWithin start s (rows_in v)
             → IsStep start alone s client now (Quiet ∷ Answered (ToldRefused fault) ∷ []) (Done (reply.Refused fault))
@@ -241,7 +240,7 @@ module _ (s : State) (client now : ℕ) (d : Doing) (busy : (s.clients client).d
         (Err (RefusedBy fault)) changes)
       where
         rows_tree : Tree
-        rows_tree = tree_with (told_in s.tree g v has) (typed has.rows)
+        rows_tree = tree_with (known_in s.tree g v has) (typed has.rows)
 
         by_cause : (copy rows_tree who from to len ≡ Err fault)
             ⊎ IsFull (IsCrowded FILE_END) (typed has.rows) fault (copy rows_tree who from to len) → IsCalm fault

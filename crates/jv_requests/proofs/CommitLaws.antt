@@ -18,18 +18,18 @@ use Rattle.jv_model.specs.declared.setting.Setting.{Setting}
 use Rattle.jv_model.specs.declared.slice.Rec.{Rec}
 use Rattle.jv_model.specs.rows.RowFaults.{row_fault}
 use Rattle.jv_model.specs.tree.Tree.{Tree, node_at}
-use Rattle.jv_model.specs.tree.FileBytes.{committed}
+use Rattle.jv_model.specs.tree.FileBytes.{commit_of, committed}
 use Rattle.jv_model.specs.client.Pending.{Segment, bytes_in_range, without_range}
 use Rattle.jv_model.specs.client.Submission.{next_segment}
 use Rattle.jv_model.specs.client.ModelClient.{ModelClient, Doing, Working, session_of}
-use Rattle.jv_model.specs.journal.State.{State, after_told, answer_then, finished}
+use Rattle.jv_model.specs.journal.State.{State, after_told, answer_then, finished, without_committed}
 use Rattle.jv_model.specs.journal.Steps.{Start, Commits, is_failure, told_of}
 use Rattle.jv_outside.specs.Store.{Store}
 use Rattle.jv_volume.specs.TypedRows.{typed}
 use Rattle.jv_volume.specs.Holding.{IsHoldable}
 use Rattle.jv_volume.proofs.HoldingLaws.{stays-committed}
-use Rattle.jv_contents.specs.Blocks.{told_by}
-use Rattle.jv_contents.specs.Bytes.{Told, tree_with}
+use Rattle.jv_contents.specs.Blocks.{known_by}
+use Rattle.jv_contents.specs.Bytes.{KnownBytes, tree_with}
 use Rattle.jv_contents.specs.Flights.{Flight, IsComplete}
 use Rattle.jv_contents.proofs.FlightLaws.{complete-shown}
 use Rattle.jv_data.specs.Changing.{Changed}
@@ -42,9 +42,8 @@ use Rattle.jv_shared.proofs.SameLaws.{same-rows}
 use Rattle.jv_shared.proofs.StoreLaws.{block_some, rows_are}
 use Rattle.jv_steps.specs.IsStep.{IsStep, at_stage}
 use Rattle.jv_steps.specs.RefusesCommit.{RefusesCommit, Late, NoFile, NoRoom, NoSession}
-use Rattle.jv_steps.specs.WithoutCommitted.{without_committed}
 use Rattle.jv_steps.proofs.CommitStepLaws.{commit-answered, commit-left, commit-then}
-use Rattle.jv_steps.proofs.CommitTestLaws.{commit_tested, tests-allow, tests-commit, tests-done, tests-refuse}
+use Rattle.jv_steps.proofs.CommitTestLaws.{tests-allow, tests-commit, tests-done, tests-refuse}
 use Rattle.jv_steps.proofs.CommitTestLaws.{tests-undone}
 use Rattle.jv_steps.proofs.RefusalStepLaws.{commit-refused, goes-working}
 use Rattle.jv_requests.specs.Request.{Request}
@@ -72,8 +71,8 @@ module _ (s : State) (g : Known) (v : Shared) (store : HasStore s.tree g v) (cli
   abbrev left_shared : Shared
   left_shared = record v { keeper = keeper }
 
-  abbrev told : Told
-  told = told_by v.yard.setting.block g.blocks
+  abbrev known_bytes : KnownBytes
+  known_bytes = known_by v.yard.setting.block g.blocks
 
   abbrev patch : List ℕ
   patch = bytes_in_range segment.inode segment.from segment.len c.pending
@@ -88,8 +87,8 @@ module _ (s : State) (g : Known) (v : Shared) (store : HasStore s.tree g v) (cli
   rec = whole_record pos f
 
   -- the record's slice has a number, is no other row's, and shows the bytes
-  is_new : IsNew rec f.bytes (typed store.rows) told
-  is_new = subst (λ rows. IsNew rec f.bytes rows told) (rows_are s.tree g v store) (record {
+  is_new : IsNew rec f.bytes (typed store.rows) known_bytes
+  is_new = subst (λ rows. IsNew rec f.bytes rows known_bytes) (rows_are s.tree g v store) (record {
     unknown = flies.ever.unknown;
     below = flies.ever.below;
     shows = record {
@@ -101,7 +100,7 @@ module _ (s : State) (g : Known) (v : Shared) (store : HasStore s.tree g v) (cli
 
   -- the model's commit, of the tree that the rows have, is that of the state's tree
   committing-same : committing sid segment.inode (window * WINDOW + pos) f.bytes started now
-      (tree_with told (typed store.rows))
+      (tree_with known_bytes (typed store.rows))
       ≡ committing (session_of c) segment.inode segment.from patch started now s.tree
   committing-same i = committing (own i) segment.inode (sym from_is i) (bytes_are i) started now (sym store.tree i)
 
@@ -115,20 +114,20 @@ module _ (s : State) (g : Known) (v : Shared) (store : HasStore s.tree g v) (cli
       (commits : CommitsRecord sid now segment.inode window (whole_record pos f) started v.keeper keeper (Ok tt)) where
     abbrev Made : Type 0
     Made =
-        Changed (record { own = f.id; size = length f.bytes; more = 1; due = at_once }) store.rows keeper.rows told
+        Changed (record { own = f.id; size = length f.bytes; more = 1; due = at_once }) store.rows keeper.rows known_bytes
         reply.Done (committing sid segment.inode (window * WINDOW + pos) f.bytes started now)
 
     made : Made
-    made = (commits f.bytes at_once).lands store.rows store.rows_are store.whole told is_new
+    made = (commits f.bytes at_once).lands store.rows store.rows_are store.whole known_bytes is_new
 
-    tested : commit_tested (session_of c) segment.inode segment.from patch started now s.tree
-        ≡ Ok (tree_with told (typed made.left))
+    tested : commit_of (session_of c) segment.inode segment.from patch started now s.tree
+        ≡ Ok (tree_with known_bytes (typed made.left))
     tested =
-        tests-done (commit_tested (session_of c) segment.inode segment.from patch started now s.tree)
-        (record { tree = tree_with told (typed made.left); reply = reply.Done }) (sym committing-same ∙ made.model)
+        tests-done (commit_of (session_of c) segment.inode segment.from patch started now s.tree)
+        (record { tree = tree_with known_bytes (typed made.left); reply = reply.Done }) (sym committing-same ∙ made.model)
 
-    tree-is : tree_with told (typed made.left) ≡ grown
-    tree-is = (tests-allow s now c segment started (tree_with told (typed made.left)) tested).1
+    tree-is : tree_with known_bytes (typed made.left) ≡ grown
+    tree-is = (tests-allow s now c segment started (tree_with known_bytes (typed made.left)) tested).1
 
     commit_leads : Leads f.id grown g g v left_shared
     commit_leads = subst (λ (t : Tree). Leads f.id t g g v left_shared) tree-is
@@ -138,7 +137,7 @@ module _ (s : State) (g : Known) (v : Shared) (store : HasStore s.tree g v) (cli
 
     commit_may : c.writeback ≡ false → Commits s now c d segment.inode segment.from segment.len 0
     commit_may direct =
-        tests-commit s now c segment started d quiets (tree_with told (typed made.left)) tested at asked direct next
+        tests-commit s now c segment started d quiets (tree_with known_bytes (typed made.left)) tested at asked direct next
 
     abbrev Goes : List ActKind → Step → ModelClient → Type 0
     Goes kinds step after = Request s g g v left_shared client now f.id 0 kinds step grown after s.copied
@@ -196,10 +195,10 @@ module _ (s : State) (g : Known) (v : Shared) (store : HasStore s.tree g v) (cli
   module _ (fault : Fault)
       (commits : CommitsRecord sid now segment.inode window (whole_record pos f) started v.keeper keeper
       (Err (TxRefused fault))) where
-    undone : commit_tested (session_of c) segment.inode segment.from patch started now s.tree ≡ Err fault
-    undone = elim ((commits f.bytes at_once).lands store.rows store.rows_are store.whole told is_new) [
+    undone : commit_of (session_of c) segment.inode segment.from patch started now s.tree ≡ Err fault
+    undone = elim ((commits f.bytes at_once).lands store.rows store.rows_are store.whole known_bytes is_new) [
       | inl refused ↦
-          tests-undone (commit_tested (session_of c) segment.inode segment.from patch started now s.tree) fault
+          tests-undone (commit_of (session_of c) segment.inode segment.from patch started now s.tree) fault
           (sym committing-same ∙ refused)
       | inr full ↦ absurd full.full
     ]
@@ -248,9 +247,9 @@ module _ (s : State) (g : Known) (v : Shared) (store : HasStore s.tree g v) (cli
   -- Over whole rows no list has moved, and no row is Bad.
   pub commit-never_moved : (list : List Rec)
       → CommitsRecord sid now segment.inode window (whole_record pos f) started v.keeper keeper (Err (Moved list)) → ⊥
-  commit-never_moved list commits = (commits f.bytes at_once).lands store.rows store.rows_are store.whole told is_new
+  commit-never_moved list commits = (commits f.bytes at_once).lands store.rows store.rows_are store.whole known_bytes is_new
 
   pub commit-never_bad : (row : RowKey) (bytes : List ℕ)
       → CommitsRecord sid now segment.inode window (whole_record pos f) started v.keeper keeper
       (Err (OfRows (Bad row bytes))) → ⊥
-  commit-never_bad row bytes commits = (commits f.bytes at_once).lands store.rows store.rows_are store.whole told is_new
+  commit-never_bad row bytes commits = (commits f.bytes at_once).lands store.rows store.rows_are store.whole known_bytes is_new

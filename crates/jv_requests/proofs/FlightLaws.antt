@@ -10,10 +10,11 @@ use Rattle.jv_shared.specs.Flying.{Flies}
 use Rattle.jv_shared.specs.Shared.{Known, Shared}
 use Rattle.jv_requests.specs.Request.{IsApart, Request}
 
-module _ (g : Known) (v : Shared) (mine : ℕ) where
-  numbered : (f : Flight) → Flies g v f → f.id ≢ 0
+module _ (g : Known) (v : Shared) where
+  pub numbered : (f : Flight) → Flies g v f → f.id ≢ 0
   numbered f flies none = let some = flies.ever.some in absurd (omega (arith, some, none))
 
+module _ (g : Known) (v : Shared) (mine : ℕ) where
   -- a step about the client's slice, which it goes on with
   pub apart-own : IsApart g v mine mine mine
   apart-own = record { own_apart = λ f flies other. other; new_apart = λ f flies other. other }
@@ -21,7 +22,7 @@ module _ (g : Known) (v : Shared) (mine : ℕ) where
   -- a step after which the client has a new slice in flight
   pub apart-new : (after : ℕ) → ((f : Flight) → Flies g v f → f.id ≢ after) → IsApart g v mine 0 after
   apart-new after apart = record {
-    own_apart = λ f flies other. numbered f flies;
+    own_apart = λ f flies other. numbered g v f flies;
     new_apart = λ f flies other. apart f flies;
   }
 
@@ -36,6 +37,6 @@ module _ (g : Known) (v : Shared) (mine : ℕ) where
     within = request.within;
     leaves = request.leaves;
     leads = request.leads;
-    apart = record { own_apart = request.apart.own_apart; new_apart = λ f flies other. numbered f flies };
+    apart = record { own_apart = request.apart.own_apart; new_apart = λ f flies other. numbered g v f flies };
     stays = request.stays;
   }

@@ -2,12 +2,10 @@
 use Rattle.std.proofs.Common.{◌≡◌, ℕ, ◌<◌, ◌≤◌, Bool, true, false, List, [], ◌∷◌, Option, None, Some, Ok, Err, refl}
 use Rattle.std.proofs.Common.{sym, subst, ◌∙◌}
 use Rattle.std.specs.Prelude.{length, Contains}
+use Rattle.jv_model.specs.declared.limits.TheConstants.{LAST_CLIENT}
 use Rattle.jv_model.specs.declared.act.ActKind.TheVariants.{Answered, Quiet}
 use Rattle.jv_model.specs.declared.act.Told.{Told}
 use Rattle.jv_model.specs.declared.act.Told.TheVariants.{Looks, Refused as ToldRefused}
-use Rattle.jv_model.specs.declared.fault.Device.TheVariants.{Depot as TheDepot, Shelf as TheShelf}
-use Rattle.jv_model.specs.declared.fault.Fault.{Fault}
-use Rattle.jv_model.specs.declared.fault.Fault.TheVariants.{DeviceFailed, NoMemory}
 use Rattle.jv_model.specs.declared.op.Reply.TheVariants.{Data, Refused}
 use Rattle.jv_model.specs.declared.op.Step.TheVariants.{More, Done}
 use Rattle.jv_model.specs.declared.profile.Does.TheVariants.{Reads}
@@ -21,10 +19,11 @@ use Rattle.jv_model.specs.client.Submission.{is_flushed}
 use Rattle.jv_model.specs.journal.Reading.{asked_parts, reading}
 use Rattle.jv_model.specs.journal.State.{State, after_told, sees_first}
 use Rattle.jv_model.specs.journal.Steps.{Start, file_in_use, is_failure, must_answer}
+use Rattle.jv_model.specs.blocks.BlockNames.{name_in}
+use Rattle.jv_yard.specs.Refusals.{yard_fault}
 use Rattle.jv_yard.specs.declared.faults.YardFault.{YardFault}
 use Rattle.jv_yard.specs.declared.faults.YardFault.TheVariants.{Depot, Shelf, Memory}
 use Rattle.jv_yard.specs.BlockCalls.{GetsBlock}
-use Rattle.jv_yard.specs.Contents.{name_in}
 use Rattle.jv_yard.specs.YardValue.{YardValue}
 use Rattle.jv_shared.specs.Keeping.{HoldsSame}
 use Rattle.jv_shared.specs.Seen.{IsView}
@@ -46,13 +45,7 @@ pub data MayGet (offset len : ℕ) (c : ModelClient) (d : Doing) (misses : ℕ) 
 
 -- ---- faults of the yard
 
--- what the fault of a yard is to the client
-abbrev pub fault_of_yard : YardFault → Fault
-fault_of_yard Depot = DeviceFailed TheDepot
-fault_of_yard Shelf = DeviceFailed TheShelf
-fault_of_yard Memory = NoMemory
-
-fails-yard : (fault : YardFault) → is_failure (ToldRefused (fault_of_yard fault)) ≡ true
+pub fails-yard : (fault : YardFault) → is_failure (ToldRefused (yard_fault fault)) ≡ true
 fails-yard Depot = refl
 fails-yard Shelf = refl
 fails-yard Memory = refl
@@ -72,7 +65,7 @@ module _ (s : State) (g : Known) (v : Shared) (has : HasStore s.tree g v) (clien
 
   pub got-block : (window long : ℕ) (list : List Rec) (content : Content) → IsView g v window long list content
       → (b : BlockId) (r : Rec) → Contains list r → 0 < r.id → b.index < block_count r.size v.yard.setting.block
-      → b ≡ block_at r.id r.size v.yard.setting.block b.index → client ≤ 7 → (value : Option (List ℕ))
+      → b ≡ block_at r.id r.size v.yard.setting.block b.index → client ≤ LAST_CLIENT → (value : Option (List ℕ))
       → GetsBlock client (name_in v.yard.setting b) v.yard yard (Ok value) → GotBlock g b value
   got-block window long list content view b r among some below is low value gets =
       let read = named_read s.tree g v has window long list content view b r among some below is client value low
@@ -105,7 +98,7 @@ module _ (s : State) (g : Known) (v : Shared) (has : HasStore s.tree g v) (clien
               s.copied) (sym none) (get-begins start alone s client now d busy offset len does started at flushed sees)
           steps start alone misses (Later at) = get-step start alone s client now d busy offset len does misses at
 
-      -- or that was all it wanted, and it answers with what it read
+      -- or that was all it needed, and it answers with what it read
       module _ (file : OpenFile) (opened : file_in_use mine d ≡ Some file) (first second : ℕ) (bytes : List ℕ)
           (reads : reading mine.views (handle_of d.op) file (asked_parts offset len) first second ≡ Some bytes) where
         abbrev told : Told
@@ -135,8 +128,8 @@ module _ (s : State) (g : Known) (v : Shared) (has : HasStore s.tree g v) (clien
     goes-get (Later at) = goes-reading d misses at
 
     pub get-failed : (fault : YardFault) → GetsBlock client name v.yard yard (Err fault)
-        → Request s g g v got client now flying flying (Answered (ToldRefused (fault_of_yard fault)) ∷ [])
-        (Done (Refused (fault_of_yard fault))) s.tree (record mine { doing = None }) s.copied
+        → Request s g g v got client now flying flying (Answered (ToldRefused (yard_fault fault)) ∷ [])
+        (Done (Refused (yard_fault fault))) s.tree (record mine { doing = None }) s.copied
     get-failed fault gets =
         failure-request s g v got has (same-gets v yard client name (Err fault) gets) client now flying d busy
-        (goes-get may) (fault_of_yard fault) (fails-yard fault)
+        (goes-get may) (yard_fault fault) (fails-yard fault)

@@ -17,8 +17,8 @@ use Rattle.jv_volume.specs.Holding.{Stays}
 use Rattle.jv_volume.specs.Whole.{Whole}
 use Rattle.jv_volume.proofs.HoldingLaws.{stays-tree_act}
 use Rattle.jv_volume.proofs.StoredLaws.{whole-shape}
-use Rattle.jv_contents.specs.Blocks.{told_by}
-use Rattle.jv_contents.specs.Bytes.{Told, bytes_of, tree_with}
+use Rattle.jv_contents.specs.Blocks.{known_by}
+use Rattle.jv_contents.specs.Bytes.{KnownBytes, bytes_of, tree_with}
 use Rattle.jv_contents.specs.Counts.{KeepsOthers}
 use Rattle.jv_shared.specs.Shared.{HasStore, Known, Shared}
 use Rattle.jv_shared.proofs.RowStepLaws.{others-lead}
@@ -30,12 +30,12 @@ use Rattle.jv_requests.proofs.StillLaws.{apart-none}
 
 module _ (t : Tree) (g : Known) (v : Shared) (has : HasStore t g v) where
   -- what is known of slices
-  abbrev pub told_in : Told
-  told_in = told_by v.yard.setting.block g.blocks
+  abbrev pub known_in : KnownBytes
+  known_in = known_by v.yard.setting.block g.blocks
 
   pub store-shape : WholeShape (shape_of t)
   store-shape = subst (λ (u : Tree). WholeShape (shape_of u)) (sym has.tree)
-      (whole-shape (bytes_of told_in (typed has.rows)) (typed has.rows) has.whole)
+      (whole-shape (bytes_of known_in (typed has.rows)) (typed has.rows) has.whole)
 
   -- what clients hold they may still hold after any transaction of the tree
   pub acted-stays : (who : Caller) (o : Op) (after : Outcome) → tree_act t who o ≡ after → Stays t after.tree
@@ -48,7 +48,7 @@ module _ (s : State) (g : Known) (v : Shared) (has : HasStore s.tree g v) (clien
 
   -- the tree of rows that are left
   abbrev pub tree_left : RowMap → Tree
-  tree_left left = tree_with (told_by v.yard.setting.block g.blocks) (typed left)
+  tree_left left = tree_with (known_by v.yard.setting.block g.blocks) (typed left)
 
   module _ (left : RowMap) (is : keeper.rows ≡ Some left) (whole : Whole (typed left)) (more : ℕ)
       (others : KeepsOthers 0 more (typed has.rows) (typed left)) (stays : Stays s.tree (tree_left left))

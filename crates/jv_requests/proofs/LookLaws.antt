@@ -25,16 +25,16 @@ use Rattle.jv_model.specs.tree.Tree.{content_of, node_at}
 use Rattle.jv_model.specs.client.ModelClient.{ModelClient, OpenFile, Doing, Reading, session_of}
 use Rattle.jv_model.specs.client.Profile.{handle_of}
 use Rattle.jv_model.specs.journal.Reading.{asked_parts, reading}
-use Rattle.jv_model.specs.journal.State.{State, after_told, or_empty}
+use Rattle.jv_model.specs.journal.State.{State, after_told, or_empty, with_look}
 use Rattle.jv_model.specs.journal.Steps.{file_in_use, is_failure, must_answer, window_to_look}
 use Rattle.jv_model.proofs.TestLaws.{known_is}
+use Rattle.jv_model.specs.tree.FileBytes.{length_seen}
 use Rattle.jv_outside.specs.Store.{Store}
 use Rattle.jv_volume.specs.TypedRows.{typed}
 use Rattle.jv_volume.specs.Views.{lists_of}
 use Rattle.jv_volume.specs.Holding.{IsHoldable}
 use Rattle.jv_volume.specs.Shape.{Regular, form_of, is_there}
 use Rattle.jv_data.specs.declared.looking.View.{View}
-use Rattle.jv_data.specs.Committing.{length_seen}
 use Rattle.jv_data.specs.Records.{LooksAt}
 use Rattle.jv_shared.specs.Keeping.{HoldsSame}
 use Rattle.jv_shared.specs.Seen.{IsView}
@@ -42,7 +42,7 @@ use Rattle.jv_shared.specs.Shared.{HasStore, Known, Shared}
 use Rattle.jv_shared.proofs.SameLaws.{same-rows, same-stays}
 use Rattle.jv_shared.proofs.StoreLaws.{look-view, view-stays}
 use Rattle.jv_steps.specs.IsStep.{at_stage}
-use Rattle.jv_steps.specs.Stages.{Begins, GoesOn, MayRead, with_look}
+use Rattle.jv_steps.specs.Stages.{Begins, GoesOn, MayRead}
 use Rattle.jv_steps.proofs.ReadStepLaws.{read-answered_look}
 use Rattle.jv_steps.proofs.RefusalStepLaws.{goes-reading, goes-working}
 use Rattle.jv_steps.proofs.LookStepLaws.{look-step, look-refused_session, look-refused_node}
@@ -165,7 +165,7 @@ module _ (s : State) (client now : ℕ) (d : Doing) (busy : (s.clients client).d
           (known_is v.keeper.rows has.rows (λ known. view.list ≡ lists_of (typed known) file.inode window)
           has.rows_are looks.list))
 
-      -- or that was all it wanted, and it answers with what it read
+      -- or that was all it needed, and it answers with what it read
       module _ (first second : ℕ) (bytes : List ℕ)
           (reads : reading (with_look s d file.inode window mine).views (handle_of d.op) file (asked_parts offset len)
           first second ≡ Some bytes) where

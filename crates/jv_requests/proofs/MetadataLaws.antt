@@ -22,17 +22,16 @@ use Rattle.jv_model.specs.tree.TreeAct.{tree_act}
 use Rattle.jv_model.specs.client.ModelClient.{ModelClient, Doing, Working}
 use Rattle.jv_model.specs.client.Submission.{is_flushed}
 use Rattle.jv_model.specs.journal.State.{State, after_told, caller, gift_of, transacted}
-use Rattle.jv_model.specs.journal.Steps.{entry_of_gift, is_failure, told_of, transacts}
+use Rattle.jv_model.specs.journal.Steps.{entry_of_gift, is_failure, told_of, transacts, is_device_or_memory}
 use Rattle.jv_outside.specs.Store.{Store}
 use Rattle.jv_rows.specs.Transactions.{Lands, Transacts}
 use Rattle.jv_volume.specs.TypedRows.{typed}
 use Rattle.jv_volume.specs.TreeOf.{tree_of}
-use Rattle.jv_volume.specs.Holding.{is_device_or_memory}
 use Rattle.jv_volume.proofs.ReplyLaws.{no_device_or_memory}
 use Rattle.jv_contents.specs.Bytes.{bytes_of, tree_with}
 use Rattle.jv_contents.proofs.KeepLaws.{bytes-stay, keeps-quiet}
-use Rattle.jv_links.specs.Removals.{HoldsFiles}
-use Rattle.jv_metadata.specs.Attempts.{KeepsOne, attempt, is_inode}
+use Rattle.jv_links.specs.Removals.{HoldsFiles, is_inode}
+use Rattle.jv_metadata.specs.Attempts.{KeepsOne, attempt}
 use Rattle.jv_metadata.proofs.AttemptLaws.{tree_act-attempt}
 use Rattle.jv_shared.specs.Keeping.{HoldsSame}
 use Rattle.jv_shared.specs.Shared.{HasStore, Known, Shared}
@@ -41,7 +40,7 @@ use Rattle.jv_steps.specs.Stages.{handed}
 use Rattle.jv_steps.proofs.TransactionStepLaws.{transaction-step, transaction-refused}
 use Rattle.jv_steps.proofs.RefusalStepLaws.{goes-working}
 use Rattle.jv_requests.specs.Request.{Request}
-use Rattle.jv_requests.proofs.LandedLaws.{acted-stays, landed-request, told_in}
+use Rattle.jv_requests.proofs.LandedLaws.{acted-stays, landed-request, known_in}
 use Rattle.jv_requests.proofs.StillLaws.{fault_of_rows, rows-failed, still-request}
 
 -- ---- the tree answers no failure
@@ -64,7 +63,7 @@ module _ {A : Type 0} (t : Tree) (g : Known) (v : Shared) (has : HasStore t g v)
     (ready : Tree → Type 0) (says : A → Reply) (act : Tree → Result Outcome Fault) where
   -- the bytes of files before it
   abbrev bytes : ℕ → ℕ → ℕ
-  bytes = bytes_of (told_in t g v has) (typed has.rows)
+  bytes = bytes_of (known_in t g v has) (typed has.rows)
 
   lands-in : ready t → (result : Result A TxFault) → Transacts {A = A} ready v.keeper keeper result says act
       → Lands {A = A} has.rows keeper.rows bytes says act result
@@ -103,7 +102,7 @@ module _ (s : State) (client now : ℕ) (d : Doing) (busy : (s.clients client).d
   abbrev act : Tree → Result Outcome Fault
   act t = attempt t who d.op
 
-  acted : (result : Result Outcome Fault) → act (tree_with (told_in s.tree g v has) (typed has.rows)) ≡ result
+  acted : (result : Result Outcome Fault) → act (tree_with (known_in s.tree g v has) (typed has.rows)) ≡ result
       → transacted s client now d.op ≡ outcome s.tree result
   acted result e = tree_act-attempt s.tree who d.op ∙ ap (outcome s.tree) (ap act has.tree ∙ e)
 
@@ -120,14 +119,14 @@ module _ (s : State) (client now : ℕ) (d : Doing) (busy : (s.clients client).d
         × IsMade (record { tree = t; reply = says x })
     transaction-request x tx =
         let landed = lands-in s.tree g v has keeper ready says act is_ready (Ok x) tx in
-        let told = told_in s.tree g v has in
-        let after : Tree = tree_with told (typed landed.left) in
+        let known_bytes = known_in s.tree g v has in
+        let after : Tree = tree_with known_bytes (typed landed.left) in
         let out : Outcome = record { tree = after; reply = says x } in
-        let same : tree_of (bytes_of told (typed has.rows)) (typed landed.left) ≡ after =
+        let same : tree_of (bytes_of known_bytes (typed has.rows)) (typed landed.left) ≡ after =
         sym (ap (λ (bytes : ℕ → ℕ → ℕ). tree_of bytes (typed landed.left))
-        (λ i inode p. bytes-stay (typed has.rows) (typed landed.left) landed.quiet.apart told inode p i)) in
+        (λ i inode p. bytes-stay (typed has.rows) (typed landed.left) landed.quiet.apart known_bytes inode p i)) in
         let does : transacted s client now d.op ≡ out =
-        acted (Ok (record { tree = tree_of (bytes_of told (typed has.rows)) (typed landed.left); reply = says x }))
+        acted (Ok (record { tree = tree_of (bytes_of known_bytes (typed has.rows)) (typed landed.left); reply = says x }))
         landed.model
         ∙ ap (λ (t : Tree). record { tree = t; reply = says x }) same in (
           after,
@@ -177,8 +176,8 @@ module _ (s : State) (client now : ℕ) (d : Doing) (busy : (s.clients client).d
       → (is_sustained (transacted s client now d.op).tree who.sid inode && not (is_sustained s.tree who.sid inode))
       ≡ is_inode kept inode
   keeps-told holds kept keeps inode =
-      let rows_tree = tree_with (told_in s.tree g v has) (typed has.rows) in
-      let told = keeps has.rows has.rows_are has.whole (bytes_of (told_in s.tree g v has) (typed has.rows))
+      let rows_tree = tree_with (known_in s.tree g v has) (typed has.rows) in
+      let told = keeps has.rows has.rows_are has.whole (bytes_of (known_in s.tree g v has) (typed has.rows))
       (subst (HoldsFiles who.held) has.tree holds) inode in
       ap (λ (done : Outcome). is_sustained done.tree who.sid inode && not (is_sustained s.tree who.sid inode))
       (tree_act-attempt s.tree who d.op)

@@ -30,7 +30,7 @@ use Rattle.jv_volume.specs.TypedRows.{Rows, typed}
 use Rattle.jv_volume.specs.TreeOf.{sessions_of, tree_of}
 use Rattle.jv_volume.specs.Slices.{next_slice}
 use Rattle.jv_volume.specs.Whole.{no_bytes}
-use Rattle.jv_contents.specs.Blocks.{told_by}
+use Rattle.jv_contents.specs.Blocks.{known_by}
 use Rattle.jv_contents.specs.Bytes.{bytes_of}
 use Rattle.jv_contents.specs.Counts.{record_count}
 use Rattle.jv_contents.proofs.KeepLaws.{record_count-stay, stay-counters}
@@ -61,7 +61,7 @@ pub session-same : (s : State) (g : Known) (v : Shared) (store : HasStore s.tree
     → (bytes : ℕ → ℕ → ℕ) → is_some (get (tree_of bytes (typed store.rows)).sessions sid) ≡ has_session s.tree c
 session-same s g v store c sid own bytes =
     sessions-told bytes (typed store.rows) sid
-    ∙ sym (sessions-told (bytes_of (told_by v.yard.setting.block g.blocks) (typed store.rows)) (typed store.rows) sid)
+    ∙ sym (sessions-told (bytes_of (known_by v.yard.setting.block g.blocks) (typed store.rows)) (typed store.rows) sid)
     ∙ ap (λ (t : Tree). is_some (get t.sessions sid)) (sym store.tree)
     ∙ ap (λ sid. is_some (get s.tree.sessions sid)) own
 

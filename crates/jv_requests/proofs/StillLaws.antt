@@ -22,7 +22,7 @@ use Rattle.jv_rows.specs.Transactions.{Agrees, Looks}
 use Rattle.jv_volume.specs.TypedRows.{typed}
 use Rattle.jv_volume.specs.Slices.{next_slice}
 use Rattle.jv_volume.specs.Holding.{Stays}
-use Rattle.jv_contents.specs.Blocks.{told_by}
+use Rattle.jv_contents.specs.Blocks.{known_by}
 use Rattle.jv_contents.specs.Bytes.{bytes_of}
 use Rattle.jv_contents.specs.Counts.{record_count}
 use Rattle.jv_shared.specs.Keeping.{HoldsSame}
@@ -49,7 +49,7 @@ pub found-in : {A : Type 0} (t : Tree) (g : Known) (v : Shared) → HasStore t g
     → Agrees result (finds t)
 found-in t g v has after result finds looks =
     subst (λ t. Agrees result (finds t)) (sym has.tree)
-    (looks.agrees has.rows has.rows_are has.whole (bytes_of (told_by v.yard.setting.block g.blocks) (typed has.rows)))
+    (looks.agrees has.rows has.rows_are has.whole (bytes_of (known_by v.yard.setting.block g.blocks) (typed has.rows)))
 
 -- what a call on rows that wasn't made is to the client
 abbrev pub fault_of_rows : Down → Fault

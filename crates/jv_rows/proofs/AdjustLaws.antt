@@ -6,6 +6,7 @@ use Rattle.std.specs.Option.{option_or}
 use Rattle.std.specs.Ordering.{nat_cmp, eq_by_cmp}
 use Rattle.std.specs.BTreeMap.{is_at}
 use Rattle.std.proofs.lemmas.Bool.{cases_eq, eq-eqb, ne_eqb, eqb-true}
+use Rattle.jv_model.specs.declared.tables.TheConstants.{TABLE_OF_SLICES, TABLE_OF_DEAD}
 use Rattle.jv_model.specs.declared.fault.Fault.TheVariants.{NoSpace}
 use Rattle.jv_model.specs.declared.fault.RowFault.{RowFault}
 use Rattle.jv_model.specs.declared.fault.RowFault.TheVariants.{Bad, Failed, Memory}
@@ -21,6 +22,7 @@ use Rattle.jv_model.specs.rows.RowGrammar.{is_slice}
 use Rattle.jv_model.specs.rows.RowKeys.{RowMap, row_key, row_cmp}
 use Rattle.jv_model.specs.rows.RowPlaces.{slice_key, dead_key}
 use Rattle.jv_model.specs.Lists.{is_nil}
+use Rattle.jv_model.proofs.TestLaws.{and_false}
 use Rattle.jv_outside.specs.declared.batch.Change.{Change}
 use Rattle.jv_outside.specs.Store.{Store, IsSame}
 use Rattle.jv_volume.specs.TypedRows.{Cell, Rows}
@@ -46,7 +48,7 @@ apart_from_dead : (id : ℕ) (key : RowKey) → is_of_slice (λ i. i == id) key 
 apart_from_dead id key other same = not_itself id (subst (λ (k : RowKey). is_of_slice (λ i. i == id) k ≡ false) same other)
 
 slice_not_dead : (i j : ℕ) → slice_key i ≢ dead_key j
-slice_not_dead i j same = true≢false (ap (λ (k : RowKey). k.tab == 5) same)
+slice_not_dead i j same = true≢false (ap (λ (k : RowKey). k.tab == TABLE_OF_SLICES) same)
 
 dead_not_slice : (i j : ℕ) → dead_key i ≢ slice_key j
 dead_not_slice i j same = slice_not_dead j i (sym same)
@@ -175,14 +177,14 @@ neither true b e = absurd (cc)
 neither false b e = (refl, e)
 
 abbrev is_change_of_slice : Change → Bool
-is_change_of_slice change = (key_in change).tab == 5
+is_change_of_slice change = (key_in change).tab == TABLE_OF_SLICES
 
 none_of_slice : (changes : List Change) (id : ℕ) → list_any is_change_of_slice changes ≡ false → last_change (slice_key id) changes ≡ None
 none_of_slice [] id none = refl
 none_of_slice (first ∷ rest) id none =
     let both = neither (is_change_of_slice first) (list_any is_change_of_slice rest) none in
     let apart : eq_by_cmp row_cmp (slice_key id) (key_in first) ≡ false =
-    tied_apart row_key (key_in first) (slice_key id) (λ same. true≢false (sym (ap (λ (k : RowKey). k.tab == 5) (sym same)) ∙ both.0)) in
+    tied_apart row_key (key_in first) (slice_key id) (λ same. true≢false (sym (ap (λ (k : RowKey). k.tab == TABLE_OF_SLICES) (sym same)) ∙ both.0)) in
     ap (λ o. option_or o (cond (eq_by_cmp row_cmp (slice_key id) (key_in first)) (Some first) None)) (none_of_slice rest id both.1)
     ∙ ap (λ b. cond b (Some first) None) apart
 
@@ -324,7 +326,7 @@ out_there id counts fewer out q apart = out q ∙ ap (λ (b : Bool). cond b None
 
 -- keys of slices that pass a weaker test
 key_by : (P : ℕ → Bool) (Q : ℕ → Bool) → ((q : ℕ) → P q ≡ false → Q q ≡ false) → (key : RowKey) → is_of_slice P key ≡ false → is_of_slice Q key ≡ false
-key_by P Q f key none = by (((key.tab == 5) || (key.tab == 9)) && is_nil key.b) none
+key_by P Q f key none = by (((key.tab == TABLE_OF_SLICES) || (key.tab == TABLE_OF_DEAD)) && is_nil key.b) none
   where
     by : (b : Bool) → (b && P key.a) ≡ false → (b && Q key.a) ≡ false
     by true e = f key.a e
@@ -361,10 +363,6 @@ module _ (gone added : List Rec) (due id : ℕ) (fewer more fewer' more' : Count
         | inl e ↦ subst (λ i. is_done gone added fewer more i ≡ false) e (ap (λ b. is_named gone added id && not b) left ∙ and_false (is_named gone added id))
         | inr ne ↦ ap (λ b. is_named gone added q && not b) (sym (left_next q ne)) ∙ none
       ]
-    where
-      and_false : (b : Bool) → (b && false) ≡ false
-      and_false true = refl
-      and_false false = refl
 
   -- and so is the slice
   done_here : is_done gone added fewer' more' id ≡ true
@@ -374,11 +372,7 @@ module _ (gone added : List Rec) (due id : ℕ) (fewer more fewer' more' : Count
   not_this q none = ne_eqb q id (λ e. true≢false (sym done_here ∙ ap (is_done gone added fewer' more') (sym e) ∙ none))
 
   still : (q : ℕ) → is_left fewer more q ≡ true → is_done gone added fewer more q ≡ false
-  still q is = ap (λ b. is_named gone added q && not b) is ∙ (by (is_named gone added q))
-    where
-      by : (b : Bool) → (b && false) ≡ false
-      by true = refl
-      by false = refl
+  still q is = ap (λ b. is_named gone added q && not b) is ∙ and_false (is_named gone added q)
 
   -- a slice that is still to be recounted stands as it did
   pub stands-left : (q : ℕ) → is_left fewer more q ≡ true → (known : RowMap) → get (drafted between known) (slice_key q) ≡ get (drafted changes known) (slice_key q)

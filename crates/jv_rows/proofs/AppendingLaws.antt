@@ -8,6 +8,7 @@ use Rattle.std.proofs.lemmas.Grind.{flat_map-append}
 use Rattle.std.proofs.lemmas.List.{append-nil}
 use Rattle.std.proofs.lemmas.List.Concat.{flat_map-cons}
 use Rattle.std.proofs.lemmas.List.Folds.{list_all-append}
+use Rattle.jv_model.specs.declared.tables.TheConstants.{TABLE_OF_LISTS, RECORD_LENGTH}
 use Rattle.jv_model.specs.declared.fault.Down.{Down}
 use Rattle.jv_model.specs.declared.fault.Down.TheVariants.{Failed as DeviceFailed, Memory as DeviceMemory}
 use Rattle.jv_model.specs.declared.fault.RowFault.{RowFault}
@@ -22,7 +23,7 @@ use Rattle.jv_model.specs.rows.RowFields.{◌>>=◌, whole}
 use Rattle.jv_model.specs.rows.RowGrammar.{record_at, record_bytes, records_at, is_list, list_bytes, list_of, row_of}
 use Rattle.jv_model.specs.rows.RowKeys.{RowMap}
 use Rattle.jv_model.specs.rows.RowPlaces.{list_key}
-use Rattle.jv_model.proofs.TestLaws.{some_of}
+use Rattle.jv_model.proofs.TestLaws.{some_of, and_false}
 use Rattle.jv_model.specs.Lists.{is_nil}
 use Rattle.jv_outside.specs.declared.batch.Change.{Change}
 use Rattle.jv_outside.specs.declared.batch.Change.TheVariants.{Put}
@@ -38,7 +39,7 @@ use Rattle.jv_rows.specs.Reads.{Misses}
 use Rattle.jv_rows.specs.RoundTrips.{AreBytes, RecordWidths, ListWidths}
 use Rattle.jv_rows.specs.Tables.{list_row}
 use Rattle.jv_rows.proofs.DraftLaws.{left_by, get-applied, spelled_cell, drafts_put}
-use Rattle.jv_rows.proofs.ExactLists.{list_exact}
+use Rattle.jv_rows.proofs.ExactListLaws.{list_exact}
 use Rattle.jv_rows.proofs.ReaderLaws.{some_is}
 use Rattle.jv_rows.proofs.TransactionLaws.{of_known, if_known}
 
@@ -56,10 +57,6 @@ well-record r true None is = refl
 well-record r false None is = refl
 well-record r true (Some x) is = ap (λ (c : Bool). is_nil x.1 && (c && list_all is_record x.0)) is
 well-record r false (Some x) is = ap (λ (c : Bool). is_nil x.1 && (c && list_all is_record x.0)) is ∙ and_false (is_nil x.1)
-  where
-    and_false : (b : Bool) → (b && false) ≡ false
-    and_false true = refl
-    and_false false = refl
 
 -- how many records are left: one, and those behind it
 one_more : (count i : ℕ) → i < count → count - i ≡ suc (count - (i + 1))
@@ -85,11 +82,11 @@ some_records n bytes x e = first (record_at bytes) x e
     first None x e = absurd (cc)
     first (Some y) x e = behind y.0 (records_at n y.1) x e
 
-module _ (bytes : List ℕ) (count : ℕ) (count_is : count ≡ length bytes / 24) where
+module _ (bytes : List ℕ) (count : ℕ) (count_is : count ≡ length bytes / RECORD_LENGTH) where
   -- records that aren't well are no list
   no_list : is_well (records_at count bytes) ≡ false → list_of bytes ≡ None
   unfolding list_of
-  no_list h = none (records_at (length bytes / 24) bytes) (ap (λ (n : ℕ). is_well (records_at n bytes)) (sym count_is) ∙ h)
+  no_list h = none (records_at (length bytes / RECORD_LENGTH) bytes) (ap (λ (n : ℕ). is_well (records_at n bytes)) (sym count_is) ∙ h)
     where
       either : (a b c : Bool) (rs : List Rec) → (a && b) ≡ false → cond (a && (c && b)) (Some rs) None ≡ None
       either true b true rs h = ap (λ (t : Bool). cond t (Some rs) None) h
@@ -140,7 +137,7 @@ module _ (bytes : List ℕ) (count : ℕ) (count_is : count ≡ length bytes / 2
     pub all_over : count ≤ i → count ≢ 0 → true ≡ (length rest == 0) → IsSome (list_of bytes)
     unfolding list_of
     all_over le some test =
-        listed (records_at (length bytes / 24) bytes) (λ x e. some_records (count - 1) bytes x (ap (λ (n : ℕ). records_at n bytes) (sym one ∙ count_is) ∙ e))
+        listed (records_at (length bytes / RECORD_LENGTH) bytes) (λ x e. some_records (count - 1) bytes x (ap (λ (n : ℕ). records_at n bytes) (sym one ∙ count_is) ∙ e))
         (ap (λ (n : ℕ). is_well (records_at n bytes)) (sym count_is) ∙ sym (over le) ∙ nothing_left rest true test)
       where
         one : count ≡ suc (count - 1)
@@ -177,21 +174,21 @@ bytes-push list rec =
 
 -- the row that is spelled by the bytes of a list, or none, and those of a record behind them
 row-push : (list : List Rec) (rec : Rec) → ListWidths list → IsTrue (list_all is_record list) → RecordWidths rec → IsRecord rec
-    → row_of 4 (list_bytes list ++ record_bytes rec) ≡ Some (OfList (list ++ rec ∷ []))
+    → row_of TABLE_OF_LISTS (list_bytes list ++ record_bytes rec) ≡ Some (OfList (list ++ rec ∷ []))
 row-push list rec widths all low is =
-    ap (row_of 4) (sym (bytes-push list rec)) ∙ list_row (list_bytes (list ++ rec ∷ []))
+    ap (row_of TABLE_OF_LISTS) (sym (bytes-push list rec)) ∙ list_row (list_bytes (list ++ rec ∷ []))
     ∙ ap (option_map OfList) (list_exact.again (list ++ rec ∷ []) (widths-push list rec widths low) (is_list-push list rec all is))
 
 -- ---- what becomes of the draft
 
-module _ (key : RowKey) (at : key.tab ≡ 4) (rec : Rec) (low : RecordWidths rec) (is : IsRecord rec) (changes : List Change) where
+module _ (key : RowKey) (at : key.tab ≡ TABLE_OF_LISTS) (rec : Rec) (low : RecordWidths rec) (is : IsRecord rec) (changes : List Change) where
   -- a put of a list's bytes with those of the record behind
   drafts-push : {E : Type 0} (list : List Rec) (bytes : List ℕ) (left : List Change) (result : Result (Unit {0}) E) → bytes ≡ list_bytes list → ListWidths list → IsTrue (list_all is_record list)
       → OnOk result (left ≡ changes ++ Put key (bytes ++ record_bytes rec) ∷ []) → OnErr result (left ≡ changes)
       → Drafts key (cell OfList (Some (list ++ rec ∷ []))) changes left result
   drafts-push list bytes left result spelled widths all ok err =
       drafts_put key (bytes ++ record_bytes rec) (OfList (list ++ rec ∷ [])) changes left result
-      (ap (λ (t : ℕ). row_of t (bytes ++ record_bytes rec)) at ∙ ap (λ (b : List ℕ). row_of 4 (b ++ record_bytes rec)) spelled ∙ row-push list rec widths all low is) ok err
+      (ap (λ (t : ℕ). row_of t (bytes ++ record_bytes rec)) at ∙ ap (λ (b : List ℕ). row_of TABLE_OF_LISTS (b ++ record_bytes rec)) spelled ∙ row-push list rec widths all low is) ok err
 
   pub appends_to-done : (bytes : List ℕ) (left : List Change) → AreBytes bytes → IsSome (list_of bytes) → left ≡ changes ++ Put key (bytes ++ record_bytes rec) ∷ []
       → AppendsTo key bytes rec changes left (Ok tt)

@@ -1,10 +1,8 @@
 -- How a transaction begins: the caller's session, and then a walk to a node.
-use Rattle.std.proofs.Common.{◌≡◌, ℕ, Bool, List, Option, Some, Result, Ok, Err, refl, sym, ap, ◌∙◌}
-use Rattle.std.specs.Prelude.{is_some, IsErrAnd}
+use Rattle.std.proofs.Common.{◌≡◌, ℕ, Bool, List, Some, Result, Ok, Err, ap, ◌∙◌}
+use Rattle.std.specs.Prelude.{IsErrAnd}
 use Rattle.jv_model.specs.declared.basics.Who.{Who}
 use Rattle.jv_model.specs.declared.fault.Fault.{Fault}
-use Rattle.jv_model.specs.declared.fault.Fault.TheVariants.{Stale}
-use Rattle.jv_model.specs.declared.fault.Gone.TheVariants.{Session as GoneSession}
 use Rattle.jv_model.specs.declared.fault.TxFault.{TxFault}
 use Rattle.jv_model.specs.declared.op.Reply.{Reply}
 use Rattle.jv_model.specs.declared.row.Node.{Node as NodeRow}
@@ -12,8 +10,8 @@ use Rattle.jv_model.specs.declared.row.Row.TheVariants.{OfNode}
 use Rattle.jv_model.specs.FiniteMap.{get}
 use Rattle.jv_model.specs.rows.RowKeys.{RowMap}
 use Rattle.jv_model.specs.rows.RowPlaces.{node_key}
-use Rattle.jv_model.specs.tree.Attempt.{◌>>=◌, require}
-use Rattle.jv_model.specs.tree.Caller.{Caller, Outcome, in_session}
+use Rattle.jv_model.specs.tree.Attempt.{◌>>=◌}
+use Rattle.jv_model.specs.tree.Caller.{Caller, Outcome, in_session, session_there}
 use Rattle.jv_model.specs.tree.Tree.{Tree}
 use Rattle.jv_model.specs.tree.Walk.{inode_by}
 use Rattle.jv_outside.specs.Store.{Store}
@@ -30,7 +28,7 @@ use Rattle.jv_rows.proofs.TransactionLaws.{of_known, Past, past-start, past-as, 
 
 -- the caller's session is the one that is asked for
 pub in_session-is : (who : Who) (caller : Caller) → IsFor who caller → (t : Tree) → in_session t caller ≡ session_is who.sid t
-in_session-is who caller is t = ap (λ sid. require (is_some (get t.sessions sid)) (Stale (GoneSession sid))) is.sid
+in_session-is who caller is t = ap (λ sid. session_there t sid) is.sid
 
 -- ---- the session
 

@@ -31,7 +31,7 @@ pub guard_some : {A : Type 0} (b : Bool) (x y : A) → cond b None (Some x) ≡ 
 guard_some true x y e = absurd cc
 guard_some false x y e = (refl, cc)
 
--- a field: its reader takes just its spelling off the front
+-- a field: its reader takes just its spelling from the front
 pub record IsField {A : Type 0} (at : List ℕ → Option (A × List ℕ)) (spelled : A → List ℕ) (Fits : A → Type 0) : Type 0 where
   pub parts : (bytes : List ℕ) (x : A × List ℕ) → AreBytes bytes → at bytes ≡ Some x → bytes ≡ spelled x.0 ++ x.1
   pub fits : (bytes : List ℕ) (x : A × List ℕ) → AreBytes bytes → at bytes ≡ Some x → Fits x.0

@@ -1,11 +1,11 @@
 pub mod FieldLaws
 pub mod ReaderLaws
-pub mod ExactRows
-pub mod ExactLists
-pub mod Records
-pub mod Bounds
-pub mod Sound
-pub mod AnyRow
+pub mod ExactRowLaws
+pub mod ExactListLaws
+pub mod RecordLaws
+pub mod BoundLaws
+pub mod SoundLaws
+pub mod AnyRowLaws
 pub mod ScanLaws
 pub mod CountsLaws
 pub mod SpelledLaws

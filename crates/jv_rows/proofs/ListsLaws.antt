@@ -9,6 +9,7 @@ use Rattle.std.specs.Ordering.{is_lt, nat_cmp, ordering_then}
 use Rattle.std.specs.Cmp.{nat_cmp_total, tied_itself}
 use Rattle.std.specs.Cmp.Lexicographic.{slice_cmp}
 use Rattle.std.proofs.lemmas.Bool.{cases_order, ltb-true, ltb-false}
+use Rattle.jv_model.specs.declared.tables.TheConstants.{TABLE_OF_LISTS}
 use Rattle.jv_model.specs.declared.fault.RowFault.{RowFault}
 use Rattle.jv_model.specs.declared.fault.RowFault.TheVariants.{Bad, Failed, Memory}
 use Rattle.jv_model.specs.declared.row.Row.{Row}
@@ -44,7 +45,7 @@ key-past : (inode : ℕ) (last : Option ℕ) (window : ℕ) → window < 2 ^ 32 
 key-past inode None window small past = ap (λ o. ordering_then (nat_cmp 4 4) (ordering_then o Less)) (tied_itself nat_cmp_total inode)
 key-past inode (Some last) window small past = key-less inode last window (ltb-true last window past) small
 
-last_tab : (inode : ℕ) (last : Option ℕ) → (last_list_key inode last).tab ≡ 4
+last_tab : (inode : ℕ) (last : Option ℕ) → (last_list_key inode last).tab ≡ TABLE_OF_LISTS
 last_tab inode None = refl
 last_tab inode (Some window) = refl
 
@@ -52,8 +53,8 @@ last_number : (inode : ℕ) (last : Option ℕ) → (last_list_key inode last).a
 last_number inode None = refl
 last_number inode (Some window) = refl
 
-key_is : (inode : ℕ) (key : RowKey) (n : ℕ) → key.tab ≡ 4 → key.a ≡ inode → key.b ≡ word n → list_key inode n ≡ key
-key_is inode key n tab number spelled = same_key_parts key 4 inode (word n) (sym tab) (sym number) (sym spelled)
+key_is : (inode : ℕ) (key : RowKey) (n : ℕ) → key.tab ≡ TABLE_OF_LISTS → key.a ≡ inode → key.b ≡ word n → list_key inode n ≡ key
+key_is inode key n tab number spelled = same_key_parts key TABLE_OF_LISTS inode (word n) (sym tab) (sym number) (sym spelled)
 
 -- ---- the list of a row
 
@@ -149,14 +150,14 @@ module _ (inode : ℕ) (last : Option ℕ) (before now : Store) (list : List (Ro
   read known is = reads-one 4 behind known list (of_known (λ known. rows_read (rows_after known 4 (Some behind) 1) ≡ Ok list) before.rows known is s.found)
 
   module _ (known : RowMap) (e : RowKey × List ℕ) (r : IsRead 4 behind known list e) where
-    table : (e.0.tab ≡ 4) × (row_cmp behind e.0 ≡ Less)
-    table = tab_of 4 behind e.0 e.1 (first_where-found row_key (passes 4 behind) known e r.first).passes
+    table : (e.0.tab ≡ TABLE_OF_LISTS) × (row_cmp behind e.0 ≡ Less)
+    table = tab_of TABLE_OF_LISTS behind e.0 e.1 (first_where-found row_key (passes TABLE_OF_LISTS behind) known e r.first).passes
 
     row_is : (records : List Rec) × (r.row ≡ OfList records)
     row_is = list_is (list_of e.1) r.row (sym (list_row e.1) ∙ ap (λ (t : ℕ). row_of t e.1) (sym table.0) ∙ r.read)
 
     cell_there : get (typed known) e.0 ≡ Some (Ok r.row)
-    cell_there = get-typed known e.0 ∙ ap (option_map (cell_of e.0)) (first_where-found row_key (passes 4 behind) known e r.first).there
+    cell_there = get-typed known e.0 ∙ ap (option_map (cell_of e.0)) (first_where-found row_key (passes TABLE_OF_LISTS behind) known e r.first).there
         ∙ ap (λ o. Some (ok_or o e.1)) r.read
 
     of_list : IfSome (list_of_row inode last e.0 r.row) (λ f. get (typed known) (list_key inode f.0) ≡ Some (Ok (OfList f.1)))
@@ -242,10 +243,10 @@ module _ (inode : ℕ) (last : Option ℕ) (before now : Store) (list : List (Ro
 
   none_by : (known : RowMap) → HaveWindows (typed known) → (j : ℕ) → j < 2 ^ 32 → is_past last j ≡ true → is_ahead (option_map (λ f. f.0) found) j ≡ true → (y : List ℕ)
       → get known (list_key inode j) ≡ Some y → ReadsOne 4 behind known list → ⊥
-  none_by known wide j small past ahead y stored (NoRow first none) = first_where-none row_key (passes 4 behind) known (list_key inode j) y first
+  none_by known wide j small past ahead y stored (NoRow first none) = first_where-none row_key (passes TABLE_OF_LISTS behind) known (list_key inode j) y first
       stored (ap is_lt (key-past inode last j small past))
   none_by known wide j small past ahead y stored (OneRow e r) = not_between known e r wide j small past ahead
-      (first_where-least row_key (passes 4 behind) known e (list_key inode j) y r.first stored (ap is_lt (key-past inode last j small past)))
+      (first_where-least row_key (passes TABLE_OF_LISTS behind) known e (list_key inode j) y r.first stored (ap is_lt (key-past inode last j small past)))
 
   has_none : (known : RowMap) → before.rows ≡ Some known → HaveWindows (typed known) → HasNoList (typed known) inode last (option_map (λ f. f.0) found)
   has_none known is wide j small past ahead = by_stored (get known (list_key inode j)) refl

@@ -20,6 +20,7 @@ use Rattle.jv_model.specs.rows.RowKeys.{RowMap}
 use Rattle.jv_model.specs.rows.RowPlaces.{setting_key, counters_key, node_key, session_key}
 use Rattle.jv_model.specs.tree.Attempt.{require}
 use Rattle.jv_model.specs.tree.Tree.{Tree, Node, node_at, link_count}
+use Rattle.jv_model.specs.tree.Caller.{session_there}
 use Rattle.jv_outside.specs.declared.batch.Change.{Change}
 use Rattle.jv_outside.specs.Store.{Store}
 use Rattle.jv_volume.specs.TypedRows.{Cell, Rows, typed}
@@ -38,7 +39,7 @@ use Rattle.jv_rows.proofs.DraftLaws.{sees_stored}
 
 -- whether the session is there
 abbrev pub session_is : ℕ → Tree → Result (Unit {0}) Fault
-session_is sid t = require (is_some (get t.sessions sid)) (Stale (GoneSession sid))
+session_is sid t = session_there t sid
 
 module _ (sid : ℕ) (before after : Store) where
   -- a reading of the session's row, as one over no changes

@@ -19,11 +19,11 @@ use Rattle.jv_model.specs.FiniteMap.{KeyOrder, Map, get}
 use Rattle.jv_model.specs.rows.RowGrammar.{row_of}
 use Rattle.jv_model.specs.rows.RowKeys.{RowMap, row_key, row_cmp}
 use Rattle.jv_model.proofs.TestLaws.{first_of_both, second_of_both}
+use Rattle.jv_model.proofs.FiniteMapLaws.{find-below_all, found_here}
 use Rattle.jv_outside.specs.Rows.{is_after, rows_after}
 use Rattle.jv_outside.specs.Store.{Store}
 use Rattle.jv_volume.specs.TypedRows.{cell_of, typed}
-use Rattle.jv_volume.proofs.MapLaws.{find-below_all}
-use Rattle.jv_volume.proofs.ShapeMapLaws.{tied_here, tied_apart}
+use Rattle.jv_volume.proofs.ShapeMapLaws.{tied_apart}
 use Rattle.jv_volume.proofs.StoredLaws.{whole-typed}
 use Rattle.jv_volume.proofs.TypedLaws.{get-typed}
 use Rattle.jv_rows.specs.Scans.{row_then, rows_read, RefusesScan, ScansRows}
@@ -47,9 +47,6 @@ number-rises x y table less =
 -- ---- the entries of a map
 
 module _ {K X : Type 0} (order : KeyOrder K) where
-  found_here : (e : K × X) (es : List (K × X)) → find order.cmp e.0 (e ∷ es) ≡ Some e.1
-  found_here e es = ap (λ (b : Bool). cond b (Some e.1) (find order.cmp e.0 es)) (tied_here order e.0)
-
   apart_from : (e : K × X) (es : List (K × X)) (k : K) (x : X) → T (below_all order.cmp e.0 es) → find order.cmp k es ≡ Some x → k ≢ e.0
   apart_from e es k x below there same =
       let none : find order.cmp k es ≡ None = ap (λ q. find order.cmp q es) same ∙ find-below_all order e.0 es below in
@@ -64,7 +61,7 @@ module _ {K X : Type 0} (order : KeyOrder K) where
       → AllByRecursion (λ (e : K × X). P e.0 e.1) es
   all_found P [] sorted has = tt
   all_found P (e ∷ es) sorted has = (
-    has e.0 e.1 (found_here e es),
+    has e.0 e.1 (found_here order e es),
     all_found P es (second_of_both _ _ sorted) (λ k x there. has k x (found_later e es k x (first_of_both _ _ sorted) there)),
   )
 
@@ -103,7 +100,7 @@ module _ (P : RowKey × List ℕ → Type 0) (off : RowKey × List ℕ) where
   read_off [] all e = absurd (true≢false (ap is_ok e))
   read_off (r ∷ rows) all e = off_at r (row_of r.0.tab r.1) (rows_read rows) all.0 (read_off rows all.1) e
 
-abbrev IsStored : RowMap → RowKey × List ℕ → Type 0
+abbrev pub IsStored : RowMap → RowKey × List ℕ → Type 0
 IsStored known e = get known e.0 ≡ Some e.1
 
 module _ (tab : ℕ) (last : Option RowKey) (n : ℕ) (before after : Store) where

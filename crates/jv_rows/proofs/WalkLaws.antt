@@ -13,7 +13,7 @@ use Rattle.jv_model.specs.declared.fault.TxFault.{TxFault}
 use Rattle.jv_model.specs.declared.fault.TxFault.TheVariants.{Refused, Rows as OfRows}
 use Rattle.jv_model.specs.FiniteMap.{get}
 use Rattle.jv_model.specs.rows.RowGrammar.{node_bytes, is_node, edge_bytes, is_edge}
-use Rattle.jv_model.specs.rows.RowKeys.{RowMap, row_key}
+use Rattle.jv_model.specs.rows.RowKeys.{RowMap, row_key, is_key_of}
 use Rattle.jv_model.specs.rows.RowPlaces.{node_key, edge_key}
 use Rattle.jv_model.specs.tree.Tree.{Tree, Kind, File, Directory, Symlink, Node, EntryKey, root, trash_root, node_at, parent_of, parent_at}
 use Rattle.jv_outside.specs.Store.{Store}
@@ -22,12 +22,13 @@ use Rattle.jv_volume.specs.Views.{row_in, node_in, edge_in}
 use Rattle.jv_volume.specs.TreeOf.{tree_of}
 use Rattle.jv_volume.specs.Shape.{Form, Absent, Regular, Link, Dir, form_of, is_there, is_dir, shape_of, is_top, WholeShape}
 use Rattle.jv_volume.specs.Whole.{Whole}
-use Rattle.jv_volume.proofs.ShapeMapLaws.{tied_here}
+use Rattle.jv_volume.proofs.ShapeMapLaws.{tied_here, form-parent, there_of_dir}
 use Rattle.jv_volume.proofs.TreeOfLaws.{get-entries}
 use Rattle.jv_volume.proofs.StoredLaws.{whole-stored, whole-shape, found_node, no_node}
 use Rattle.jv_volume.proofs.WalkShapeLaws.{parent_directory}
+use Rattle.jv_volume.proofs.ClimbLaws.{dir_parent}
 use Rattle.jv_rows.specs.Drafts.{Sees}
-use Rattle.jv_rows.specs.Transactions.{NamesNone, Lacks, Looks, is_key_of, names, is_needed}
+use Rattle.jv_rows.specs.Transactions.{NamesNone, Lacks, Looks, names, is_needed}
 use Rattle.jv_rows.specs.Walks.{HasNodeRow, HasEdgeRow, Comes}
 use Rattle.jv_rows.specs.declared.walking.Place.{Place}
 use Rattle.jv_rows.proofs.TransactionLaws.{Past, of_known, if_known}
@@ -102,42 +103,20 @@ module _ (known : RowMap) (whole : Whole (typed known)) where
       let entry : get bare.entries at ≡ Some edge.inode = get-entries (λ inode position. 0) (typed known) at ∙ ap (λ cell. option_map (λ e. e.inode) (edge_in (row_in cell))) there in
       absent_form (absent edge.inode none) refl (shape.entry at edge.inode entry).there
 
-  dir_form : (node : Option Node) (parent : ℕ) → parent_of node ≡ Some parent → form_of node ≡ Dir parent
-  dir_form None parent e = absurd cc
-  dir_form (Some node) parent e = by_kind node.kind e
-    where
-      by_kind : (kind : Kind) → (elim kind [ File content ↦ None | Directory p ↦ Some p | Symlink target ↦ None ]) ≡ Some parent
-          → (elim kind [ File content ↦ Regular | Directory p ↦ Dir p | Symlink target ↦ Link ]) ≡ Dir parent
-      by_kind (File content) e = absurd cc
-      by_kind (Directory p) e = ap Dir (same e)
-        where
-          same : Some p ≡ Some parent → p ≡ parent
-          same e = cc
-      by_kind (Symlink target) e = absurd cc
-
-  is_dir_there : (form : Form) → IsTrue (is_dir form) → IsTrue (is_there form)
-  is_dir_there Absent h = absurd (true≢false (sym h))
-  is_dir_there Regular h = absurd (true≢false (sym h))
-  is_dir_there Link h = absurd (true≢false (sym h))
-  is_dir_there (Dir parent) h = refl
-
   -- the parent of a directory is there
   parent_there : (dir parent : ℕ) (top : Bool) → is_top dir ≡ top → form_of (node_at bare dir) ≡ Dir parent → IsTrue (is_there (form_of (node_at bare parent)))
   parent_there dir parent true top form = subst (λ p. IsTrue (is_there (form_of (node_at bare p)))) (of_top dir top (λ d. form_of (node_at bare d) ≡ Dir parent → root ≡ parent)
-      (λ is. same_parent (sym shape.root_there ∙ is)) (λ is. same_parent (sym shape.trash_there ∙ is)) form) (subst (λ f. IsTrue (is_there f)) (sym shape.root_there) refl)
-    where
-      same_parent : {p q : ℕ} → Dir p ≡ Dir q → p ≡ q
-      same_parent e = cc
+      (λ is. dir_parent _ _ (sym shape.root_there ∙ is)) (λ is. dir_parent _ _ (sym shape.trash_there ∙ is)) form) (subst (λ f. IsTrue (is_there f)) (sym shape.root_there) refl)
   parent_there dir parent false top form =
       let entered = shape.entered dir parent form top in
-      is_dir_there (form_of (node_at bare parent)) (shape.entry (record { dir = parent; name = entered.name }) dir entered.is).within
+      there_of_dir (form_of (node_at bare parent)) (shape.entry (record { dir = parent; name = entered.name }) dir entered.is).within
 
   -- no directory's parent is absent
   pub has_parent : (inode : ℕ) (node : NodeRow) → get (typed known) (node_key inode) ≡ Some (Ok (OfNode node)) → node.kind ≡ 2 → get (typed known) (node_key node.parent) ≡ None → ⊥
   has_parent inode node there directory none =
       let h = found_node (λ inode position. 0) (typed known) (whole-stored (λ inode position. 0) (typed known) whole) inode node (ap (λ cell. node_in (row_in cell)) there) in
       let parent : parent_at bare inode ≡ Some node.parent = h.parent ∙ ap (λ k. if k == 2 then Some node.parent else None) directory in
-      absent_form (absent node.parent none) refl (parent_there inode node.parent (is_top inode) refl (dir_form (node_at bare inode) node.parent parent))
+      absent_form (absent node.parent none) refl (parent_there inode node.parent (is_top inode) refl (form-parent (node_at bare inode) node.parent parent))
 
   -- nor is it a file or a symlink
   pub has_directory : (inode : ℕ) (node parent : NodeRow) → get (typed known) (node_key inode) ≡ Some (Ok (OfNode node)) → node.kind ≡ 2

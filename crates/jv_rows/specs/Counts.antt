@@ -1,5 +1,6 @@
 -- How the counts of slices follow records that went and came.
 use Rattle.std.specs.Prelude.{◌≡◌, ℕ, ◌+◌, ◌-◌, Bool, false, ◌||◌, ◌&&◌, not, ◌==◌, nat_le, if◌then◌else◌, List, Option, None, Some, Result, Ok, Err, IfErr, IfSome, OnOk, IsTrue}
+use Rattle.jv_model.specs.declared.tables.TheConstants.{TABLE_OF_SLICES, TABLE_OF_DEAD}
 use Rattle.jv_model.specs.declared.limits.TheConstants.{FULL_COUNT}
 use Rattle.jv_model.specs.declared.row.RowKey.{RowKey}
 use Rattle.jv_model.specs.declared.row.SliceRow.{SliceRow}
@@ -54,7 +55,7 @@ pub record Recounted (id gone added due : ℕ) (rows after : Rows) : Type 0 wher
 
 -- whether a key is of a slice that passes a test, living or dead
 abbrev pub is_of_slice : (ℕ → Bool) → RowKey → Bool
-is_of_slice test key = (key.tab == 5 || key.tab == 9) && is_nil key.b && test key.a
+is_of_slice test key = (key.tab == TABLE_OF_SLICES || key.tab == TABLE_OF_DEAD) && is_nil key.b && test key.a
 
 -- Each slice that records name is recounted, and other rows are as before.
 pub record Adjusted (gone added : List Rec) (due : ℕ) (rows after : Rows) : Type 0 where

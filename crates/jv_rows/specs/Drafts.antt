@@ -1,6 +1,5 @@
 -- Changes that a transaction has in mind: what is read over them, and what one more does.
 use Rattle.std.specs.Prelude.{◌≡◌, ℕ, Bool, if◌then◌else◌, List, [], ◌∷◌, Option, None, Some, Result, Ok, Err, IfOk, IfErr, IfSome, OnOk, OnErr, MatchOption, IsTrue}
-use Rattle.std.specs.Ordering.{eq_by_cmp}
 use Rattle.std.specs.Option.{option_map, option_or}
 use Rattle.jv_model.specs.declared.row.Row.{Row}
 use Rattle.jv_model.specs.declared.row.RowKey.{RowKey}
@@ -9,7 +8,7 @@ use Rattle.jv_model.specs.declared.fault.TxFault.{TxFault}
 use Rattle.jv_model.specs.declared.fault.TxFault.TheVariants.{Refused, Moved, Rows as OfRows}
 use Rattle.jv_model.specs.declared.fault.RowFault.TheVariants.{Bad, Failed, Memory}
 use Rattle.jv_model.specs.FiniteMap.{get, alter}
-use Rattle.jv_model.specs.rows.RowKeys.{RowMap, row_cmp}
+use Rattle.jv_model.specs.rows.RowKeys.{RowMap, is_key_of}
 use Rattle.jv_outside.specs.declared.batch.Change.{Change}
 use Rattle.jv_outside.specs.declared.batch.Change.TheVariants.{Put, Del}
 use Rattle.jv_outside.specs.Rows.{applied}
@@ -31,7 +30,7 @@ bytes_in (Del key) = None
 -- the last of changes that is of a key
 abbrev pub last_change : RowKey → List Change → Option Change
 last_change key [] = None
-last_change key (first ∷ rest) = option_or (last_change key rest) (if eq_by_cmp row_cmp key (key_in first) then Some first else None)
+last_change key (first ∷ rest) = option_or (last_change key rest) (if is_key_of key (key_in first) then Some first else None)
 
 -- why no value was read from bytes that a change left at a key: they are malformed, or out of memory
 abbrev pub RefusesPut : {A : Type 0} → (List ℕ → Option A) → RowKey → List ℕ → RowFault → Type 0

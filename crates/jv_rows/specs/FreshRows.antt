@@ -1,21 +1,22 @@
 -- The rows of a volume that was just formatted.
 use Rattle.std.specs.Prelude.{ℕ, ◌+◌, List, [], ◌∷◌, codes}
-use Rattle.jv_model.specs.declared.limits.TheConstants.{ROOT, TRASH_ROOT, SPACE_UNIT, DEFAULT_BLOCK}
+use Rattle.jv_model.specs.declared.tables.TheConstants.{ROWS_VERSION}
+use Rattle.jv_model.specs.declared.options.TheConstants.{DEFAULT_TRASH_DAYS}
+use Rattle.jv_model.specs.declared.limits.TheConstants.{ROOT, TRASH_ROOT, SPACE_UNIT, DEFAULT_BLOCK, FULL_MODE, READ_ONLY_MODE}
 use Rattle.jv_model.specs.declared.row.Counters.{Counters}
 use Rattle.jv_model.specs.declared.row.Node.{Node}
 use Rattle.jv_model.specs.declared.setting.Setting.{Setting}
 use Rattle.jv_model.specs.rows.RowGrammar.{setting_bytes, counters_bytes, node_bytes}
 use Rattle.jv_model.specs.rows.RowPlaces.{setting_key, counters_key, node_key}
-use Rattle.jv_model.specs.tree.Tree.{full_mode, read_only_mode}
 use Rattle.jv_outside.specs.declared.batch.Change.{Change}
 use Rattle.jv_outside.specs.declared.batch.Change.TheVariants.{Put}
 
 -- a volume named `juicefs` over memory, with default options
 abbrev pub default_setting : Setting
 default_setting = record {
-  version = 1;
+  version = ROWS_VERSION;
   block = DEFAULT_BLOCK;
-  trash_days = 1;
+  trash_days = DEFAULT_TRASH_DAYS;
   capacity = 0;
   inodes = 0;
   hash = 0;
@@ -47,6 +48,6 @@ abbrev pub fresh_rows : Setting → ℕ → List Change
 fresh_rows setting at =
     Put setting_key (setting_bytes setting)
     ∷ Put counters_key (counters_bytes fresh_counters)
-    ∷ Put (node_key ROOT) (node_bytes (fresh_directory full_mode at))
-    ∷ Put (node_key TRASH_ROOT) (node_bytes (fresh_directory read_only_mode at))
+    ∷ Put (node_key ROOT) (node_bytes (fresh_directory FULL_MODE at))
+    ∷ Put (node_key TRASH_ROOT) (node_bytes (fresh_directory READ_ONLY_MODE at))
     ∷ []

@@ -2,6 +2,7 @@
 use Rattle.std.specs.Prelude.{◌≡◌, ◌≢◌, ℕ, ◌<◌, ◌^◌, Bool, true, ◌==◌, ◌&&◌, nat_lt, if◌then◌else◌, List, [], length, Option, None, Some, Result, Ok, Err, IfOk, IfErr, IfSome, IsTrue}
 use Rattle.std.specs.Int.{w32, from_be_bytes}
 use Rattle.std.specs.Option.{option_map}
+use Rattle.jv_model.specs.declared.tables.TheConstants.{TABLE_OF_LISTS}
 use Rattle.jv_model.specs.declared.row.Row.{Row}
 use Rattle.jv_model.specs.declared.row.Row.TheVariants.{OfList}
 use Rattle.jv_model.specs.declared.row.RowKey.{RowKey}
@@ -29,7 +30,7 @@ is_ahead (Some next) number = nat_lt number next
 
 -- the key of a window of a file, or one below the keys of all its windows
 abbrev pub last_list_key : ℕ → Option ℕ → RowKey
-last_list_key inode None = record { tab = 4; a = inode; b = [] }
+last_list_key inode None = record { tab = TABLE_OF_LISTS; a = inode; b = [] }
 last_list_key inode (Some window) = list_key inode window
 
 -- the window that four bytes spell
@@ -60,7 +61,7 @@ HasNoList rows inode last next = (window : ℕ) → window < 2 ^ 32 → is_past 
 
 -- each key of a list has a window, as in whole rows
 abbrev pub HaveWindows : Rows → Type 0
-HaveWindows rows = (key : RowKey) → key.tab ≡ 4 → get rows key ≢ None → length key.b ≡ 4
+HaveWindows rows = (key : RowKey) → key.tab ≡ TABLE_OF_LISTS → get rows key ≢ None → length key.b ≡ 4
 
 -- why a list wasn't read: the row behind is malformed, the keeper failed, or out of memory
 abbrev pub RefusesList : Option RowMap → RowFault → Type 0

@@ -2,7 +2,6 @@
 use Rattle.std.specs.Prelude.{◌≡◌, ℕ, Bool, false, ◌&&◌, not, ◌==◌, List, [], ◌∷◌, Option, None, Some, Result, Ok, Err, IfErr, IfSome, OnErr, IsTrue}
 use Rattle.std.specs.List.{list_any}
 use Rattle.std.specs.Int.{w64, from_be_bytes}
-use Rattle.std.specs.Ordering.{eq_by_cmp}
 use Rattle.jv_model.specs.declared.limits.TheConstants.{ROOT, TRASH_ROOT}
 use Rattle.jv_model.specs.declared.basics.Who.{Who}
 use Rattle.jv_model.specs.declared.row.Row.{Row}
@@ -15,7 +14,7 @@ use Rattle.jv_model.specs.declared.fault.TxFault.TheVariants.{Refused, Moved, Ro
 use Rattle.jv_model.specs.declared.op.Reply.{Reply}
 use Rattle.jv_model.specs.FiniteMap.{get}
 use Rattle.jv_model.specs.rows.RowGrammar.{row_bytes}
-use Rattle.jv_model.specs.rows.RowKeys.{RowMap, row_cmp}
+use Rattle.jv_model.specs.rows.RowKeys.{RowMap, is_key_of}
 use Rattle.jv_model.specs.rows.RowPlaces.{setting_key, counters_key, node_key, slice_key}
 use Rattle.jv_model.specs.tree.Tree.{Tree}
 use Rattle.jv_model.specs.tree.Caller.{Caller, Outcome}
@@ -45,10 +44,6 @@ FaultCause before now (OfRows fault) = RowCause before now fault
 abbrev pub TransactionCounts : {A : Type 0} → ℕ → ℕ → Result A TxFault → Type 0
 TransactionCounts before now (Ok x) = now ≡ before
 TransactionCounts before now (Err fault) = FaultCause before now fault
-
--- whether two keys are one
-abbrev pub is_key_of : RowKey → RowKey → Bool
-is_key_of x y = eq_by_cmp row_cmp x y
 
 -- Whether a row names another: an entry its node, a directory its parent, a list its slices, and a session's file, which its
 -- key tells, its node.

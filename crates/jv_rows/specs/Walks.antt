@@ -1,5 +1,5 @@
 -- How a walk goes through a volume's rows: from node to node, and from one symlink to the next.
-use Rattle.std.specs.Prelude.{◌≡◌, ℕ, Bool, if◌then◌else◌, not, List, [], ◌∷◌, ◌++◌, filter, None, Some, Result, Ok, Err, IfOk, IfSome, IsTrue}
+use Rattle.std.specs.Prelude.{◌≡◌, ℕ, Bool, if◌then◌else◌, List, [], ◌∷◌, ◌++◌, None, Some, Result, Ok, Err, IfOk, IfSome, IsTrue}
 use Rattle.jv_model.specs.declared.fault.Fault.{Fault}
 use Rattle.jv_model.specs.declared.fault.TxFault.{TxFault}
 use Rattle.jv_model.specs.declared.row.Row.TheVariants.{OfNode, OfEdge}
@@ -10,8 +10,7 @@ use Rattle.jv_model.specs.rows.RowGrammar.{is_node}
 use Rattle.jv_model.specs.rows.RowPlaces.{node_key, edge_key}
 use Rattle.jv_model.specs.tree.Attempt.{◌>>=◌}
 use Rattle.jv_model.specs.tree.Tree.{Tree, EntryKey, root}
-use Rattle.jv_model.specs.tree.Walk.{names_of, is_absolute, stepped, way_on, entry_of}
-use Rattle.jv_model.specs.Lists.{is_nil}
+use Rattle.jv_model.specs.tree.Walk.{names_of, is_absolute, stepped, way_on, entry_of, only_names}
 use Rattle.jv_outside.specs.Store.{Store}
 use Rattle.jv_rows.specs.Transactions.{Looks}
 use Rattle.jv_rows.specs.declared.walking.Place.{Place}
@@ -72,7 +71,7 @@ pub record Goes (before after : Store) (result : Result Leg TxFault) (finds : Tr
 
 -- a name, if it is one
 abbrev pub one_name : List ℕ → List (List ℕ)
-one_name name = filter (λ n. not (is_nil n)) (name ∷ [])
+one_name name = only_names (name ∷ [])
 
 -- the entry that a path names, as a pair
 abbrev pub pair_in : EntryKey → ℕ × List ℕ

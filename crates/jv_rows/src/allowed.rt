@@ -6,9 +6,9 @@ ghost use Rattle.jv_model.specs.rows.RowGrammar.{is_setting, is_block, is_volume
 ghost use Rattle.jv_model.specs.blocks.Slices.{is_record, is_part};
 
 use jv_model::{
-    Counters, Edge, FULL_COUNT, List, MAX_BLOCK, MAX_BUCKET, MAX_CAPACITY, MAX_MODE, MAX_PATH,
-    MAX_TRASH_DAYS, MAX_VOLUME_NAME, MIN_BLOCK, MIN_VOLUME_NAME, Node, Rec, SPACE_UNIT, Session,
-    Setting, SliceRow, WINDOW,
+    Counters, Edge, FULL_COUNT, LAST_CLIENT, List, MAX_BLOCK, MAX_BUCKET, MAX_CAPACITY, MAX_MODE,
+    MAX_PATH, MAX_TRASH_DAYS, MAX_VOLUME_NAME, MIN_BLOCK, MIN_VOLUME_NAME, Node, Rec, SPACE_UNIT,
+    Session, Setting, SliceRow, WINDOW,
 };
 use std::str::from_utf8;
 
@@ -175,5 +175,5 @@ pub fn allows_slice(slice: &SliceRow) -> bool
 pub fn allows_session(session: &Session) -> bool
     ensures { result ≡ is_session session.now }
 {
-    session.client <= 7
+    session.client <= LAST_CLIENT
 }

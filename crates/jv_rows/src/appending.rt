@@ -1,5 +1,6 @@
 //! One more record in the list of a window: its bytes go behind those of the row, which are gone over and not made a list.
 ghost use Rattle.std.specs.Prelude.{◌≡◌, ◌++◌, ◌∷◌, [], IfOk, OnOk, OnErr, IsTrue};
+ghost use Rattle.jv_model.specs.declared.tables.TheConstants.{TABLE_OF_LISTS};
 ghost use Rattle.jv_model.specs.blocks.Slices.{IsRecord};
 ghost use Rattle.jv_model.specs.rows.RowGrammar.{record_bytes, list_of};
 ghost use Rattle.jv_outside.specs.declared.batch.Change.TheVariants.{Put};
@@ -10,8 +11,9 @@ use crate::drafts::{Draft, last_of};
 use crate::keys::key_of_list;
 use crate::misread::Misread;
 use crate::parsing::take_record;
-use crate::spelling::{RECORD_LEN, put_record};
+use crate::spelling::put_record;
 use crate::widths::{are_bytes, has_record_widths};
+use jv_model::tables::RECORD_LENGTH;
 use jv_model::{Bytes, Down, Rec, RowFault, RowKey, Sequence, copied};
 use jv_outside::{Change, Keeper};
 use std::alloc::AllocError;
@@ -20,7 +22,7 @@ use std::alloc::AllocError;
 fn judge_list(bytes: &[u8]) -> Result<(), Misread>
     ensures { Judges result (list_of bytes.now) }
 {
-    let count = bytes.len() / RECORD_LEN;
+    let count = bytes.len() / RECORD_LENGTH;
     if count == 0 {
         return Err(Misread::Malformed);
     }
@@ -46,7 +48,7 @@ fn with_record(bytes: Bytes, rec: &Rec) -> Result<Bytes, AllocError>
     ensures { IfOk result (λ longer. longer ≡ bytes ++ record_bytes rec.now) }
 {
     let mut out = bytes.into_vec();
-    out.reserve_exact(RECORD_LEN)?;
+    out.reserve_exact(RECORD_LENGTH)?;
     put_record(&mut out, rec)?;
     Ok(Sequence::from_vec(out))
 }
@@ -93,7 +95,7 @@ impl Draft {
 
     // Adds that a list, which these bytes spell, has one record more.
     fn put_behind(&mut self, key: RowKey, bytes: Bytes, rec: &Rec) -> Result<(), RowFault>
-        requires tab { key.tab ≡ 4 }
+        requires tab { key.tab ≡ TABLE_OF_LISTS }
         requires record { IsRecord rec.now }
         ensures { AppendsTo key bytes rec.now self.old self.new result }
     {

@@ -17,6 +17,7 @@ use crate::keys::{
 };
 use crate::misread::Misread;
 use crate::reading::read_row;
+use jv_model::tables::TABLE_OF_SLICES;
 use jv_model::{
     Counters, Dead, Down, Dropped, Edge, List, Name, Node, RowFault, RowKey, Session, Setting,
     SliceRow, copied,
@@ -52,11 +53,11 @@ fn is_of(key: &RowKey, change: &Change) -> bool
 
 // Whether a change is of a slice's row.
 fn is_of_slice(change: &Change) -> bool
-    ensures { result ≡ ((key_in change.now).tab == 5) }
+    ensures { result ≡ ((key_in change.now).tab == TABLE_OF_SLICES) }
 {
     match change {
-        Change::Put(at, _) => at.tab == 5,
-        Change::Del(at) => at.tab == 5,
+        Change::Put(at, _) => at.tab == TABLE_OF_SLICES,
+        Change::Del(at) => at.tab == TABLE_OF_SLICES,
     }
 }
 
@@ -321,7 +322,7 @@ impl Draft {
 
     // Whether some change is of a slice's row.
     pub(crate) fn changes_slices(&self) -> bool
-        ensures { result ≡ list_any (λ change. (key_in change).tab == 5) self.now }
+        ensures { result ≡ list_any (λ change. (key_in change).tab == TABLE_OF_SLICES) self.now }
     {
         self.batch
             .as_slice()
@@ -359,6 +360,10 @@ impl Draft {
     }
 
     /// Makes all the changes, or none of them after an error.
+    ///
+    /// # Errors
+    ///
+    /// [`Down::Failed`] if the keeper failed, and [`Down::Memory`] out of memory.
     pub fn commit<K: Keeper>(&self, k: &mut K) -> Result<(), Down>
         ensures { Commits (K.seen k.old) (K.seen k.new) result self.now }
     {

@@ -4,17 +4,14 @@ ghost use Rattle.jv_model.specs.rows.RowGrammar.{is_setting};
 ghost use Rattle.jv_rows.specs.FreshRows.{default_setting, fresh_directory, fresh_rows};
 
 use crate::writing::{put_counters, put_node, put_setting};
+use jv_model::options::DEFAULT_TRASH_DAYS;
+use jv_model::tables::ROWS_VERSION;
 use jv_model::{
-    Counters, DEFAULT_BLOCK, Moment, Node, ROOT, SPACE_UNIT, Sequence, Setting, TRASH_ROOT, copied,
+    Counters, DEFAULT_BLOCK, FULL_MODE, Moment, Node, READ_ONLY_MODE, ROOT, SPACE_UNIT, Sequence,
+    Setting, TRASH_ROOT, copied,
 };
 use jv_outside::Batch;
 use std::alloc::{AllocError, Global};
-
-/// The permission bits of the root.
-const ROOT_MODE: u16 = 0o777;
-
-/// The permission bits of the trash.
-const TRASH_MODE: u16 = 0o555;
 
 /// The numbers of a volume without files.
 const FRESH_COUNTERS: Counters = Counters {
@@ -25,15 +22,15 @@ const FRESH_COUNTERS: Counters = Counters {
     used_inodes: 0,
 };
 
-/// The setting of a volume named `juicefs` over memory, with default options.
+/// The setting of a volume named `juicefs` over memory, with default options. The only error is out of memory.
 pub fn default_setting(alloc: Global) -> Result<Setting, AllocError>
     ensures fields { IfOk result (λ setting. setting ≡ default_setting) }
     ensures allowed { IfOk result (λ setting. IsTrue (is_setting setting)) }
 {
     Ok(Setting {
-        version: 1,
+        version: ROWS_VERSION,
         block: DEFAULT_BLOCK,
-        trash_days: 1,
+        trash_days: DEFAULT_TRASH_DAYS,
         capacity: 0,
         inodes: 0,
         hash: 0,
@@ -60,7 +57,8 @@ fn fresh_directory(alloc: Global, mode: u16, at: Moment) -> Node
     }
 }
 
-/// The rows of a volume that is formatted at a moment: its setting, its counters, its root and its trash.
+/// The rows of a volume that is formatted at a moment: its setting, its counters, its root and its trash. The moment is
+/// in seconds. The only error is out of memory. JuiceFS, Command Reference: `format`.
 pub fn fresh_rows(alloc: Global, setting: &Setting, at: Moment) -> Result<Batch, AllocError>
     requires { IsTrue (is_setting setting.now) }
     ensures { IfOk result (λ batch. batch ≡ fresh_rows setting.now at) }
@@ -72,13 +70,13 @@ pub fn fresh_rows(alloc: Global, setting: &Setting, at: Moment) -> Result<Batch,
         alloc,
         &mut batch,
         ROOT,
-        &fresh_directory(alloc, ROOT_MODE, at),
+        &fresh_directory(alloc, FULL_MODE, at),
     )?;
     put_node(
         alloc,
         &mut batch,
         TRASH_ROOT,
-        &fresh_directory(alloc, TRASH_MODE, at),
+        &fresh_directory(alloc, READ_ONLY_MODE, at),
     )?;
     Ok(batch)
 }

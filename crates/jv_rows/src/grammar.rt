@@ -1,6 +1,7 @@
 //! The grammars of the ten tables, by the types of their values.
 ghost use Rattle.std.specs.Prelude.{◌≡◌, ℕ, List, [], Bool, true, Option, Some, IfOk, IsTrue};
 ghost use Rattle.std.specs.Option.{option_map};
+ghost use Rattle.jv_model.specs.declared.tables.TheConstants.{TABLE_OF_COUNTERS, TABLE_OF_DEAD, TABLE_OF_DROPPED, TABLE_OF_EDGES, TABLE_OF_LISTS, TABLE_OF_NODES, TABLE_OF_SESSIONS, TABLE_OF_SETTING, TABLE_OF_SLICES, TABLE_OF_SUSTAINED};
 ghost use Rattle.jv_model.specs.declared.row.Row.{Row};
 ghost use Rattle.jv_model.specs.declared.row.Row.TheVariants.{OfSetting, OfCounters, OfNode, OfEdge, OfList, OfSlice, OfSession, OfSustained, OfDropped, OfDead};
 ghost use Rattle.jv_model.specs.rows.RowGrammar.{is_setting, setting_bytes, setting_of, is_counters, counters_bytes, counters_of, is_node, node_bytes, node_of, is_edge, edge_bytes, edge_of, is_list, list_bytes, list_of, is_slice, slice_bytes, slice_of, is_session, session_bytes, session_of, sustained_of, dropped_bytes, dropped_of, dead_bytes, dead_of, row_of};
@@ -58,7 +59,7 @@ pub(crate) trait Spelled: Grammar {
 }
 
 impl Grammar for Setting {
-    ghost tab = { 0 };
+    ghost tab = { TABLE_OF_SETTING };
 
     ghost row_as = { OfSetting };
 
@@ -76,7 +77,7 @@ impl Grammar for Setting {
 }
 
 impl Grammar for Counters {
-    ghost tab = { 1 };
+    ghost tab = { TABLE_OF_COUNTERS };
 
     ghost row_as = { OfCounters };
 
@@ -101,7 +102,7 @@ impl Spelled for Counters {
 }
 
 impl Grammar for Node {
-    ghost tab = { 2 };
+    ghost tab = { TABLE_OF_NODES };
 
     ghost row_as = { OfNode };
 
@@ -126,7 +127,7 @@ impl Spelled for Node {
 }
 
 impl Grammar for Edge {
-    ghost tab = { 3 };
+    ghost tab = { TABLE_OF_EDGES };
 
     ghost row_as = { OfEdge };
 
@@ -151,7 +152,7 @@ impl Spelled for Edge {
 }
 
 impl Grammar for List {
-    ghost tab = { 4 };
+    ghost tab = { TABLE_OF_LISTS };
 
     ghost row_as = { OfList };
 
@@ -176,7 +177,7 @@ impl Spelled for List {
 }
 
 impl Grammar for SliceRow {
-    ghost tab = { 5 };
+    ghost tab = { TABLE_OF_SLICES };
 
     ghost row_as = { OfSlice };
 
@@ -201,7 +202,7 @@ impl Spelled for SliceRow {
 }
 
 impl Grammar for Session {
-    ghost tab = { 6 };
+    ghost tab = { TABLE_OF_SESSIONS };
 
     ghost row_as = { OfSession };
 
@@ -226,7 +227,7 @@ impl Spelled for Session {
 }
 
 impl Grammar for () {
-    ghost tab = { 7 };
+    ghost tab = { TABLE_OF_SUSTAINED };
 
     ghost row_as = { λ _. OfSustained };
 
@@ -250,7 +251,7 @@ impl Spelled for () {
 }
 
 impl Grammar for Dropped {
-    ghost tab = { 8 };
+    ghost tab = { TABLE_OF_DROPPED };
 
     ghost row_as = { OfDropped };
 
@@ -275,7 +276,7 @@ impl Spelled for Dropped {
 }
 
 impl Grammar for Dead {
-    ghost tab = { 9 };
+    ghost tab = { TABLE_OF_DEAD };
 
     ghost row_as = { OfDead };
 

@@ -1,4 +1,5 @@
-//! The rows of a volume's metadata: what bytes spell, read exactly, and the one spelling of each row.
+//! The rows of a volume's metadata: what bytes spell, read exactly, and the one spelling of each row
+//! (JuiceFS, Internals: metadata).
 #![tactic(auto)]
 
 mod adjusting;

@@ -5,6 +5,7 @@ ghost use Rattle.jv_rows.specs.Lists.{last_list_key, window_in, list_of_row, IsS
 
 use crate::keys::key_of_list;
 use crate::scanning::scan_rows;
+use jv_model::tables::TABLE_OF_LISTS;
 use jv_model::{List, Row, RowFault, RowKey, Sequence};
 use jv_outside::Keeper;
 use std::alloc::{AllocError, Global};
@@ -16,7 +17,7 @@ fn key_after(alloc: Global, inode: u64, last: Option<u32>) -> Result<RowKey, All
     match last {
         Some(window) => key_of_list(alloc, inode, window),
         None => Ok(RowKey {
-            tab: 4,
+            tab: TABLE_OF_LISTS,
             a: inode,
             b: Sequence::new(alloc),
         }),
@@ -70,7 +71,7 @@ pub fn next_list<K: Keeper>(
     ensures { FindsList inode last (K.seen k.old) (K.seen k.new) result }
 {
     let after = key_after(alloc, inode, last)?;
-    let mut rows = scan_rows(alloc, k, 4, Some(&after), 1)?.into_vec();
+    let mut rows = scan_rows(alloc, k, TABLE_OF_LISTS, Some(&after), 1)?.into_vec();
     match rows.pop() {
         Some((key, row)) => Ok(list_of(inode, last, &key, row)),
         None => Ok(None),

@@ -1,6 +1,5 @@
 //! What transactions need first: the caller's session, and rows that have to be there.
-ghost use Rattle.std.specs.Prelude.{◌≡◌, [], is_some};
-ghost use Rattle.jv_model.specs.FiniteMap.{get};
+ghost use Rattle.std.specs.Prelude.{◌≡◌, []};
 ghost use Rattle.jv_model.specs.declared.fault.Fault.TheVariants.{Stale};
 ghost use Rattle.jv_model.specs.declared.fault.Gone.TheVariants.{Session};
 ghost use Rattle.jv_model.specs.declared.fault.RowFault.TheVariants.{Bad};
@@ -8,7 +7,7 @@ ghost use Rattle.jv_model.specs.declared.fault.TxFault.TheVariants.{Rows as OfRo
 ghost use Rattle.jv_model.specs.declared.row.Row.TheVariants.{OfSetting, OfCounters, OfNode};
 ghost use Rattle.jv_model.specs.rows.RowGrammar.{is_setting, is_counters, is_node};
 ghost use Rattle.jv_model.specs.rows.RowPlaces.{setting_key, counters_key, node_key};
-ghost use Rattle.jv_model.specs.tree.Attempt.{require};
+ghost use Rattle.jv_model.specs.tree.Caller.{session_there};
 ghost use Rattle.jv_rows.specs.Drafts.{Needs};
 ghost use Rattle.jv_rows.specs.Transactions.{Looks};
 
@@ -19,10 +18,15 @@ use jv_model::{Counters, Fault, Gone, Node, RowFault, RowKey, Sequence, Setting,
 use jv_outside::Keeper;
 use std::alloc::Global;
 
-/// Refuses with ESTALE where the session is gone.
+/// Refuses where the session is gone. No row changes.
+///
+/// # Errors
+///
+/// Stale (ESTALE) with the session where it has no row. Bad where its row is malformed. Failed if the keeper failed.
+/// Memory.
 pub fn in_session<K: Keeper>(alloc: Global, k: &mut K, sid: u64) -> Result<(), TxFault>
     ensures { Looks (K.seen k.old) (K.seen k.new) result
-        (λ t. require (is_some (get t.sessions sid)) (Stale (Session sid))) }
+        (λ t. session_there t sid) }
 {
     match read_session(alloc, k, sid)? {
         Some(_) => Ok(()),
@@ -31,6 +35,11 @@ pub fn in_session<K: Keeper>(alloc: Global, k: &mut K, sid: u64) -> Result<(), T
 }
 
 /// The setting, which each volume has.
+///
+/// # Errors
+///
+/// Bad where the row is malformed, and without bytes where it is absent. Failed if the keeper failed. Memory. The rows
+/// are the same in each case.
 pub fn needed_setting<K: Keeper>(
     alloc: Global,
     k: &mut K,
@@ -45,7 +54,7 @@ pub fn needed_setting<K: Keeper>(
     }
 }
 
-/// The next numbers and the running totals, which each volume has.
+/// The next numbers and the running totals, which each volume has. Errors are as of [`needed_setting`].
 pub fn needed_counters<K: Keeper>(
     alloc: Global,
     k: &mut K,
@@ -60,7 +69,7 @@ pub fn needed_counters<K: Keeper>(
     }
 }
 
-/// A node that has to be there.
+/// A node that has to be there. Errors are as of [`needed_setting`].
 pub fn needed_node<K: Keeper>(
     alloc: Global,
     k: &mut K,

@@ -10,7 +10,7 @@ use crate::allowed::{
 };
 use crate::fields::{take_byte, take_front, take_half, take_long, take_word};
 use crate::misread::Misread;
-use crate::spelling::RECORD_LEN;
+use jv_model::tables::RECORD_LENGTH;
 use jv_model::{
     Counters, Dead, Dropped, Edge, List, Node, Rec, Sequence, Session, Setting, SliceRow, copied,
 };
@@ -27,6 +27,10 @@ fn settled<T: Drop>(value: T, allowed: bool, rest: &[u8]) -> Result<T, Misread>
 }
 
 /// The setting that the bytes spell, of whatever version.
+///
+/// # Errors
+///
+/// [`Misread::Malformed`] if and only if no row of the table has these bytes, and [`Misread::Memory`] out of memory.
 #[tactic(auto, unfolding(jv_model::specs::rows::RowGrammar::setting_of))]
 pub fn parse_setting(alloc: Global, bytes: &[u8]) -> Result<Setting, Misread>
     ensures { ReadsAs result (setting_of bytes.now) }
@@ -55,7 +59,7 @@ pub fn parse_setting(alloc: Global, bytes: &[u8]) -> Result<Setting, Misread>
     settled(setting, allowed, rest)
 }
 
-/// The running numbers that the bytes spell.
+/// The running numbers that the bytes spell. Errors are as of [`parse_setting`].
 #[tactic(auto, unfolding(jv_model::specs::rows::RowGrammar::counters_of))]
 pub fn parse_counters(bytes: &[u8]) -> Result<Counters, Misread>
     ensures { ReadsAs result (counters_of bytes.now) }
@@ -76,7 +80,7 @@ pub fn parse_counters(bytes: &[u8]) -> Result<Counters, Misread>
     settled(counters, allowed, rest)
 }
 
-/// The node that the bytes spell.
+/// The node that the bytes spell. Errors are as of [`parse_setting`].
 #[tactic(auto, unfolding(jv_model::specs::rows::RowGrammar::node_of))]
 pub fn parse_node(alloc: Global, bytes: &[u8]) -> Result<Node, Misread>
     ensures { ReadsAs result (node_of bytes.now) }
@@ -106,7 +110,7 @@ pub fn parse_node(alloc: Global, bytes: &[u8]) -> Result<Node, Misread>
     settled(node, allowed, &[])
 }
 
-/// The entry that the bytes spell.
+/// The entry that the bytes spell. Errors are as of [`parse_setting`].
 #[tactic(auto, unfolding(jv_model::specs::rows::RowGrammar::edge_of))]
 pub fn parse_edge(bytes: &[u8]) -> Result<Edge, Misread>
     ensures { ReadsAs result (edge_of bytes.now) }
@@ -154,18 +158,18 @@ fn take_records(alloc: Global, count: usize, bytes: &[u8]) -> Result<(Vec<Rec>, 
     Ok((records, rest))
 }
 
-/// The list of a window that the bytes spell.
+/// The list of a window that the bytes spell. Errors are as of [`parse_setting`].
 #[tactic(auto, unfolding(jv_model::specs::rows::RowGrammar::list_of))]
 pub fn parse_list(alloc: Global, bytes: &[u8]) -> Result<List, Misread>
     ensures { ReadsAs result (list_of bytes.now) }
 {
-    let (records, rest) = take_records(alloc, bytes.len() / RECORD_LEN, bytes)?;
+    let (records, rest) = take_records(alloc, bytes.len() / RECORD_LENGTH, bytes)?;
     let list = Sequence::from_vec(records);
     let allowed = allows_list(&list);
     settled(list, allowed, rest)
 }
 
-/// The slice that the bytes spell.
+/// The slice that the bytes spell. Errors are as of [`parse_setting`].
 #[tactic(auto, unfolding(jv_model::specs::rows::RowGrammar::slice_of))]
 pub fn parse_slice(bytes: &[u8]) -> Result<SliceRow, Misread>
     ensures { ReadsAs result (slice_of bytes.now) }
@@ -177,7 +181,7 @@ pub fn parse_slice(bytes: &[u8]) -> Result<SliceRow, Misread>
     settled(slice, allowed, rest)
 }
 
-/// The session that the bytes spell.
+/// The session that the bytes spell. Errors are as of [`parse_setting`].
 #[tactic(auto, unfolding(jv_model::specs::rows::RowGrammar::session_of))]
 pub fn parse_session(bytes: &[u8]) -> Result<Session, Misread>
     ensures { ReadsAs result (session_of bytes.now) }
@@ -189,7 +193,7 @@ pub fn parse_session(bytes: &[u8]) -> Result<Session, Misread>
     settled(session, allowed, rest)
 }
 
-/// Nothing, of which the row of a sustained file consists.
+/// Nothing, of which the row of a sustained file consists. Errors are as of [`parse_setting`].
 #[tactic(auto, unfolding(jv_model::specs::rows::RowGrammar::sustained_of))]
 pub fn parse_sustained(bytes: &[u8]) -> Result<(), Misread>
     ensures { ReadsAs result (sustained_of bytes.now) }
@@ -197,7 +201,7 @@ pub fn parse_sustained(bytes: &[u8]) -> Result<(), Misread>
     settled((), true, bytes)
 }
 
-/// The dropped file that the bytes spell.
+/// The dropped file that the bytes spell. Errors are as of [`parse_setting`].
 #[tactic(auto, unfolding(jv_model::specs::rows::RowGrammar::dropped_of))]
 pub fn parse_dropped(bytes: &[u8]) -> Result<Dropped, Misread>
     ensures { ReadsAs result (dropped_of bytes.now) }
@@ -206,7 +210,7 @@ pub fn parse_dropped(bytes: &[u8]) -> Result<Dropped, Misread>
     settled(Dropped { length }, true, rest)
 }
 
-/// The dead slice that the bytes spell.
+/// The dead slice that the bytes spell. Errors are as of [`parse_setting`].
 #[tactic(auto, unfolding(jv_model::specs::rows::RowGrammar::dead_of))]
 pub fn parse_dead(bytes: &[u8]) -> Result<Dead, Misread>
     ensures { ReadsAs result (dead_of bytes.now) }

@@ -38,6 +38,11 @@ pub(crate) fn read_row<K: Keeper, R: Grammar>(
 }
 
 /// The volume's setting, of whatever version. `None` if and only if there is no such row.
+///
+/// # Errors
+///
+/// [`RowFault::Bad`] with the key and the bytes of a malformed row, [`RowFault::Failed`] if the keeper failed, and
+/// [`RowFault::Memory`] out of memory. The rows are the same in each case.
 pub fn read_setting<K: Keeper>(alloc: Global, k: &mut K) -> Result<Option<Setting>, RowFault>
     ensures { ReadsRow setting_of setting_bytes is_setting setting_key
         (K.seen k.old) (K.seen k.new) result }
@@ -46,7 +51,8 @@ pub fn read_setting<K: Keeper>(alloc: Global, k: &mut K) -> Result<Option<Settin
     read_row(alloc, k, key)
 }
 
-/// The next numbers and the running totals. `None` if and only if there is no such row.
+/// The next numbers and the running totals. `None` if and only if there is no such row. Errors are as of
+/// [`read_setting`].
 pub fn read_counters<K: Keeper>(alloc: Global, k: &mut K) -> Result<Option<Counters>, RowFault>
     ensures { ReadsRow counters_of counters_bytes is_counters counters_key
         (K.seen k.old) (K.seen k.new) result }
@@ -55,7 +61,7 @@ pub fn read_counters<K: Keeper>(alloc: Global, k: &mut K) -> Result<Option<Count
     read_row(alloc, k, key)
 }
 
-/// A node. `None` if and only if there is no such row.
+/// A node. `None` if and only if there is no such row. Errors are as of [`read_setting`].
 pub fn read_node<K: Keeper>(alloc: Global, k: &mut K, inode: u64) -> Result<Option<Node>, RowFault>
     ensures { ReadsRow node_of node_bytes is_node (node_key inode)
         (K.seen k.old) (K.seen k.new) result }
@@ -64,7 +70,7 @@ pub fn read_node<K: Keeper>(alloc: Global, k: &mut K, inode: u64) -> Result<Opti
     read_row(alloc, k, key)
 }
 
-/// An entry of a directory. `None` if and only if there is no such row.
+/// An entry of a directory. `None` if and only if there is no such row. Errors are as of [`read_setting`].
 pub fn read_edge<K: Keeper>(
     alloc: Global,
     k: &mut K,
@@ -78,7 +84,7 @@ pub fn read_edge<K: Keeper>(
     read_row(alloc, k, key)
 }
 
-/// The records of a window of a file. `None` if and only if there is no such row.
+/// The records of a window of a file. `None` if and only if there is no such row. Errors are as of [`read_setting`].
 pub fn read_list<K: Keeper>(
     alloc: Global,
     k: &mut K,
@@ -92,7 +98,7 @@ pub fn read_list<K: Keeper>(
     read_row(alloc, k, key)
 }
 
-/// A slice with its count. `None` if and only if there is no such row.
+/// A slice with its count. `None` if and only if there is no such row. Errors are as of [`read_setting`].
 pub fn read_slice<K: Keeper>(
     alloc: Global,
     k: &mut K,
@@ -105,7 +111,7 @@ pub fn read_slice<K: Keeper>(
     read_row(alloc, k, key)
 }
 
-/// A session. `None` if and only if there is no such row.
+/// A session. `None` if and only if there is no such row. Errors are as of [`read_setting`].
 pub fn read_session<K: Keeper>(
     alloc: Global,
     k: &mut K,
@@ -118,7 +124,8 @@ pub fn read_session<K: Keeper>(
     read_row(alloc, k, key)
 }
 
-/// Whether the session keeps the unlinked file. `None` if and only if there is no such row.
+/// Whether the session keeps the unlinked file. `None` if and only if there is no such row. Errors are as of
+/// [`read_setting`].
 pub fn read_sustained<K: Keeper>(
     alloc: Global,
     k: &mut K,
@@ -132,7 +139,7 @@ pub fn read_sustained<K: Keeper>(
     read_row(alloc, k, key)
 }
 
-/// A dropped file. `None` if and only if there is no such row.
+/// A dropped file. `None` if and only if there is no such row. Errors are as of [`read_setting`].
 pub fn read_dropped<K: Keeper>(
     alloc: Global,
     k: &mut K,
@@ -145,7 +152,7 @@ pub fn read_dropped<K: Keeper>(
     read_row(alloc, k, key)
 }
 
-/// A dead slice. `None` if and only if there is no such row.
+/// A dead slice. `None` if and only if there is no such row. Errors are as of [`read_setting`].
 pub fn read_dead<K: Keeper>(alloc: Global, k: &mut K, id: u64) -> Result<Option<Dead>, RowFault>
     ensures { ReadsRow dead_of dead_bytes (λ _. true) (dead_key id)
         (K.seen k.old) (K.seen k.new) result }

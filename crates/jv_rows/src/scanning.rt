@@ -10,34 +10,43 @@ use crate::parsing::{
     parse_counters, parse_dead, parse_dropped, parse_edge, parse_list, parse_node, parse_session,
     parse_setting, parse_slice, parse_sustained,
 };
+use jv_model::tables::{
+    TABLE_OF_COUNTERS, TABLE_OF_DEAD, TABLE_OF_DROPPED, TABLE_OF_EDGES, TABLE_OF_LISTS,
+    TABLE_OF_NODES, TABLE_OF_SESSIONS, TABLE_OF_SETTING, TABLE_OF_SLICES, TABLE_OF_SUSTAINED,
+};
 use jv_model::{Bytes, Row, RowFault, RowKey, RowList, Rows, Sequence};
 use jv_outside::Keeper;
 use std::alloc::Global;
 
-/// The row that the bytes spell in the table of that number. There are no rows in tables from 10 on.
+/// The row that the bytes spell in the table of that number. There are no rows in tables behind [`TABLE_OF_DEAD`].
 #[tactic(auto, unfolding(jv_model::specs::rows::RowGrammar::row_of))]
 fn row_in(alloc: Global, tab: u8, bytes: &[u8]) -> Result<Row, Misread>
     ensures { ReadsAs result (row_of tab bytes.now) }
 {
     match tab {
-        0 => Ok(Row::OfSetting(parse_setting(alloc, bytes)?)),
-        1 => Ok(Row::OfCounters(parse_counters(bytes)?)),
-        2 => Ok(Row::OfNode(parse_node(alloc, bytes)?)),
-        3 => Ok(Row::OfEdge(parse_edge(bytes)?)),
-        4 => Ok(Row::OfList(parse_list(alloc, bytes)?)),
-        5 => Ok(Row::OfSlice(parse_slice(bytes)?)),
-        6 => Ok(Row::OfSession(parse_session(bytes)?)),
-        7 => {
+        TABLE_OF_SETTING => Ok(Row::OfSetting(parse_setting(alloc, bytes)?)),
+        TABLE_OF_COUNTERS => Ok(Row::OfCounters(parse_counters(bytes)?)),
+        TABLE_OF_NODES => Ok(Row::OfNode(parse_node(alloc, bytes)?)),
+        TABLE_OF_EDGES => Ok(Row::OfEdge(parse_edge(bytes)?)),
+        TABLE_OF_LISTS => Ok(Row::OfList(parse_list(alloc, bytes)?)),
+        TABLE_OF_SLICES => Ok(Row::OfSlice(parse_slice(bytes)?)),
+        TABLE_OF_SESSIONS => Ok(Row::OfSession(parse_session(bytes)?)),
+        TABLE_OF_SUSTAINED => {
             parse_sustained(bytes)?;
             Ok(Row::OfSustained)
         }
-        8 => Ok(Row::OfDropped(parse_dropped(bytes)?)),
-        9 => Ok(Row::OfDead(parse_dead(bytes)?)),
+        TABLE_OF_DROPPED => Ok(Row::OfDropped(parse_dropped(bytes)?)),
+        TABLE_OF_DEAD => Ok(Row::OfDead(parse_dead(bytes)?)),
         _ => Err(Misread::Malformed),
     }
 }
 
 /// The row that the bytes spell in the table of that number.
+///
+/// # Errors
+///
+/// [`Misread::Malformed`] where no row of the table has these bytes, or there is no such table, and [`Misread::Memory`]
+/// out of memory.
 pub fn parse_row(alloc: Global, tab: u8, bytes: &[u8]) -> Result<Row, Misread>
     ensures reads { ReadsAs result (row_of tab bytes.now) }
     ensures sound { IfOk result (IsSpelled (row_of tab) row_bytes is_row bytes.now) }
@@ -72,8 +81,13 @@ fn typed_rows(alloc: Global, rows: Rows) -> Result<RowList, RowFault>
     Ok(list)
 }
 
-/// The first `n` rows of a table after a key, or from the table's first on. The first of them that is
-/// malformed is Bad. Their keys are not judged, as [`crate::read_setting`] says.
+/// The first `n` rows of a table after a key, or from the table's first on. Their keys are not judged, as
+/// [`crate::read_setting`] says.
+///
+/// # Errors
+///
+/// [`RowFault::Bad`] with the key and the bytes of the first row that is malformed, [`RowFault::Failed`] if the keeper
+/// failed, and [`RowFault::Memory`] out of memory. The rows are the same in each case.
 pub fn scan_rows<K: Keeper>(
     alloc: Global,
     k: &mut K,

@@ -2,19 +2,18 @@
 ghost use Rattle.std.specs.Prelude.{◌≡◌, ◌++◌, OnOk, IfOk, IsTrue};
 ghost use Rattle.jv_model.specs.rows.RowGrammar.{is_setting, setting_bytes, counters_bytes, node_bytes, edge_bytes, record_bytes, list_bytes, slice_bytes, session_bytes, dropped_bytes, dead_bytes};
 
+use jv_model::tables::RECORD_LENGTH;
 use jv_model::{
     Bytes, Counters, Dead, Dropped, Edge, List, Node, Rec, Sequence, Session, Setting, SliceRow,
 };
 use std::alloc::{AllocError, Global};
 
-// How many bytes a row of a table has; a node's without its target's, and a list's for each record.
+// How many bytes a row of a table has; a node's without its target's.
 const COUNTERS_LEN: usize = 40;
 
 const NODE_LEN: usize = 47;
 
 const EDGE_LEN: usize = 9;
-
-pub(crate) const RECORD_LEN: usize = 24;
 
 const SLICE_LEN: usize = 12;
 
@@ -24,7 +23,7 @@ const DROPPED_LEN: usize = 8;
 
 const DEAD_LEN: usize = 12;
 
-/// The bytes of a setting.
+/// The bytes of a setting. The only error is out of memory, here and for the rows of each other table.
 #[tactic(auto, unfolding(jv_model::specs::rows::RowGrammar::setting_bytes))]
 pub fn spell_setting(alloc: Global, s: &Setting) -> Result<Bytes, AllocError>
     requires { IsTrue (is_setting s.now) }
@@ -106,7 +105,7 @@ pub(crate) fn put_record(out: &mut Vec<u8>, r: &Rec) -> Result<(), AllocError>
 pub fn spell_list(alloc: Global, list: &List) -> Result<Bytes, AllocError>
     ensures { IfOk result (λ bytes. bytes ≡ list_bytes list.now) }
 {
-    let mut out = Vec::with_capacity(alloc, list.len().saturating_mul(RECORD_LEN))?;
+    let mut out = Vec::with_capacity(alloc, list.len().saturating_mul(RECORD_LENGTH))?;
     for record in list.as_slice() {
         put_record(&mut out, record)?;
     }

@@ -109,7 +109,7 @@ fn comes_to(alloc: Global, keeper: &mut NeverKeeper, path: &str, follow: bool, i
 }
 
 #[test]
-fn a_walk_comes_to_an_inode(rt: HostRuntime) -> Result<(), Down> {
+fn a_walk_reaches_an_inode(rt: HostRuntime) -> Result<(), Down> {
     let mut keeper = small_tree(rt.alloc())?;
     for (path, follow, inode) in [
         ("", true, ROOT),

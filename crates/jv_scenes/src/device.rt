@@ -2,7 +2,7 @@
 
 /// A device of a world.
 #[derive(Clone, Copy, PartialEq)]
-pub enum Device {
+pub enum WorldDevice {
     Source,
     Out,
     Err,
@@ -14,43 +14,43 @@ pub enum Device {
 }
 
 /// All devices, in the order in which they are printed.
-pub const DEVICES: [Device; 8] = [
-    Device::Source,
-    Device::Out,
-    Device::Err,
-    Device::Clock,
-    Device::Keeper,
-    Device::Depot,
-    Device::Carrier,
-    Device::Shelf,
+pub const DEVICES: [WorldDevice; 8] = [
+    WorldDevice::Source,
+    WorldDevice::Out,
+    WorldDevice::Err,
+    WorldDevice::Clock,
+    WorldDevice::Keeper,
+    WorldDevice::Depot,
+    WorldDevice::Carrier,
+    WorldDevice::Shelf,
 ];
 
-impl Device {
+impl WorldDevice {
     /// The name, as standard error has it after a fault.
     pub fn name(self) -> &'static str {
         match self {
-            Device::Source => "source",
-            Device::Out => "out",
-            Device::Err => "err",
-            Device::Clock => "clock",
-            Device::Keeper => "keeper",
-            Device::Depot => "depot",
-            Device::Carrier => "carrier",
-            Device::Shelf => "shelf",
+            WorldDevice::Source => "source",
+            WorldDevice::Out => "out",
+            WorldDevice::Err => "err",
+            WorldDevice::Clock => "clock",
+            WorldDevice::Keeper => "keeper",
+            WorldDevice::Depot => "depot",
+            WorldDevice::Carrier => "carrier",
+            WorldDevice::Shelf => "shelf",
         }
     }
 
-    /// The device of a name.
-    pub fn named(name: &str) -> Option<Device> {
+    /// The device of a name, or `None` where no device has it.
+    pub fn named(name: &str) -> Option<WorldDevice> {
         match name {
-            "source" => Some(Device::Source),
-            "out" => Some(Device::Out),
-            "err" => Some(Device::Err),
-            "clock" => Some(Device::Clock),
-            "keeper" => Some(Device::Keeper),
-            "depot" => Some(Device::Depot),
-            "carrier" => Some(Device::Carrier),
-            "shelf" => Some(Device::Shelf),
+            "source" => Some(WorldDevice::Source),
+            "out" => Some(WorldDevice::Out),
+            "err" => Some(WorldDevice::Err),
+            "clock" => Some(WorldDevice::Clock),
+            "keeper" => Some(WorldDevice::Keeper),
+            "depot" => Some(WorldDevice::Depot),
+            "carrier" => Some(WorldDevice::Carrier),
+            "shelf" => Some(WorldDevice::Shelf),
             _ => None,
         }
     }
@@ -58,30 +58,33 @@ impl Device {
     /// Its place in the order in which devices are printed.
     pub fn place(self) -> usize {
         match self {
-            Device::Source => 0,
-            Device::Out => 1,
-            Device::Err => 2,
-            Device::Clock => 3,
-            Device::Keeper => 4,
-            Device::Depot => 5,
-            Device::Carrier => 6,
-            Device::Shelf => 7,
+            WorldDevice::Source => 0,
+            WorldDevice::Out => 1,
+            WorldDevice::Err => 2,
+            WorldDevice::Clock => 3,
+            WorldDevice::Keeper => 4,
+            WorldDevice::Depot => 5,
+            WorldDevice::Carrier => 6,
+            WorldDevice::Shelf => 7,
         }
     }
 
-    /// What a line says whose operation met this device when it failed, where an operation calls it.
+    /// What a line says whose operation met this device when it failed, or `None` where no operation calls it.
     pub fn failure(self) -> Option<&'static str> {
         match self {
-            Device::Keeper => Some("err EIO keeper"),
-            Device::Depot => Some("err EIO depot"),
-            Device::Carrier => Some("err EIO carrier"),
-            Device::Shelf => Some("err EIO shelf"),
-            Device::Source | Device::Out | Device::Err | Device::Clock => None,
+            WorldDevice::Keeper => Some("err EIO keeper"),
+            WorldDevice::Depot => Some("err EIO depot"),
+            WorldDevice::Carrier => Some("err EIO carrier"),
+            WorldDevice::Shelf => Some("err EIO shelf"),
+            WorldDevice::Source | WorldDevice::Out | WorldDevice::Err | WorldDevice::Clock => None,
         }
     }
 
     /// Whether it is one of the three for the blocks of files, of which a scene is printed only where it asks.
     pub fn is_for_blocks(self) -> bool {
-        matches!(self, Device::Depot | Device::Carrier | Device::Shelf)
+        matches!(
+            self,
+            WorldDevice::Depot | WorldDevice::Carrier | WorldDevice::Shelf
+        )
     }
 }

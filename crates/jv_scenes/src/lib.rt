@@ -5,6 +5,6 @@ mod device;
 mod reader;
 mod scene;
 
-pub use device::{DEVICES, Device};
-pub use reader::{BadLine, BadScenes, read_scenes};
-pub use scene::{Again, Further, Piece, Scene, Sweep, Variant, Words, bytes_of};
+pub use device::{DEVICES, WorldDevice};
+pub use reader::{BadSceneLine, BadScenes, read_scenes};
+pub use scene::{Fragment, Further, Repeat, Scene, SweepRun, Variant, Words, bytes_of};

@@ -1,13 +1,13 @@
 //! Reads scenes.
-use crate::device::Device;
-use crate::scene::{Again, Further, Piece, Scene, Sweep, Words};
+use crate::device::WorldDevice;
+use crate::scene::{Fragment, Further, Repeat, Scene, SweepRun, Words};
 use jv_model::{Bytes, ClientId, LAST_MOMENT, Moment, Name, RowKey, Sequence, copied};
 use jv_outside::{Object, Staged};
 use std::alloc::{AllocError, AllocFailed, Global};
 
 /// Why a line is no line of a scene.
 #[derive(Clone, Copy)]
-pub enum BadLine {
+pub enum BadSceneLine {
     NoScene,
     NoName,
     NoKey,
@@ -15,7 +15,7 @@ pub enum BadLine {
     NoEnd,
     NotNumber,
     PastLastMoment,
-    EmptyPiece,
+    EmptyFragment,
     NoDevice,
     NotDigits,
     NotCounted,
@@ -30,43 +30,43 @@ pub enum BadLine {
     OutOfMemory,
 }
 
-impl BadLine {
+impl BadSceneLine {
     /// The reason in words.
     pub fn text(self) -> &'static str {
         match self {
-            BadLine::NoScene => "no scene has begun",
-            BadLine::NoName => "the scene has no name",
-            BadLine::NoKey => "no such key word",
-            BadLine::NotAlone => "`script` and `list` stand alone on their lines",
-            BadLine::NoEnd => "no line `end` follows the script",
-            BadLine::NotNumber => "not a whole number of 64 bits",
-            BadLine::PastLastMoment => "past the last moment",
-            BadLine::EmptyPiece => "no piece has 0 bytes",
-            BadLine::NoDevice => "no such device",
-            BadLine::NotDigits => "not pairs of hexadecimal digits, or `-`",
-            BadLine::NotCounted => "the form is `KEY N TEXT`",
-            BadLine::NotFail => "the form is `fail DEVICE K ..`",
-            BadLine::NotRows => "the form is `rows fresh` or `rows none`",
-            BadLine::NotRow => "the form is `row TAB A B VALUE`",
-            BadLine::NotObject => "the form is `object NAME BYTES MOMENT`",
-            BadLine::NotStaged => "the form is `staged CLIENT NAME BYTES`",
-            BadLine::NoClient => "no such client",
-            BadLine::NotShow => "the form is `show rows` or `show blocks`",
-            BadLine::NotSweep => "the form is `for k FIRST..LAST DEVICE`",
-            BadLine::OutOfMemory => "out of memory",
+            BadSceneLine::NoScene => "no scene has begun",
+            BadSceneLine::NoName => "the scene has no name",
+            BadSceneLine::NoKey => "no such key word",
+            BadSceneLine::NotAlone => "`script` and `list` stand alone on their lines",
+            BadSceneLine::NoEnd => "no line `end` follows the script",
+            BadSceneLine::NotNumber => "not a whole number of 64 bits",
+            BadSceneLine::PastLastMoment => "past the last moment",
+            BadSceneLine::EmptyFragment => "no piece has 0 bytes",
+            BadSceneLine::NoDevice => "no such device",
+            BadSceneLine::NotDigits => "not pairs of hexadecimal digits, or `-`",
+            BadSceneLine::NotCounted => "the form is `KEY N TEXT`",
+            BadSceneLine::NotFail => "the form is `fail DEVICE K ..`",
+            BadSceneLine::NotRows => "the form is `rows fresh` or `rows none`",
+            BadSceneLine::NotRow => "the form is `row TAB A B VALUE`",
+            BadSceneLine::NotObject => "the form is `object NAME BYTES MOMENT`",
+            BadSceneLine::NotStaged => "the form is `staged CLIENT NAME BYTES`",
+            BadSceneLine::NoClient => "no such client",
+            BadSceneLine::NotShow => "the form is `show rows` or `show blocks`",
+            BadSceneLine::NotSweep => "the form is `for k FIRST..LAST DEVICE`",
+            BadSceneLine::OutOfMemory => "out of memory",
         }
     }
 }
 
-impl From<AllocError> for BadLine {
-    fn from(_error: AllocError) -> BadLine {
-        BadLine::OutOfMemory
+impl From<AllocError> for BadSceneLine {
+    fn from(_error: AllocError) -> BadSceneLine {
+        BadSceneLine::OutOfMemory
     }
 }
 
-impl<T: Drop> From<AllocFailed<T>> for BadLine {
-    fn from(_failed: AllocFailed<T>) -> BadLine {
-        BadLine::OutOfMemory
+impl<T: Drop> From<AllocFailed<T>> for BadSceneLine {
+    fn from(_failed: AllocFailed<T>) -> BadSceneLine {
+        BadSceneLine::OutOfMemory
     }
 }
 
@@ -75,7 +75,7 @@ impl<T: Drop> From<AllocFailed<T>> for BadLine {
 pub struct BadScenes {
     /// Its number, from 1.
     pub number: u64,
-    pub why: BadLine,
+    pub why: BadSceneLine,
 }
 
 /// Reads all scenes of a text.
@@ -93,7 +93,7 @@ pub fn read_scenes(alloc: Global, text: &str) -> Result<Vec<Scene>, BadScenes> {
 
 /// Of which run a script is.
 #[derive(Clone, Copy)]
-enum Part {
+enum ScriptKind {
     First,
     Further,
     List,
@@ -105,7 +105,7 @@ struct SceneReader {
     alloc: Global,
     scenes: Vec<Scene>,
     /// The script whose lines these are, where they are those of one.
-    part: Option<Part>,
+    kind: Option<ScriptKind>,
 }
 
 impl SceneReader {
@@ -113,14 +113,14 @@ impl SceneReader {
         SceneReader {
             alloc,
             scenes: Vec::new(alloc),
-            part: None,
+            kind: None,
         }
     }
 
     /// Reads the next line.
-    fn line(&mut self, line: &str) -> Result<(), BadLine> {
-        if let Some(part) = self.part {
-            return self.script_line(part, line);
+    fn line(&mut self, line: &str) -> Result<(), BadSceneLine> {
+        if let Some(kind) = self.kind {
+            return self.script_line(kind, line);
         }
         if line.is_empty() || line.starts_with("#") {
             return Ok(());
@@ -135,64 +135,68 @@ impl SceneReader {
     }
 
     /// The scenes, after the last line.
-    fn end(self) -> Result<Vec<Scene>, BadLine> {
-        let SceneReader { scenes, part, .. } = self;
-        if part.is_some() {
-            return Err(BadLine::NoEnd);
+    fn end(self) -> Result<Vec<Scene>, BadSceneLine> {
+        let SceneReader { scenes, kind, .. } = self;
+        if kind.is_some() {
+            return Err(BadSceneLine::NoEnd);
         }
         Ok(scenes)
     }
 
-    fn read_key(&mut self, key: &str, rest: &str) -> Result<(), BadLine> {
+    fn read_key(&mut self, key: &str, rest: &str) -> Result<(), BadSceneLine> {
         match self.scenes.last_mut() {
             Some(scene) => read_key(self.alloc, scene, key, rest),
-            None => Err(BadLine::NoScene),
+            None => Err(BadSceneLine::NoScene),
         }
     }
 
-    fn begin(&mut self, name: &str) -> Result<(), BadLine> {
+    fn begin(&mut self, name: &str) -> Result<(), BadSceneLine> {
         if name.is_empty() {
-            return Err(BadLine::NoName);
+            return Err(BadSceneLine::NoName);
         }
         let name = String::from_str(self.alloc, name)?;
         self.scenes.push(Scene::new(self.alloc, name))?;
         Ok(())
     }
 
-    fn begin_script(&mut self, rest: &str, is_list: bool) -> Result<(), BadLine> {
+    fn begin_script(&mut self, rest: &str, is_list: bool) -> Result<(), BadSceneLine> {
         if !rest.is_empty() {
-            return Err(BadLine::NotAlone);
+            return Err(BadSceneLine::NotAlone);
         }
         let Some(scene) = self.scenes.last() else {
-            return Err(BadLine::NoScene);
+            return Err(BadSceneLine::NoScene);
         };
-        self.part = Some(if is_list { Part::List } else { part_of(scene) });
+        self.kind = Some(if is_list {
+            ScriptKind::List
+        } else {
+            kind_of(scene)
+        });
         Ok(())
     }
 
-    fn script_line(&mut self, part: Part, line: &str) -> Result<(), BadLine> {
+    fn script_line(&mut self, kind: ScriptKind, line: &str) -> Result<(), BadSceneLine> {
         if line == "end" {
-            self.part = None;
+            self.kind = None;
             return Ok(());
         }
         match self.scenes.last_mut() {
-            Some(scene) => add_line(self.alloc, scene, part, line),
-            None => Err(BadLine::NoScene),
+            Some(scene) => add_line(self.alloc, scene, kind, line),
+            None => Err(BadSceneLine::NoScene),
         }
     }
 }
 
 /// Of which run a script is that begins now: of a further one where the scene has a script, and a run on what it left comes
 /// last.
-fn part_of(scene: &Scene) -> Part {
+fn kind_of(scene: &Scene) -> ScriptKind {
     match scene.further.last() {
-        Some(Further::Again(_)) if !scene.script.is_empty() => Part::Further,
-        _ => Part::First,
+        Some(Further::Repeat(_)) if !scene.script.is_empty() => ScriptKind::Further,
+        _ => ScriptKind::First,
     }
 }
 
 /// Reads a line by its key word.
-fn read_key(alloc: Global, scene: &mut Scene, key: &str, rest: &str) -> Result<(), BadLine> {
+fn read_key(alloc: Global, scene: &mut Scene, key: &str, rest: &str) -> Result<(), BadSceneLine> {
     match key {
         "words" | "word" | "long" => read_words(alloc, scene, key, rest),
         "lines" | "text" | "bytes" => read_piece(alloc, scene, key, rest),
@@ -204,12 +208,12 @@ fn read_key(alloc: Global, scene: &mut Scene, key: &str, rest: &str) -> Result<(
             scene.sweeps.push(sweep(rest)?)?;
             Ok(())
         }
-        _ => Err(BadLine::NoKey),
+        _ => Err(BadSceneLine::NoKey),
     }
 }
 
 /// Reads a line about the words of the first run.
-fn read_words(alloc: Global, scene: &mut Scene, key: &str, rest: &str) -> Result<(), BadLine> {
+fn read_words(alloc: Global, scene: &mut Scene, key: &str, rest: &str) -> Result<(), BadSceneLine> {
     match key {
         "words" => {
             scene.words = Some(words(alloc, rest)?);
@@ -221,7 +225,7 @@ fn read_words(alloc: Global, scene: &mut Scene, key: &str, rest: &str) -> Result
 }
 
 /// Reads a line about what the keeper, the depot or the shelf holds.
-fn read_store(alloc: Global, scene: &mut Scene, key: &str, rest: &str) -> Result<(), BadLine> {
+fn read_store(alloc: Global, scene: &mut Scene, key: &str, rest: &str) -> Result<(), BadSceneLine> {
     match key {
         "rows" => scene.is_fresh = is_fresh(rest)?,
         "row" => scene.rows.push(row(alloc, rest)?)?,
@@ -232,7 +236,7 @@ fn read_store(alloc: Global, scene: &mut Scene, key: &str, rest: &str) -> Result
 }
 
 /// Reads a line about how a device answers.
-fn read_device(scene: &mut Scene, key: &str, rest: &str) -> Result<(), BadLine> {
+fn read_device(scene: &mut Scene, key: &str, rest: &str) -> Result<(), BadSceneLine> {
     match key {
         "clock" => scene.clock = moment(rest)?,
         "fail" => add_fails(scene, rest)?,
@@ -241,29 +245,29 @@ fn read_device(scene: &mut Scene, key: &str, rest: &str) -> Result<(), BadLine> 
     Ok(())
 }
 
-/// Reads a line that is a piece of the script.
-fn read_piece(alloc: Global, scene: &mut Scene, key: &str, rest: &str) -> Result<(), BadLine> {
-    let piece = piece(alloc, key, rest)?;
-    scene.script.push(piece)?;
+/// Reads a line that is a fragment of the script.
+fn read_piece(alloc: Global, scene: &mut Scene, key: &str, rest: &str) -> Result<(), BadSceneLine> {
+    let fragment = fragment(alloc, key, rest)?;
+    scene.script.push(fragment)?;
     Ok(())
 }
 
-fn piece(alloc: Global, key: &str, rest: &str) -> Result<Piece, BadLine> {
+fn fragment(alloc: Global, key: &str, rest: &str) -> Result<Fragment, BadSceneLine> {
     if key == "bytes" {
-        return Ok(Piece::Bytes(bytes(alloc, rest)?));
+        return Ok(Fragment::Bytes(bytes(alloc, rest)?));
     }
     let (count, text) = counted(alloc, rest)?;
     Ok(if key == "lines" {
-        Piece::Lines(count, text)
+        Fragment::Lines(count, text)
     } else {
-        Piece::Text(count, text)
+        Fragment::Text(count, text)
     })
 }
 
 /// Reads a line about a further run.
-fn read_run(alloc: Global, scene: &mut Scene, key: &str, rest: &str) -> Result<(), BadLine> {
+fn read_run(alloc: Global, scene: &mut Scene, key: &str, rest: &str) -> Result<(), BadSceneLine> {
     let run = match key {
-        "again" => Further::Again(again(alloc, rest)?),
+        "again" => Further::Repeat(again(alloc, rest)?),
         "try" => Further::Try(words(alloc, rest)?),
         _ => Further::TryLine(String::from_str(alloc, rest)?),
     };
@@ -272,30 +276,35 @@ fn read_run(alloc: Global, scene: &mut Scene, key: &str, rest: &str) -> Result<(
 }
 
 /// Adds a line to one of the scene's scripts.
-fn add_line(alloc: Global, scene: &mut Scene, part: Part, line: &str) -> Result<(), BadLine> {
-    let piece = Piece::Lines(1, String::from_str(alloc, line)?);
-    match (part, scene.further.last_mut()) {
-        (Part::List, _) => scene.list.push(piece)?,
-        (Part::Further, Some(Further::Again(again))) => again.script.push(piece)?,
-        _ => scene.script.push(piece)?,
+fn add_line(
+    alloc: Global,
+    scene: &mut Scene,
+    kind: ScriptKind,
+    line: &str,
+) -> Result<(), BadSceneLine> {
+    let fragment = Fragment::Lines(1, String::from_str(alloc, line)?);
+    match (kind, scene.further.last_mut()) {
+        (ScriptKind::List, _) => scene.list.push(fragment)?,
+        (ScriptKind::Further, Some(Further::Repeat(again))) => again.script.push(fragment)?,
+        _ => scene.script.push(fragment)?,
     }
     Ok(())
 }
 
 /// A run on the world that the run before left: by the same words, or by these.
-fn again(alloc: Global, rest: &str) -> Result<Again, BadLine> {
+fn again(alloc: Global, rest: &str) -> Result<Repeat, BadSceneLine> {
     let words = match rest {
         "" => None,
         _ => Some(words(alloc, rest)?),
     };
-    Ok(Again {
+    Ok(Repeat {
         words,
         script: Vec::new(alloc),
     })
 }
 
 /// Words that one space parts, or none.
-fn words(alloc: Global, rest: &str) -> Result<Words, BadLine> {
+fn words(alloc: Global, rest: &str) -> Result<Words, BadSceneLine> {
     let mut all = Vec::new(alloc);
     if !rest.is_empty() {
         for word in rest.split(' ') {
@@ -306,7 +315,7 @@ fn words(alloc: Global, rest: &str) -> Result<Words, BadLine> {
 }
 
 /// Adds a word to those of the first run.
-fn add_word(alloc: Global, scene: &mut Scene, word: String) -> Result<(), BadLine> {
+fn add_word(alloc: Global, scene: &mut Scene, word: String) -> Result<(), BadSceneLine> {
     match &mut scene.words {
         Some(all) => all.push(word)?,
         None => {
@@ -319,21 +328,21 @@ fn add_word(alloc: Global, scene: &mut Scene, word: String) -> Result<(), BadLin
 }
 
 /// A count, and the text behind it.
-fn counted(alloc: Global, rest: &str) -> Result<(u32, String), BadLine> {
+fn counted(alloc: Global, rest: &str) -> Result<(u32, String), BadSceneLine> {
     let Some((count, text)) = rest.split_once(" ") else {
-        return Err(BadLine::NotCounted);
+        return Err(BadSceneLine::NotCounted);
     };
     let Ok(count) = count.parse::<u32>() else {
-        return Err(BadLine::NotCounted);
+        return Err(BadSceneLine::NotCounted);
     };
     Ok((count, String::from_str(alloc, text)?))
 }
 
 /// A word whose last letter stands as often as the count says.
-fn long_word(alloc: Global, rest: &str) -> Result<String, BadLine> {
+fn long_word(alloc: Global, rest: &str) -> Result<String, BadSceneLine> {
     let (count, mut word) = counted(alloc, rest)?;
     let Some(last) = word.pop() else {
-        return Err(BadLine::NotCounted);
+        return Err(BadSceneLine::NotCounted);
     };
     for _ in 0..count {
         word.push(last)?;
@@ -341,33 +350,33 @@ fn long_word(alloc: Global, rest: &str) -> Result<String, BadLine> {
     Ok(word)
 }
 
-fn number(text: &str) -> Result<u64, BadLine> {
-    text.parse::<u64>().map_err(|_| BadLine::NotNumber)
+fn number(text: &str) -> Result<u64, BadSceneLine> {
+    text.parse::<u64>().map_err(|_| BadSceneLine::NotNumber)
 }
 
-fn moment(rest: &str) -> Result<Moment, BadLine> {
+fn moment(rest: &str) -> Result<Moment, BadSceneLine> {
     let seconds = number(rest)?;
     if seconds > LAST_MOMENT {
-        return Err(BadLine::PastLastMoment);
+        return Err(BadSceneLine::PastLastMoment);
     }
     Ok(Moment(seconds))
 }
 
-fn most(rest: &str) -> Result<usize, BadLine> {
+fn most(rest: &str) -> Result<usize, BadSceneLine> {
     match number(rest)? {
-        0 => Err(BadLine::EmptyPiece),
+        0 => Err(BadSceneLine::EmptyFragment),
         count => Ok(count as usize),
     }
 }
 
-fn device(name: &str) -> Result<Device, BadLine> {
-    Device::named(name).ok_or(BadLine::NoDevice)
+fn device(name: &str) -> Result<WorldDevice, BadSceneLine> {
+    WorldDevice::named(name).ok_or(BadSceneLine::NoDevice)
 }
 
 /// Adds calls that fail: a device, and their numbers.
-fn add_fails(scene: &mut Scene, rest: &str) -> Result<(), BadLine> {
+fn add_fails(scene: &mut Scene, rest: &str) -> Result<(), BadSceneLine> {
     let Some((name, numbers)) = rest.split_once(" ") else {
-        return Err(BadLine::NotFail);
+        return Err(BadSceneLine::NotFail);
     };
     let device = device(name)?;
     for text in numbers.split(' ') {
@@ -376,28 +385,28 @@ fn add_fails(scene: &mut Scene, rest: &str) -> Result<(), BadLine> {
     Ok(())
 }
 
-fn is_fresh(rest: &str) -> Result<bool, BadLine> {
+fn is_fresh(rest: &str) -> Result<bool, BadSceneLine> {
     match rest {
         "fresh" => Ok(true),
         "none" => Ok(false),
-        _ => Err(BadLine::NotRows),
+        _ => Err(BadSceneLine::NotRows),
     }
 }
 
 /// Bytes in hexadecimal digits, or `-` for none.
-fn bytes(alloc: Global, text: &str) -> Result<Vec<u8>, BadLine> {
+fn bytes(alloc: Global, text: &str) -> Result<Vec<u8>, BadSceneLine> {
     if text == "-" {
         return Ok(Vec::new(alloc));
     }
     match hex::decode(alloc, text) {
         Ok(bytes) => Ok(bytes),
-        Err(hex::FromHexError::OutOfMemory) => Err(BadLine::OutOfMemory),
-        Err(_) => Err(BadLine::NotDigits),
+        Err(hex::FromHexError::OutOfMemory) => Err(BadSceneLine::OutOfMemory),
+        Err(_) => Err(BadSceneLine::NotDigits),
     }
 }
 
 /// Bytes in parts that one space parts, each in hexadecimal digits, or `-` for none.
-fn bytes_in_parts(alloc: Global, text: &str) -> Result<Vec<u8>, BadLine> {
+fn bytes_in_parts(alloc: Global, text: &str) -> Result<Vec<u8>, BadSceneLine> {
     let mut all = Vec::new(alloc);
     for part in text.split(' ') {
         all.extend_from_slice(bytes(alloc, part)?.as_slice())?;
@@ -406,8 +415,8 @@ fn bytes_in_parts(alloc: Global, text: &str) -> Result<Vec<u8>, BadLine> {
 }
 
 /// A row: its table, number, bytes and value.
-fn row(alloc: Global, rest: &str) -> Result<(RowKey, Bytes), BadLine> {
-    let wanted = BadLine::NotRow;
+fn row(alloc: Global, rest: &str) -> Result<(RowKey, Bytes), BadSceneLine> {
+    let wanted = BadSceneLine::NotRow;
     let (tab, rest) = rest.split_once(" ").ok_or(wanted)?;
     let (a, rest) = rest.split_once(" ").ok_or(wanted)?;
     let (b, value) = rest.split_once(" ").ok_or(wanted)?;
@@ -421,8 +430,8 @@ fn row(alloc: Global, rest: &str) -> Result<(RowKey, Bytes), BadLine> {
 }
 
 /// An object of the depot: its name, bytes and moment.
-fn object(alloc: Global, rest: &str) -> Result<Object, BadLine> {
-    let wanted = BadLine::NotObject;
+fn object(alloc: Global, rest: &str) -> Result<Object, BadSceneLine> {
+    let wanted = BadSceneLine::NotObject;
     let (name, rest) = rest.split_once(" ").ok_or(wanted)?;
     let (bytes, at) = rest.rsplit_once(" ").ok_or(wanted)?;
     Ok(Object {
@@ -433,8 +442,8 @@ fn object(alloc: Global, rest: &str) -> Result<Object, BadLine> {
 }
 
 /// A block that a client has staged: the client, the block's name and bytes.
-fn staged(alloc: Global, rest: &str) -> Result<Staged, BadLine> {
-    let wanted = BadLine::NotStaged;
+fn staged(alloc: Global, rest: &str) -> Result<Staged, BadSceneLine> {
+    let wanted = BadSceneLine::NotStaged;
     let (letter, rest) = rest.split_once(" ").ok_or(wanted)?;
     let (name, bytes) = rest.split_once(" ").ok_or(wanted)?;
     Ok(Staged {
@@ -445,7 +454,7 @@ fn staged(alloc: Global, rest: &str) -> Result<Staged, BadLine> {
 }
 
 /// The client of a letter.
-fn client(letter: &str) -> Result<ClientId, BadLine> {
+fn client(letter: &str) -> Result<ClientId, BadSceneLine> {
     match letter {
         "A" => Ok(ClientId(0)),
         "B" => Ok(ClientId(1)),
@@ -455,19 +464,19 @@ fn client(letter: &str) -> Result<ClientId, BadLine> {
         "F" => Ok(ClientId(5)),
         "G" => Ok(ClientId(6)),
         "H" => Ok(ClientId(7)),
-        _ => Err(BadLine::NoClient),
+        _ => Err(BadSceneLine::NoClient),
     }
 }
 
 /// A name of an object or a block, which is never empty.
-fn named(alloc: Global, text: &str, wanted: BadLine) -> Result<Name, BadLine> {
+fn named(alloc: Global, text: &str, wanted: BadSceneLine) -> Result<Name, BadSceneLine> {
     if text.is_empty() {
         return Err(wanted);
     }
     Ok(copied(alloc, text.as_bytes())?)
 }
 
-fn show(scene: &mut Scene, rest: &str) -> Result<(), BadLine> {
+fn show(scene: &mut Scene, rest: &str) -> Result<(), BadSceneLine> {
     match rest {
         "rows" => {
             scene.shows_rows = true;
@@ -477,13 +486,13 @@ fn show(scene: &mut Scene, rest: &str) -> Result<(), BadLine> {
             scene.shows_blocks = true;
             Ok(())
         }
-        _ => Err(BadLine::NotShow),
+        _ => Err(BadSceneLine::NotShow),
     }
 }
 
 /// Which calls fail one after the other, as `k 1..60 keeper`.
-fn sweep(rest: &str) -> Result<Sweep, BadLine> {
-    let wanted = BadLine::NotSweep;
+fn sweep(rest: &str) -> Result<SweepRun, BadSceneLine> {
+    let wanted = BadSceneLine::NotSweep;
     let range = rest.strip_prefix("k ").ok_or(wanted)?;
     let (range, name) = range.split_once(" ").ok_or(wanted)?;
     let (first, last) = range.split_once("..").ok_or(wanted)?;
@@ -491,7 +500,7 @@ fn sweep(rest: &str) -> Result<Sweep, BadLine> {
         "each" => None,
         _ => Some(device(name)?),
     };
-    Ok(Sweep {
+    Ok(SweepRun {
         first: number(first)?,
         last: number(last)?,
         device,

@@ -1,5 +1,5 @@
 //! Scenes as values.
-use crate::device::Device;
+use crate::device::WorldDevice;
 use jv_model::{Bytes, Moment, RowKey, Sequence, copied};
 use jv_outside::{Fails, Object, Staged};
 use std::alloc::{AllocError, Global};
@@ -7,9 +7,9 @@ use std::alloc::{AllocError, Global};
 /// A command's words.
 pub type Words = Vec<String>;
 
-/// A piece of a script.
+/// A fragment of a script.
 #[derive(Drop)]
-pub enum Piece {
+pub enum Fragment {
     /// A line, this many times.
     Lines(u32, String),
     /// A text without a line feed, this many times.
@@ -19,17 +19,17 @@ pub enum Piece {
 
 /// A run on the world that the run before left.
 #[derive(Drop)]
-pub struct Again {
+pub struct Repeat {
     /// Its words, where they are others than the scene's.
     pub words: Option<Words>,
     /// Its script; none where it goes on with what the run before left of its own.
-    pub script: Vec<Piece>,
+    pub script: Vec<Fragment>,
 }
 
 /// A further run.
 #[derive(Drop)]
 pub enum Further {
-    Again(Again),
+    Repeat(Repeat),
     /// By words on a world of its own. One line is printed of it.
     Try(Words),
     /// By the scene's words on a world of its own whose script ends with this line. One line is printed of it.
@@ -41,10 +41,10 @@ pub enum Further {
 pub enum Variant<'a> {
     Same,
     /// A further call of a device fails, counted from 1.
-    Fails(Device, u64),
+    Fails(WorldDevice, u64),
     /// The script has one more line.
     Line(&'a str),
-    /// The script lacks the piece of this number, from 0.
+    /// The script lacks the fragment of this number, from 0.
     Without(usize),
     /// The script is that which lists what is left, and no call fails.
     List,
@@ -52,18 +52,18 @@ pub enum Variant<'a> {
 
 /// Runs in each of which one more call fails.
 #[derive(Clone, Copy)]
-pub struct Sweep {
+pub struct SweepRun {
     /// The first call that fails, from 1.
     pub first: u64,
     /// The last call that fails.
     pub last: u64,
     /// The device whose calls fail, or each that the scene prints in turn.
-    pub device: Option<Device>,
+    pub device: Option<WorldDevice>,
 }
 
-impl Sweep {
+impl SweepRun {
     /// Whether calls of this device fail.
-    pub fn is_of(&self, scene: &Scene, device: Device) -> bool {
+    pub fn is_of(&self, scene: &Scene, device: WorldDevice) -> bool {
         match self.device {
             Some(only) => only == device,
             None => scene.shows(device),
@@ -79,7 +79,7 @@ pub struct Scene {
     pub words: Option<Words>,
     pub clock: Moment,
     /// Calls that fail, from 1.
-    pub fails: Vec<(Device, u64)>,
+    pub fails: Vec<(WorldDevice, u64)>,
     /// The most bytes that a source returns or a sink takes at a call, above 0.
     pub most: usize,
     /// Whether the rows of a fresh volume are there.
@@ -90,14 +90,14 @@ pub struct Scene {
     pub objects: Vec<Object>,
     /// The blocks that clients have staged on the shelf.
     pub staged: Vec<Staged>,
-    pub script: Vec<Piece>,
+    pub script: Vec<Fragment>,
     /// The script of a run that lists what is left; none where nothing is listed.
-    pub list: Vec<Piece>,
+    pub list: Vec<Fragment>,
     pub shows_rows: bool,
     /// Whether the devices for blocks are printed too.
     pub shows_blocks: bool,
     pub further: Vec<Further>,
-    pub sweeps: Vec<Sweep>,
+    pub sweeps: Vec<SweepRun>,
 }
 
 impl Scene {
@@ -130,7 +130,7 @@ impl Scene {
         }
     }
 
-    /// The bytes of the script.
+    /// The bytes of the script. The only error is out of memory.
     pub fn source(&self, alloc: Global, variant: Variant<'_>) -> Result<Bytes, AllocError> {
         match variant {
             Variant::List => bytes_of(alloc, self.list.as_slice()),
@@ -140,12 +140,12 @@ impl Scene {
         }
     }
 
-    /// The bytes of the script without the piece of this number, from 0.
+    /// The bytes of the script without the fragment of this number, from 0.
     fn source_without(&self, alloc: Global, left_out: usize) -> Result<Bytes, AllocError> {
         let mut bytes = Vec::new(alloc);
-        for (number, piece) in self.script.iter().enumerate() {
+        for (number, fragment) in self.script.iter().enumerate() {
             if number != left_out {
-                extend_by(&mut bytes, piece)?;
+                extend_by(&mut bytes, fragment)?;
             }
         }
         Ok(Sequence::from_vec(bytes))
@@ -159,20 +159,20 @@ impl Scene {
     }
 
     /// Whether what is seen of a device is printed.
-    pub fn shows(&self, device: Device) -> bool {
+    pub fn shows(&self, device: WorldDevice) -> bool {
         self.shows_blocks || !device.is_for_blocks()
     }
 
-    /// Whether each piece of the script is one operation that is run to its end: one line, which has one answer.
+    /// Whether each fragment of the script is one operation that is run to its end: one line, which has one answer.
     pub fn is_plain(&self) -> bool {
         self.script.iter().all(is_plain)
     }
 
-    /// The calls of a device that fail.
+    /// The calls of a device that fail. The only error is out of memory.
     pub fn fails_of(
         &self,
         alloc: Global,
-        device: Device,
+        device: WorldDevice,
         variant: Variant<'_>,
     ) -> Result<Fails, AllocError> {
         let mut numbers = Sequence::new(alloc);
@@ -192,21 +192,21 @@ impl Scene {
     }
 }
 
-/// The bytes of pieces.
-pub fn bytes_of(alloc: Global, pieces: &[Piece]) -> Result<Bytes, AllocError> {
+/// The bytes of fragments. The only error is out of memory.
+pub fn bytes_of(alloc: Global, fragments: &[Fragment]) -> Result<Bytes, AllocError> {
     let mut bytes = Vec::new(alloc);
-    for piece in pieces {
-        extend_by(&mut bytes, piece)?;
+    for fragment in fragments {
+        extend_by(&mut bytes, fragment)?;
     }
     Ok(Sequence::from_vec(bytes))
 }
 
-/// Adds the bytes of a piece.
-fn extend_by(bytes: &mut Vec<u8>, piece: &Piece) -> Result<(), AllocError> {
-    match piece {
-        Piece::Lines(count, text) => extend(bytes, *count, text.as_str(), b"\n"),
-        Piece::Text(count, text) => extend(bytes, *count, text.as_str(), b""),
-        Piece::Bytes(more) => bytes.extend_from_slice(more.as_slice()),
+/// Adds the bytes of a fragment.
+fn extend_by(bytes: &mut Vec<u8>, fragment: &Fragment) -> Result<(), AllocError> {
+    match fragment {
+        Fragment::Lines(count, text) => extend(bytes, *count, text.as_str(), b"\n"),
+        Fragment::Text(count, text) => extend(bytes, *count, text.as_str(), b""),
+        Fragment::Bytes(more) => bytes.extend_from_slice(more.as_slice()),
     }
 }
 
@@ -219,8 +219,8 @@ fn extend(bytes: &mut Vec<u8>, count: u32, text: &str, end: &[u8]) -> Result<(),
     Ok(())
 }
 
-fn is_plain(piece: &Piece) -> bool {
-    let Piece::Lines(1, line) = piece else {
+fn is_plain(fragment: &Fragment) -> bool {
+    let Fragment::Lines(1, line) = fragment else {
         return false;
     };
     match line.as_str().split_once(" ") {

@@ -10,8 +10,9 @@ use Rattle.std.proofs.lemmas.List.Splits.{slice_split_at, slice_split_none}
 use Rattle.std.proofs.lemmas.List.Sums.{AllPass-from_list_all}
 use Rattle.jv_model.specs.declared.limits.TheConstants.{MAX_DATA}
 use Rattle.jv_model.specs.script.Spelling.{is_decimal_digit, is_hex_digit, bytes_of_digits}
-use Rattle.jv_model.specs.script.Printed.{hex_digit, hex_pair, Run, with_byte, runs_of, Part, Plain, Repeated, with_short, parts_of, part_text, data_text}
-use Rattle.jv_model.specs.script.Grammar.{parted, is_pairs, repeated_of, part_of, part_bytes, all_parts_of, data_of}
+use Rattle.jv_model.specs.script.Printed.{hex_digit, hex_pair, Run, with_byte, runs_of, DataPart, Plain, Repeated, with_short, parts_of, part_text, data_text}
+use Rattle.jv_model.specs.script.Grammar.{is_pairs, repeated_of, part_of, part_bytes, all_parts_of, data_of}
+use Rattle.jv_model.specs.Lists.{parted}
 use Rattle.jv_script.specs.Reading.{bytes_after}
 use Rattle.jv_script.specs.RoundTrips.{IsByte, DataIsReadAgain}
 use Rattle.jv_script.proofs.PrintedDigitLaws.{high_is_hex, low_is_hex, pair_value, decimal_digits, decimal_read}
@@ -35,11 +36,11 @@ digits_read (c ∷ bytes) all =
 
 -- parts as they are printed
 
-unfoldable IsSoundPart : Part → Type 0
+unfoldable IsSoundPart : DataPart → Type 0
 IsSoundPart (Plain bytes) = All IsByte bytes × (0 < length bytes)
 IsSoundPart (Repeated run) = IsByte run.byte × (0 < run.count) × (run.count < 2 ^ 64)
 
-unfoldable AreSoundParts : List Part → Type 0
+unfoldable AreSoundParts : List DataPart → Type 0
 AreSoundParts [] = Unit {0}
 AreSoundParts (part ∷ parts) = IsSoundPart part × AreSoundParts parts
 
@@ -51,7 +52,7 @@ no_pairs high low digits = by_digits (is_hex_digit high) (is_hex_digit low)
     by_digits true false = and-false (nat_lt 0 (length (high ∷ low ∷ 120 ∷ digits)) && (length (high ∷ low ∷ 120 ∷ digits) % 2 == 0))
     by_digits false v = and-false (nat_lt 0 (length (high ∷ low ∷ 120 ∷ digits)) && (length (high ∷ low ∷ 120 ∷ digits) % 2 == 0))
 
-part_read : (part : Part) → IsSoundPart part → part_of (part_text part) ≡ Some part
+part_read : (part : DataPart) → IsSoundPart part → part_of (part_text part) ≡ Some part
 unfolding IsSoundPart repeated_of
 part_read (Plain bytes) (all, some) =
     let size = pairs_len bytes in
@@ -64,7 +65,7 @@ part_read (Repeated run) (byte, some, small) =
 
 -- no part has a `+` in it
 
-weaker : (p q : ℕ → Bool) (xs : List ℕ) → ((c : ℕ) → p c ≡ true → q c ≡ true) → list_all p xs ≡ true → list_all q xs ≡ true
+pub weaker : (p q : ℕ → Bool) (xs : List ℕ) → ((c : ℕ) → p c ≡ true → q c ≡ true) → list_all p xs ≡ true → list_all q xs ≡ true
 weaker p q [] imply all = refl
 weaker p q (x ∷ xs) imply all =
     let (first, others) = and_parts (p x) (list_all p xs) all in
@@ -79,7 +80,7 @@ hex_no_plus c hex = ap not (false_from_ne_true (c == 43) (λ plus. false≢true 
 decimal_no_plus : (c : ℕ) → is_decimal_digit c ≡ true → is_no_plus c ≡ true
 decimal_no_plus c digit = ap not (false_from_ne_true (c == 43) (λ plus. false≢true (ap is_decimal_digit (sym (eqb-true c 43 plus)) ∙ digit)))
 
-part_no_plus : (part : Part) → IsSoundPart part → list_all is_no_plus (part_text part) ≡ true
+part_no_plus : (part : DataPart) → IsSoundPart part → list_all is_no_plus (part_text part) ≡ true
 unfolding IsSoundPart
 part_no_plus (Plain bytes) (all, some) = weaker is_hex_digit is_no_plus (flat_map hex_pair bytes) hex_no_plus (digits_are_hex bytes all)
 part_no_plus (Repeated run) (byte, some, small) =
@@ -94,7 +95,7 @@ nowhere_plus text all k d below = by_test (get_or text k d == 43) (AllPass-from_
     by_test false e = refl
 
 -- joined parts are read one by one
-parts_read : (part : Part) (parts : List Part) → AreSoundParts (part ∷ parts) → all_parts_of (parted 43 (join_with_byte 43 (map part_text (part ∷ parts)))) ≡ Some (part ∷ parts)
+parts_read : (part : DataPart) (parts : List DataPart) → AreSoundParts (part ∷ parts) → all_parts_of (parted 43 (join_with_byte 43 (map part_text (part ∷ parts)))) ≡ Some (part ∷ parts)
 unfolding AreSoundParts
 parts_read part [] (sound, none) =
     ap all_parts_of (slice_split_none (λ c. c == 43) (part_text part) (nowhere_plus (part_text part) (part_no_plus part sound))) ∙ rw (part_read part sound) refl
@@ -122,7 +123,7 @@ runs_of-bytes : (bytes : List ℕ) → run_bytes (runs_of bytes) ≡ bytes
 runs_of-bytes [] = refl
 runs_of-bytes (byte ∷ bytes) = with_byte-bytes byte (runs_of bytes) ∙ ap (λ (bytes : List ℕ). byte ∷ bytes) (runs_of-bytes bytes)
 
-with_short-bytes : (bytes : List ℕ) (parts : List Part) → flat_map part_bytes (with_short bytes parts) ≡ bytes ++ flat_map part_bytes parts
+with_short-bytes : (bytes : List ℕ) (parts : List DataPart) → flat_map part_bytes (with_short bytes parts) ≡ bytes ++ flat_map part_bytes parts
 with_short-bytes bytes [] = refl
 with_short-bytes bytes (Plain more ∷ parts) = append_assoc bytes more (flat_map part_bytes parts)
 with_short-bytes bytes (Repeated run ∷ parts) = refl
@@ -170,7 +171,7 @@ all_appended [] ys all others k d below = others k d below
 all_appended (x ∷ xs) ys all others zero d below = all 0 d (omega arith)
 all_appended (x ∷ xs) ys all others (suc k) d below = all_appended xs ys (rest_bytes x xs all) others k d (omega arith)
 
-with_short-sound : (bytes : List ℕ) (parts : List Part) → All IsByte bytes → 0 < length bytes → AreSoundParts parts → AreSoundParts (with_short bytes parts)
+with_short-sound : (bytes : List ℕ) (parts : List DataPart) → All IsByte bytes → 0 < length bytes → AreSoundParts parts → AreSoundParts (with_short bytes parts)
 unfolding AreSoundParts IsSoundPart
 with_short-sound bytes [] all some sound = ((all, some), tt)
 with_short-sound bytes (Plain more ∷ parts) all some ((more_all, more_some), others) = ((all_appended bytes more all more_all, omega (arith, length-append bytes more)), others)
@@ -192,12 +193,12 @@ not_dash [] long = absurd (omega arith)
 not_dash (a ∷ []) long = absurd (omega arith)
 not_dash (a ∷ b ∷ text) long = and-false (a == 45)
 
-part_long : (part : Part) → IsSoundPart part → 2 ≤ length (part_text part)
+part_long : (part : DataPart) → IsSoundPart part → 2 ≤ length (part_text part)
 unfolding IsSoundPart
 part_long (Plain bytes) (all, some) = omega (arith, pairs_len bytes)
 part_long (Repeated run) sound = omega arith
 
-joined_read : (parts : List Part) (bytes : List ℕ) → AreSoundParts parts → flat_map part_bytes parts ≡ bytes → 0 < length bytes → length bytes ≤ MAX_DATA → data_of (join_with_byte 43 (map part_text parts)) ≡ Some bytes
+joined_read : (parts : List DataPart) (bytes : List ℕ) → AreSoundParts parts → flat_map part_bytes parts ≡ bytes → 0 < length bytes → length bytes ≤ MAX_DATA → data_of (join_with_byte 43 (map part_text parts)) ≡ Some bytes
 unfolding AreSoundParts bytes_after
 joined_read [] bytes sound same some few = absurd (omega (arith, ap length same))
 joined_read (part ∷ parts) bytes (sound, others) same some few =

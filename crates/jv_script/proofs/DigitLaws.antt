@@ -4,6 +4,7 @@ use Rattle.std.proofs.lemmas.List.{take-append-drop}
 use Rattle.std.proofs.lemmas.Bool.{le-leb, lt-leb}
 use Rattle.std.proofs.lemmas.List.Sums.{fold_more}
 use Rattle.std.proofs.lemmas.Grind.{fold-append}
+use Rattle.jv_model.specs.declared.options.TheConstants.{MAX_NUMBER}
 use Rattle.jv_model.specs.script.Spelling.{value_of, is_numeral, number_of, hex_value, bytes_of_digits}
 
 -- the byte of the digits at twice a place
@@ -45,9 +46,9 @@ value_of_more digits i below = fold_more (λ n digit. n * 10 + (digit - 48)) 0 d
 
 pub number_in : (digits : List ℕ) → is_numeral digits ≡ true → value_of 10 digits < 2 ^ 64 → number_of digits ≡ Some (value_of 10 digits)
 unfolding number_of
-number_in digits all small = rw (all, le-leb (value_of 10 digits) 18446744073709551615 (omega arith)) refl
+number_in digits all small = rw (all, le-leb (value_of 10 digits) MAX_NUMBER (omega arith)) refl
 
--- a front that passes the greatest number already
+-- a prefix that passes the greatest number already
 pub number_over : (digits : List ℕ) (i : ℕ) → is_numeral digits ≡ true → 2 ^ 64 ≤ value_of 10 (take i digits) → number_of digits ≡ None
 unfolding number_of
-number_over digits i all large = rw (all, lt-leb (value_of 10 digits) 18446744073709551615 (omega (arith, value_of-take-le digits i))) refl
+number_over digits i all large = rw (all, lt-leb (value_of 10 digits) MAX_NUMBER (omega (arith, value_of-take-le digits i))) refl

@@ -3,7 +3,10 @@ use Rattle.std.proofs.Common.{◌≡◌, ◌≢◌, ◌⊎◌, inl, inr, ◌==�
 use Rattle.std.specs.List.{list_all, flat_map}
 use Rattle.std.proofs.lemmas.Bool.{eq-eqb, ne_eqb, lt-ltb, cases_eq}
 use Rattle.jv_model.specs.script.Spelling.{◌>>=◌}
-use Rattle.jv_model.specs.script.Grammar.{parted, provided, is_plain, is_escape, escape_bytes, bytes_between, begins_with_slash, unescaped, path_of, target_of}
+use Rattle.jv_model.specs.script.Grammar.{is_plain, is_escape, escape_bytes, bytes_between, unescaped, path_of, target_of}
+use Rattle.jv_model.specs.Lists.{parted}
+use Rattle.jv_model.specs.tree.Walk.{is_absolute}
+use Rattle.jv_model.specs.Optional.{provided}
 use Rattle.jv_script.specs.Reading.{first_of}
 
 pub unescaped_parts : (text plain : List ℕ) (escapes : List (List ℕ)) → parted 37 text ≡ plain ∷ escapes → unescaped text ≡ provided (list_all is_plain plain && list_all is_escape escapes) (plain ++ flat_map escape_bytes escapes)
@@ -24,7 +27,7 @@ sound_parts text plain escapes e some =
 
 -- paths by their first byte
 slashed : Option (List ℕ) → Option (List ℕ)
-slashed spelled = spelled >>= (λ path. provided (begins_with_slash path) path)
+slashed spelled = spelled >>= (λ path. provided (is_absolute path) path)
 
 path_of-slashed : (text : List ℕ) → path_of text ≡ slashed (unescaped text)
 unfolding path_of slashed

@@ -7,9 +7,11 @@ use Rattle.std.proofs.Math.Bool.{and-false}
 use Rattle.std.proofs.lemmas.List.Sums.{sum_by-cons}
 use Rattle.std.proofs.lemmas.List.Folds.{list_all_at}
 use Rattle.jv_model.specs.declared.limits.TheConstants.{MAX_DATA}
-use Rattle.jv_model.specs.script.Spelling.{is_hex_digit, number_of, ◌>>=◌, at_most, bytes_of_digits}
-use Rattle.jv_model.specs.script.Printed.{Part, Plain, Repeated}
-use Rattle.jv_model.specs.script.Grammar.{provided, byte_of, parted, is_pairs, repeated_of, part_of, part_length, part_bytes, all_parts_of, bytes_of_parts, data_of}
+use Rattle.jv_model.specs.script.Spelling.{is_hex_digit, number_of, ◌>>=◌, at_most, bytes_of_digits, byte_of}
+use Rattle.jv_model.specs.script.Printed.{DataPart, Plain, Repeated}
+use Rattle.jv_model.specs.script.Grammar.{is_pairs, repeated_of, part_of, part_length, part_bytes, all_parts_of, bytes_of_parts, data_of}
+use Rattle.jv_model.specs.Lists.{parted}
+use Rattle.jv_model.specs.Optional.{provided}
 use Rattle.jv_script.proofs.CutLaws.{parted_none}
 use Rattle.jv_script.specs.Reading.{has_x, pairs_of, limited_bytes, bytes_after, Appends, Leaves, IsFirstPart}
 
@@ -21,7 +23,7 @@ length_with before texts = do
   parts ← all_parts_of texts
   at_most MAX_DATA (before + sum_by part_length parts)
 
-limited : ℕ → Option (List Part) → Option ℕ
+limited : ℕ → Option (List DataPart) → Option ℕ
 limited before parts = parts >>= (λ all. at_most MAX_DATA (before + sum_by part_length all))
 
 length_with-limited : (before : ℕ) (texts : List (List ℕ)) → length_with before texts ≡ limited before (all_parts_of texts)
@@ -38,12 +40,12 @@ pub length_with_off : (before : ℕ) (text : List ℕ) (texts : List (List ℕ))
 unfolding length_with
 length_with_off before text texts off = by_part (part_of text) off
   where
-    by_part : (o : Option Part) → option_map part_length o ≡ None → ((o >>= (λ part. all_parts_of texts >>= (λ parts. Some (part ∷ parts)))) >>= (λ all. at_most MAX_DATA (before + sum_by part_length all))) ≡ None
+    by_part : (o : Option DataPart) → option_map part_length o ≡ None → ((o >>= (λ part. all_parts_of texts >>= (λ parts. Some (part ∷ parts)))) >>= (λ all. at_most MAX_DATA (before + sum_by part_length all))) ≡ None
     by_part None off = refl
     by_part (Some part) off = cc
 
 -- one part more
-more_parts : (before n : ℕ) (part : Part) (o : Option (List Part)) → part_length part ≡ n → limited before (o >>= (λ parts. Some (part ∷ parts))) ≡ limited (before + n) o
+more_parts : (before n : ℕ) (part : DataPart) (o : Option (List DataPart)) → part_length part ≡ n → limited before (o >>= (λ parts. Some (part ∷ parts))) ≡ limited (before + n) o
 unfolding limited
 more_parts before n part None e = refl
 more_parts before n part (Some parts) e =
@@ -53,11 +55,11 @@ more_parts before n part (Some parts) e =
 pub length_with_more : (before n : ℕ) (text : List ℕ) (texts : List (List ℕ)) → option_map part_length (part_of text) ≡ Some n → length_with before (text ∷ texts) ≡ length_with (before + n) texts
 length_with_more before n text texts e = length_with-limited before (text ∷ texts) ∙ by_part (part_of text) e ∙ sym (length_with-limited (before + n) texts)
   where
-    by_part : (o : Option Part) → option_map part_length o ≡ Some n → limited before (o >>= (λ part. all_parts_of texts >>= (λ parts. Some (part ∷ parts)))) ≡ limited (before + n) (all_parts_of texts)
+    by_part : (o : Option DataPart) → option_map part_length o ≡ Some n → limited before (o >>= (λ part. all_parts_of texts >>= (λ parts. Some (part ∷ parts)))) ≡ limited (before + n) (all_parts_of texts)
     by_part None e = cc
     by_part (Some part) e = let same : part_length part ≡ n = cc in more_parts before n part (all_parts_of texts) same
 
-over : (before : ℕ) (o : Option (List Part)) → MAX_DATA < before → limited before o ≡ None
+over : (before : ℕ) (o : Option (List DataPart)) → MAX_DATA < before → limited before o ≡ None
 unfolding limited
 over before None large = refl
 over before (Some parts) large = rw (lt-leb (before + sum_by part_length parts) MAX_DATA (omega arith)) refl
@@ -177,16 +179,16 @@ pub pairs_end : (before after digits rest : List ℕ) → 0 < length digits → 
 pairs_end before after digits [] some short whole paired =
     let pairs : is_pairs digits ≡ true = is_pairs-all_paired digits ∙ rw (paired, lt-ltb 0 (length digits) some) refl in
     rw pairs (ap (λ (bytes : List ℕ). Some bytes) (whole ∙ append-nil after))
-pairs_end before after digits (x ∷ []) some short whole paired = subst (λ (o : Option Part). IfSome o (λ p. MAX_DATA < length before + part_length p)) (sym (no_pairs digits (x ∷ []) paired refl)) tt
+pairs_end before after digits (x ∷ []) some short whole paired = subst (λ (o : Option DataPart). IfSome o (λ p. MAX_DATA < length before + part_length p)) (sym (no_pairs digits (x ∷ []) paired refl)) tt
 pairs_end before after digits (x ∷ y ∷ rest) some short whole paired = absurd (omega arith)
 
 -- bytes
 
-length-part_bytes : (part : Part) → length (part_bytes part) ≡ part_length part
+length-part_bytes : (part : DataPart) → length (part_bytes part) ≡ part_length part
 length-part_bytes (Plain bytes) = refl
 length-part_bytes (Repeated run) = length-replicate run.count run.byte
 
-length-flat_map_bytes : (parts : List Part) → length (flat_map part_bytes parts) ≡ sum_by part_length parts
+length-flat_map_bytes : (parts : List DataPart) → length (flat_map part_bytes parts) ≡ sum_by part_length parts
 length-flat_map_bytes [] = refl
 length-flat_map_bytes (part ∷ parts) =
     length-append (part_bytes part) (flat_map part_bytes parts)
@@ -202,7 +204,7 @@ bytes_of_parts-after texts = by_parts (all_parts_of texts)
     by_limit true n bytes = refl
     by_limit false n bytes = refl
 
-    by_parts : (o : Option (List Part)) → (o >>= (λ parts. at_most MAX_DATA (sum_by part_length parts) >>= (λ _. Some (flat_map part_bytes parts)))) ≡ (o >>= (λ parts. limited_bytes ([] ++ flat_map part_bytes parts)))
+    by_parts : (o : Option (List DataPart)) → (o >>= (λ parts. at_most MAX_DATA (sum_by part_length parts) >>= (λ _. Some (flat_map part_bytes parts)))) ≡ (o >>= (λ parts. limited_bytes ([] ++ flat_map part_bytes parts)))
     by_parts None = refl
     by_parts (Some parts) = rw (length-flat_map_bytes parts) (by_limit (nat_le (sum_by part_length parts) MAX_DATA) (sum_by part_length parts) (flat_map part_bytes parts))
 
@@ -215,7 +217,7 @@ pub bytes_after-more : (before after text : List ℕ) (texts : List (List ℕ)) 
 unfolding bytes_after
 bytes_after-more before after text texts e = by_part (part_of text) (all_parts_of texts) e
   where
-    by_part : (o : Option Part) (all : Option (List Part)) → option_map (λ p. before ++ part_bytes p) o ≡ Some after
+    by_part : (o : Option DataPart) (all : Option (List DataPart)) → option_map (λ p. before ++ part_bytes p) o ≡ Some after
         → ((o >>= (λ part. all >>= (λ parts. Some (part ∷ parts)))) >>= (λ parts. limited_bytes (before ++ flat_map part_bytes parts))) ≡ (all >>= (λ parts. limited_bytes (after ++ flat_map part_bytes parts)))
     by_part None all e = cc
     by_part (Some part) None e = refl
@@ -227,7 +229,7 @@ pub bytes_after-off : (before after text : List ℕ) (texts : List (List ℕ)) �
 unfolding bytes_after
 bytes_after-off before after text texts large = by_part (part_of text) (all_parts_of texts) large
   where
-    by_part : (o : Option Part) (all : Option (List Part)) → IfSome o (λ p. MAX_DATA < length before + part_length p)
+    by_part : (o : Option DataPart) (all : Option (List DataPart)) → IfSome o (λ p. MAX_DATA < length before + part_length p)
         → ((o >>= (λ part. all >>= (λ parts. Some (part ∷ parts)))) >>= (λ parts. limited_bytes (before ++ flat_map part_bytes parts))) ≡ None
     by_part None all large = refl
     by_part (Some part) None large = refl
@@ -248,7 +250,7 @@ are_parts_by_length texts = by_parts (all_parts_of texts)
     by_limit true n bytes = refl
     by_limit false n bytes = refl
 
-    by_parts : (o : Option (List Part)) → is_some (o >>= (λ parts. at_most MAX_DATA (0 + sum_by part_length parts)))
+    by_parts : (o : Option (List DataPart)) → is_some (o >>= (λ parts. at_most MAX_DATA (0 + sum_by part_length parts)))
         ≡ is_some (o >>= (λ parts. at_most MAX_DATA (sum_by part_length parts) >>= (λ _. Some (flat_map part_bytes parts))))
     by_parts None = refl
     by_parts (Some parts) =
@@ -262,7 +264,7 @@ pub all_parts : (texts : List (List ℕ)) (n : ℕ) → length_with 0 texts ≡ 
 all_parts texts n some = sym (sym (are_parts_by_length texts) ∙ ap is_some some)
 
 -- a short part more
-onto : (before bytes : List ℕ) (part : Option Part) → option_map part_bytes part ≡ Some bytes → Appends true before part (before ++ bytes)
+onto : (before bytes : List ℕ) (part : Option DataPart) → option_map part_bytes part ≡ Some bytes → Appends true before part (before ++ bytes)
 onto before bytes None e = cc
 onto before bytes (Some part) e = let same : part_bytes part ≡ bytes = cc in ap (λ (bytes : List ℕ). Some (before ++ bytes)) same
 

@@ -4,7 +4,7 @@ use Rattle.std.specs.List.{flat_map, join_with_byte}
 use Rattle.std.proofs.lemmas.Bool.{eq-eqb, eqb-true, ne_eqb, le-leb, lt-leb, cases_lt, false≢true, false_from_ne_true}
 use Rattle.std.proofs.lemmas.List.{append-nil, append_assoc, take-append-drop, length-take, length-take-le, length-drop, length-replicate, get_or-take, get_or-drop, get_or-replicate, drop-drop}
 use Rattle.std.proofs.lemmas.Grind.{same_number_lists}
-use Rattle.jv_model.specs.script.Printed.{Run, with_byte, runs_of, Part, Plain, Repeated, with_short, parts_of, part_text, data_text}
+use Rattle.jv_model.specs.script.Printed.{Run, with_byte, runs_of, DataPart, Plain, Repeated, with_short, parts_of, part_text, data_text}
 use Rattle.jv_script.specs.Printing.{IsFirstRepeat, IsFrontCount, begins_long, HasNoLongBefore}
 
 -- one more byte in front makes a run of that byte the first
@@ -139,7 +139,7 @@ three_equal b (c ∷ d ∷ e ∷ ys) each =
     let fourth : e ≡ b = (each 2 (omega arith)).1 in
     rw (second, third, fourth, eq-eqb b b refl) refl
 
-with_short-append : (xs ys : List ℕ) (parts : List Part) → with_short xs (with_short ys parts) ≡ with_short (xs ++ ys) parts
+with_short-append : (xs ys : List ℕ) (parts : List DataPart) → with_short xs (with_short ys parts) ≡ with_short (xs ++ ys) parts
 with_short-append xs ys [] = refl
 with_short-append xs ys (Plain more ∷ parts) = ap (λ (bytes : List ℕ). Plain bytes ∷ parts) (sym (append_assoc xs ys more))
 with_short-append xs ys (Repeated run ∷ parts) = refl
@@ -190,10 +190,10 @@ text_of [] some = absurd (omega arith)
 text_of (byte ∷ bytes) some = refl
 
 -- the parts after the first, each with the `+` before it
-abbrev pub more_text : List Part → List ℕ
+abbrev pub more_text : List DataPart → List ℕ
 more_text parts = flat_map (λ part. 43 ∷ part_text part) parts
 
-pub joined-cons : (part : Part) (parts : List Part) → join_with_byte 43 (map part_text (part ∷ parts)) ≡ part_text part ++ more_text parts
+pub joined-cons : (part : DataPart) (parts : List DataPart) → join_with_byte 43 (map part_text (part ∷ parts)) ≡ part_text part ++ more_text parts
 joined-cons part [] = sym (append-nil (part_text part))
 joined-cons part (next ∷ parts) = ap (λ (text : List ℕ). part_text part ++ 43 ∷ text) (joined-cons next parts)
 
@@ -215,7 +215,7 @@ begins_long_from bytes k within =
     let first : get_or (drop k bytes) 0 0 ≡ get_or bytes k 0 = get_or-drop k bytes 0 0 ∙ rw add-zero refl in
     begins_long_at (drop k bytes) (omega (arith, length-drop k bytes)) ∙ rw (first, get_or-drop k bytes 1 0, get_or-drop k bytes 2 0, get_or-drop k bytes 3 0) refl
 
--- bytes that begin no run in a front that is longer by three
+-- bytes that begin no run in a prefix that is longer by three
 pub no_long_in_front : (bytes : List ℕ) (n : ℕ) → n + 3 ≤ length bytes → HasNoLongBefore n (take (n + 3) bytes) → HasNoLongBefore n bytes
 no_long_in_front bytes n within none k below =
     let front = take (n + 3) bytes in

@@ -7,9 +7,12 @@ use Rattle.std.proofs.lemmas.Bool.Decides.{nat_tests}
 use Rattle.std.proofs.lemmas.List.{append_assoc, append-nil}
 use Rattle.std.proofs.lemmas.List.Splits.{slice_split-cons_no, slice_split-cons_yes, length-slice_split}
 use Rattle.jv_model.specs.blocks.BlockNames.{upper_digit}
-use Rattle.jv_model.specs.script.Spelling.{is_hex_digit, hex_value}
+use Rattle.jv_model.specs.script.Spelling.{is_hex_digit, hex_value, byte_of}
 use Rattle.jv_model.specs.script.ReplyText.{is_kept_in_name, is_kept_in_path, escaped_byte, name_text, path_text}
-use Rattle.jv_model.specs.script.Grammar.{provided, byte_of, parted, is_plain, is_escape, escape_bytes, bytes_between, unescaped, begins_with_slash, path_of, target_of}
+use Rattle.jv_model.specs.script.Grammar.{is_plain, is_escape, escape_bytes, bytes_between, unescaped, path_of, target_of}
+use Rattle.jv_model.specs.Lists.{parted}
+use Rattle.jv_model.specs.tree.Walk.{is_absolute}
+use Rattle.jv_model.specs.Optional.{provided}
 use Rattle.jv_script.specs.RoundTrips.{IsNameByte, PathsAreReadAgain, TargetsAreReadAgain, NamesAreReadAgain}
 
 -- the numbers from one on
@@ -139,7 +142,7 @@ entry_spelled directory name bytes name_bytes =
     escaped_spelled is_kept_in_path directory (47 ∷ name_text name) path_kept bytes
     ∙ ap (with_front directory) (plain_in_front 47 (name_text name) refl refl ∙ ap (option_map (λ bytes. 47 ∷ bytes)) (name_spelled name name_bytes))
 
-path_from_spelled : (text path : List ℕ) → unescaped text ≡ Some path → begins_with_slash path ≡ true → path_of text ≡ Some path
+path_from_spelled : (text path : List ℕ) → unescaped text ≡ Some path → is_absolute path ≡ true → path_of text ≡ Some path
 unfolding path_of
 path_from_spelled text path spelled slash = rw spelled (rw slash refl)
 

@@ -4,9 +4,11 @@ use Rattle.std.proofs.lemmas.Bool.{eq-eqb, eqb-true, le-leb, lt-ltb, false≢tru
 use Rattle.std.proofs.lemmas.List.{take_rest}
 use Rattle.std.proofs.lemmas.List.Splits.{slice_split_at}
 use mir.Val.{bool_byte}
-use Rattle.jv_model.specs.script.Spelling.{is_hex_digit, is_numeral, number_of, value_of}
+use Rattle.jv_model.specs.script.Spelling.{is_hex_digit, is_numeral, number_of, value_of, byte_of}
 use Rattle.jv_model.specs.script.Printed.{Repeated}
-use Rattle.jv_model.specs.script.Grammar.{provided, byte_of, parted, is_pairs, repeated_of, part_of, part_bytes}
+use Rattle.jv_model.specs.script.Grammar.{is_pairs, repeated_of, part_of, part_bytes}
+use Rattle.jv_model.specs.Lists.{parted}
+use Rattle.jv_model.specs.Optional.{provided}
 use Rattle.jv_script.specs.Reading.{IsFirstPart, IsShortestPart}
 use Rattle.jv_script.proofs.DigitLaws.{number_in}
 use Rattle.jv_script.proofs.PartLaws.{part_of_pairs, part_of_other}

@@ -3,7 +3,7 @@ use Rattle.std.specs.Prelude.{Bool, true, false, ◌&&◌, ◌==◌, ◌≡◌, 
 use Rattle.std.specs.List.{join_with_byte}
 use Rattle.jv_model.specs.declared.op.Reply.{Reply}
 use Rattle.jv_model.specs.declared.op.Reply.TheVariants as reply
-use Rattle.jv_model.specs.script.Printed.{Part, Plain, Repeated, runs_of, parts_of, part_text}
+use Rattle.jv_model.specs.script.Printed.{DataPart, Plain, Repeated, runs_of, parts_of, part_text}
 
 -- the first n bytes are equal, and the next one, if any, is another
 pub record IsFirstRepeat (bytes : List ℕ) (n : ℕ) : Type 0 where
@@ -33,16 +33,16 @@ pub record IsPlainFront (bytes : List ℕ) (n : ℕ) : Type 0 where
   pub within : n ≤ length bytes
   pub parts : parts_of (runs_of bytes) ≡ Plain (take n bytes) ∷ parts_of (runs_of (drop n bytes))
 
--- a `+`, where one is wanted
+-- a `+`, where one is needed
 abbrev pub joint : Bool → List ℕ
 joint true = 43 ∷ []
 joint false = []
 
-abbrev pub joined : List Part → List ℕ
+abbrev pub joined : List DataPart → List ℕ
 joined parts = join_with_byte 43 (map part_text parts)
 
 -- the text of the parts to come: after some bytes of a plain part, which a long repeat ends, or between parts
-abbrev pub parts_text : List Part → Bool → List ℕ
+abbrev pub parts_text : List DataPart → Bool → List ℕ
 parts_text (Repeated run ∷ parts) true = 43 ∷ joined (Repeated run ∷ parts)
 parts_text parts _ = joined parts
 

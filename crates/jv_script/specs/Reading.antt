@@ -5,8 +5,10 @@ use Rattle.std.specs.List.{flat_map}
 use Rattle.std.specs.Option.{option_copied}
 use Rattle.jv_model.specs.declared.limits.TheConstants.{MAX_DATA}
 use Rattle.jv_model.specs.script.Spelling.{◌>>=◌, bytes_of_digits}
-use Rattle.jv_model.specs.script.Printed.{Part, Plain}
-use Rattle.jv_model.specs.script.Grammar.{provided, parted, is_pairs, part_of, part_length, part_bytes, all_parts_of}
+use Rattle.jv_model.specs.script.Printed.{DataPart, Plain}
+use Rattle.jv_model.specs.script.Grammar.{is_pairs, part_of, part_length, part_bytes, all_parts_of}
+use Rattle.jv_model.specs.Lists.{parted, first_item}
+use Rattle.jv_model.specs.Optional.{provided}
 use Rattle.jv_script.specs.declared.bad_line.BadLine.{BadLine}
 use Rattle.jv_script.specs.declared.bad_line.BadLine.TheVariants.{Off, Memory}
 
@@ -28,14 +30,9 @@ Reads (Ok value) grammar = grammar ≡ Some value
 Reads (Err Off) grammar = grammar ≡ None
 Reads (Err Memory) grammar = IsSome grammar
 
--- the first of bytes, if there are any
-abbrev pub first_in : List ℕ → Option ℕ
-first_in [] = None
-first_in (byte ∷ _) = Some byte
-
 abbrev pub first_of : Option (List ℕ) → Option ℕ
 first_of None = None
-first_of (Some bytes) = first_in bytes
+first_of (Some bytes) = first_item bytes
 
 -- bytes, if not too many
 abbrev pub limited_bytes : List ℕ → Option (List ℕ)
@@ -48,7 +45,7 @@ bytes_after before texts = do
   limited_bytes (before ++ flat_map part_bytes parts)
 
 -- the part that pairs of digits are
-abbrev pub pairs_of : List ℕ → Option Part
+abbrev pub pairs_of : List ℕ → Option DataPart
 pairs_of text = provided (is_pairs text) (Plain (bytes_of_digits text))
 
 -- a part's third byte is an `x`
@@ -57,7 +54,7 @@ has_x (_ ∷ _ ∷ x ∷ _) = x == 120
 has_x _ = false
 
 -- bytes with those of a part after them; or there is no part, or it makes them too many
-abbrev pub Appends : Bool → List ℕ → Option Part → List ℕ → Type 0
+abbrev pub Appends : Bool → List ℕ → Option DataPart → List ℕ → Type 0
 Appends true before part after = option_map (λ p. before ++ part_bytes p) part ≡ Some after
 Appends false before part after = IfSome part (λ p. MAX_DATA < length before + part_length p)
 

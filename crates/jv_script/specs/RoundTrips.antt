@@ -3,7 +3,8 @@ use Rattle.std.specs.Prelude.{◌≡◌, ℕ, ◌<◌, ◌≤◌, true, List, �
 use Rattle.jv_model.specs.declared.limits.TheConstants.{MAX_DATA}
 use Rattle.jv_model.specs.script.Printed.{data_text}
 use Rattle.jv_model.specs.script.ReplyText.{name_text, path_text}
-use Rattle.jv_model.specs.script.Grammar.{begins_with_slash, data_of, path_of, target_of}
+use Rattle.jv_model.specs.script.Grammar.{data_of, path_of, target_of}
+use Rattle.jv_model.specs.tree.Walk.{is_absolute}
 
 -- a byte of a file
 abbrev pub IsByte : ℕ → Type 0
@@ -20,7 +21,7 @@ DataIsReadAgain = (bytes : List ℕ) → All IsByte bytes → length bytes ≤ M
 
 -- a path
 abbrev pub PathsAreReadAgain : Type 0
-PathsAreReadAgain = (path : List ℕ) → All IsNameByte path → begins_with_slash path ≡ true
+PathsAreReadAgain = (path : List ℕ) → All IsNameByte path → is_absolute path ≡ true
     → path_of (path_text path) ≡ Some path
 
 -- the target of a symlink
@@ -31,5 +32,5 @@ TargetsAreReadAgain = (target : List ℕ) → All IsNameByte target → 0 < leng
 -- the name of an entry, after the path of its directory and a slash
 abbrev pub NamesAreReadAgain : Type 0
 NamesAreReadAgain = (directory name : List ℕ) → All IsNameByte directory → All IsNameByte name
-    → begins_with_slash (directory ++ 47 ∷ name) ≡ true
+    → is_absolute (directory ++ 47 ∷ name) ≡ true
     → path_of (path_text directory ++ 47 ∷ name_text name) ≡ Some (directory ++ 47 ∷ name)

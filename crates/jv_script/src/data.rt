@@ -2,7 +2,8 @@
 ghost use Rattle.std.specs.Prelude.{◌≡◌, true, is_some, IfOk, option_map};
 ghost use Rattle.jv_model.specs.script.Spelling.{bytes_of_digits};
 ghost use Rattle.jv_model.specs.script.Printed.{Repeated};
-ghost use Rattle.jv_model.specs.script.Grammar.{is_pairs, parted, repeated_of, part_of, part_length, bytes_of_parts, data_of};
+ghost use Rattle.jv_model.specs.script.Grammar.{is_pairs, repeated_of, part_of, part_length, bytes_of_parts, data_of};
+ghost use Rattle.jv_model.specs.Lists.{parted};
 ghost use Rattle.jv_script.specs.Reading.{has_x, pairs_of, Reads, Appends};
 
 use crate::bad_line::BadLine;

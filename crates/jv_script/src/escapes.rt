@@ -2,7 +2,8 @@
 ghost use Rattle.std.specs.Prelude.{◌≡◌, ◌&&◌, ◌++◌, true, IsSome, IfOk, OnOk, is_some};
 ghost use Rattle.std.specs.List.{list_all, flat_map};
 ghost use Rattle.jv_model.specs.script.Grammar.{is_plain, is_escape, escape_bytes, unescaped, path_of, target_of};
-ghost use Rattle.jv_script.specs.Reading.{escapes_left, Reads, first_in, first_of};
+ghost use Rattle.jv_model.specs.Lists.{first_item};
+ghost use Rattle.jv_script.specs.Reading.{escapes_left, Reads, first_of};
 
 use crate::bad_line::BadLine;
 use crate::hex_digits::{byte_of, is_hex_digit};
@@ -66,7 +67,8 @@ fn is_sound(plain: &[u8], escapes: Option<&[u8]>) -> bool
 
 fn first_spelled(plain: &[u8], escapes: Option<&[u8]>) -> Option<u8>
     requires { list_all is_escape (escapes_left escapes) ≡ true }
-    ensures { result ≡ first_in (plain.now ++ flat_map escape_bytes (escapes_left escapes.entry)) }
+    ensures { result ≡ first_item (plain.now
+        ++ flat_map escape_bytes (escapes_left escapes.entry)) }
 {
     match plain {
         [first, ..] => Some(*first),
@@ -77,7 +79,7 @@ fn first_spelled(plain: &[u8], escapes: Option<&[u8]>) -> Option<u8>
 // The byte of the first escape.
 fn first_escaped(escapes: Option<&[u8]>) -> Option<u8>
     requires { list_all is_escape (escapes_left escapes) ≡ true }
-    ensures { result ≡ first_in (flat_map escape_bytes (escapes_left escapes.entry)) }
+    ensures { result ≡ first_item (flat_map escape_bytes (escapes_left escapes.entry)) }
 {
     let (escape, _) = cut(escapes?, b'%');
     match escape {

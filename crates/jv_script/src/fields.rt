@@ -4,7 +4,8 @@ ghost use Rattle.std.specs.List.{list_all};
 ghost use Rattle.jv_model.specs.script.Spelling.{client_of, mode_of, number_of, length_of, is_numeral, is_decimal_digit, is_octal_digit};
 ghost use Rattle.jv_model.specs.script.Grammar.{number_up_to, seconds_of};
 
-use jv_model::{ClientId, MAX_DATA, MAX_TICK};
+use jv_model::options::MAX_SHORT_NUMBER;
+use jv_model::{ClientId, LAST_CLIENT, MAX_DATA, MAX_TICK};
 
 /// The client of a letter, A to H.
 #[tactic(auto, unfolding(jv_model::specs::script::Spelling::client_of))]
@@ -14,7 +15,7 @@ pub(crate) fn client(letter: &[u8]) -> Option<ClientId>
     let [letter] = letter else {
         return None;
     };
-    if *letter < b'A' || *letter > b'H' {
+    if *letter < b'A' || *letter > b'A' + LAST_CLIENT {
         return None;
     }
     Some(ClientId(*letter - b'A'))
@@ -103,9 +104,9 @@ pub(crate) fn number_up_to(limit: u64, digits: &[u8]) -> Option<u64>
 
 /// A number of 32 bits at most.
 pub(crate) fn short_number(digits: &[u8]) -> Option<u32>
-    ensures { result ≡ number_up_to 4294967295 digits.now }
+    ensures { result ≡ number_up_to MAX_SHORT_NUMBER digits.now }
 {
-    let number = number_up_to(u64::from(u32::MAX), digits)?;
+    let number = number_up_to(u64::from(MAX_SHORT_NUMBER), digits)?;
     Some(number as u32)
 }
 

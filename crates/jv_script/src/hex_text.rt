@@ -53,7 +53,7 @@ fn encode_into(bytes: &[u8], digits: &mut [u8])
 }
 
 /// The two digits of a byte, each looked up: for few bytes that is the fastest.
-pub(crate) fn hex_pair(byte: u8) -> [u8; 2]
+pub fn hex_pair(byte: u8) -> [u8; 2]
     ensures { result ≡ hex_pair byte }
 {
     [hex_digit(byte / 16), hex_digit(byte % 16)]

@@ -22,8 +22,11 @@ mod word_cuts;
 pub use bad_line::BadLine;
 pub use data::read_data;
 pub use fields::is_numeral;
+pub use hex_text::hex_pair;
 pub use laws::{
     data_is_read_again, names_are_read_again, paths_are_read_again, targets_are_read_again,
 };
 pub use line_reader::{is_silent, read_line};
+pub use names::octal_digit;
+pub use numbers::push_number;
 pub use printer::print_reply;

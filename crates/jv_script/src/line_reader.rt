@@ -12,7 +12,12 @@ use crate::word_cuts::{cut, next_word};
 use jv_model::{ClientId, Line};
 use std::alloc::Global;
 
-/// Reads a line, which is passed without its line feed. Runs out of memory only for a path, a target or DATA.
+/// Reads a line, which is passed without its line feed.
+///
+/// # Errors
+///
+/// [`BadLine::Off`] if and only if the text is malformed, also when memory runs out. [`BadLine::Memory`] for a line
+/// whose path, target or DATA finds no memory.
 #[tactic(auto, unfolding(jv_model::specs::script::Grammar::line_of))]
 pub fn read_line(alloc: Global, text: &[u8]) -> Result<Line, BadLine>
     ensures read { IfOk result (λ line. line_of text.now ≡ Some line) }

@@ -124,8 +124,8 @@ fn kind_letter(kind: FileKind) -> u8
     }
 }
 
-// The last digit of a number.
-fn octal_digit(number: u16) -> u8
+/// The last octal digit of a number.
+pub fn octal_digit(number: u16) -> u8
     ensures { result ≡ 48 + number % 8 }
 {
     b'0' + (number % 8) as u8

@@ -1,7 +1,8 @@
 //! Operations, read from their words.
 ghost use Rattle.std.specs.Prelude.{◌≡◌, bytes_eq};
 ghost use Rattle.jv_model.specs.script.Spelling.{number_of};
-ghost use Rattle.jv_model.specs.script.Grammar.{provided, operation_of, operation_of_none, operation_of_one, operation_of_path, operation_of_two, operation_of_two_names, operation_of_three, symlink_of, two_paths_of, path_and_mode_of, truncate_of, utimes_of, compact_of, read_of, write_of, chown_of, how_of, rename_of, copy_of};
+ghost use Rattle.jv_model.specs.script.Grammar.{operation_of, operation_of_none, operation_of_one, operation_of_path, operation_of_two, operation_of_two_names, operation_of_three, symlink_of, two_paths_of, path_and_mode_of, truncate_of, utimes_of, compact_of, read_of, write_of, chown_of, how_of, rename_of, copy_of};
+ghost use Rattle.jv_model.specs.Optional.{provided};
 ghost use Rattle.jv_script.specs.Reading.{Reads, words_left};
 
 use crate::bad_line::BadLine;

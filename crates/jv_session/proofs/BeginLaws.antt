@@ -1,4 +1,4 @@
--- What a client in memory is to the lines: it has no settled answer between two steps.
+-- What a client in memory is to the lines: it has no decided answer between two steps.
 use Rattle.std.proofs.Common.{◌≡◌, false, Option, None, Some, refl, ap, ◌∙◌}
 use Rattle.jv_model.specs.client.ModelClient.{ModelClient, Doing}
 use Rattle.jv_model.specs.journal.Past.{ends_in_step}
@@ -9,7 +9,7 @@ use Rattle.jv_client.specs.declared.doing.Progress.{Progress}
 use Rattle.jv_client.specs.declared.doing.Progress.TheVariants.{Working, Reading}
 use Rattle.jv_client.specs.Held.{IsDoing, stage_of}
 
--- an operation that stands for one in memory hasn't settled its answer
+-- an operation that stands for one in memory hasn't decided its answer
 
 own_answer : (m : Doing) (p : Progress) → m.stage ≡ stage_of p → must_answer m ≡ false
 own_answer m (Working quiets started id) e = ap (λ stage. must_answer (record m { stage = stage })) e

@@ -22,9 +22,9 @@ use Rattle.jv_model.specs.script.ReplyText.{printed_line}
 use Rattle.jv_model.specs.journal.Legal.{may_stop}
 use Rattle.jv_model.specs.journal.Stepping.{stepped_by, entry_of}
 use Rattle.jv_laws.specs.OnLines.{IsNow}
-use Rattle.jv_laws.proofs.EntriesOfLines.{leads_none}
-use Rattle.jv_laws.proofs.EndedLines.{is_over_at, may_be_cut_at}
-use Rattle.jv_laws.proofs.StepsOnLines.{RunsClient, OneStepOnly, StepsOn, step_ran, others_stepped}
+use Rattle.jv_laws.proofs.LineEntryLaws.{leads_none}
+use Rattle.jv_laws.proofs.EndedLineLaws.{is_over_at, may_be_cut_at}
+use Rattle.jv_laws.proofs.LineStepLaws.{RunsClient, OneStepOnly, StepsOn, step_ran, others_stepped}
 use Rattle.jv_outside.specs.Ticks.{Ticks, Passes}
 use Rattle.jv_shared.specs.Shared.{Known, Shared}
 use Rattle.jv_requests.specs.Request.{Request}

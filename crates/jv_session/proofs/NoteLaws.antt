@@ -3,7 +3,7 @@ use Rattle.std.proofs.Common.{◌≡◌, ℕ, ◌+◌, ◌≤◌, min, false, Li
 use Rattle.std.specs.Prelude.{codes, decimal, IfOk}
 use Rattle.std.specs.declared.alloc.AllocError.{AllocError}
 use Rattle.std.proofs.lemmas.List.{length_push}
-use Rattle.jv_model.specs.declared.limits.TheConstants.{LAST_MOMENT}
+use Rattle.jv_model.specs.declared.limits.TheConstants.{LAST_MOMENT, LAST_CLIENT, CLIENTS}
 use Rattle.jv_model.specs.declared.act.TheConstants.{NO_CLIENT}
 use Rattle.jv_model.specs.declared.act.Act.{Act}
 use Rattle.jv_model.specs.declared.act.ActKind.{ActKind}
@@ -13,16 +13,16 @@ use Rattle.jv_model.specs.declared.fault.Device.{Device}
 use Rattle.jv_model.specs.declared.fault.Fault.{Fault}
 use Rattle.jv_model.specs.declared.op.Reply.TheVariants.{Refused}
 use Rattle.jv_model.specs.declared.setting.Setting.{Setting}
-use Rattle.jv_model.specs.script.ReplyText.{printed_line}
+use Rattle.jv_model.specs.script.ReplyText.{printed_line, with_feed}
 use Rattle.jv_model.specs.tree.Tree.{Tree}
 use Rattle.jv_model.specs.client.ModelClient.{Doing, ModelClient, unmounted}
 use Rattle.jv_model.specs.journal.State.{State, effect, of_doing}
-use Rattle.jv_model.specs.journal.Past.{Past, Setup, NoMore, CrashEntry, TickEntry, Refusal, with_feed}
+use Rattle.jv_model.specs.journal.Past.{Past, Setup, NoMore, CrashEntry, TickEntry, Refusal}
 use Rattle.jv_model.specs.journal.Stepping.{entry_of}
 use Rattle.jv_laws.specs.OnLines.{IsNow, Leads}
 use Rattle.jv_laws.proofs.JournalGrowthLaws.{advanced, begun_to-begun}
-use Rattle.jv_laws.proofs.EndedLines.{is_over_at, may_be_cut_at}
-use Rattle.jv_laws.proofs.NotedLines.{Notes as NotesEntry, refused_ran, crash_ran, tick_ran}
+use Rattle.jv_laws.proofs.EndedLineLaws.{is_over_at, may_be_cut_at}
+use Rattle.jv_laws.proofs.NotedLineLaws.{Notes as NotesEntry, refused_ran, crash_ran, tick_ran}
 use Rattle.jv_outside.specs.Ticks.{Ticks}
 use Rattle.jv_shared.specs.Shared.{Known, Shared}
 use Rattle.jv_client.specs.ClientValue.{ClientValue, crashed}
@@ -231,11 +231,11 @@ module _ (v : Shared) (number : ℕ) (clock ticked : Ticks) (journal more : List
   Noting noted client kind by made = Notes s noted number client kind by clock ticked journal more made
 
   -- the client at a place, of eight
-  the_client : (k : ℕ) → length s.clients ≡ 8 → k ≤ 7 → (c : ClientValue) × (slice_get s.clients k ≡ Some c)
+  the_client : (k : ℕ) → length s.clients ≡ CLIENTS → k ≤ LAST_CLIENT → (c : ClientValue) × (slice_get s.clients k ≡ Some c)
   the_client k eight low = slice_get_inside s.clients k (omega (arith, eight, low))
 
   pub refuse_says : (client : ℕ) (fault : Fault) (s' : ScheduleValue) (made : Result ℕ Stopped) (now : ℕ)
-      (printed : Result (List ℕ) AllocError) (end : LineEnd) → client ≤ 7 → IsCalm (ToldRefused fault)
+      (printed : Result (List ℕ) AllocError) (end : LineEnd) → client ≤ LAST_CLIENT → IsCalm (ToldRefused fault)
       → Noting s' client (Answered (ToldRefused fault)) 0 made → made ≡ Ok now
       → IfOk printed (λ t. t ≡ printed_line s'.setting (Refused fault)) → LineSays printed end
       → LineGoes (IsRefused client fault) number before (after s') end

@@ -13,9 +13,9 @@ use Rattle.jv_model.specs.declared.setting.Setting.{Setting}
 use Rattle.jv_model.specs.journal.Past.{Past, Setup, NoMore, ToAnswer}
 use Rattle.jv_model.specs.journal.Stepping.{entry_of}
 use Rattle.jv_model.specs.script.ReplyText.{printed_line}
-use Rattle.jv_laws.proofs.EntriesOfLines.{leads_more, same_line-then}
-use Rattle.jv_laws.proofs.EndedLines.{is_over_at, may_be_cut_at}
-use Rattle.jv_laws.proofs.StepsOnLines.{ToItsEnd}
+use Rattle.jv_laws.proofs.LineEntryLaws.{leads_more, same_line-then}
+use Rattle.jv_laws.proofs.EndedLineLaws.{is_over_at, may_be_cut_at}
+use Rattle.jv_laws.proofs.LineStepLaws.{ToItsEnd}
 use Rattle.jv_outside.specs.Causes.{Rose}
 use Rattle.jv_outside.specs.Ticks.{Ticks, Passes}
 use Rattle.jv_outside.proofs.TicksLaws.{Passes-trans}

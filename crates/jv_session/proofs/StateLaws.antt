@@ -15,7 +15,7 @@ use Rattle.jv_shared.specs.Shared.{HasStore, Known, Shared, rows_in}
 use Rattle.jv_shared.proofs.KeepingLaws.{stays-none}
 use Rattle.jv_shared.proofs.SameLaws.{same-stays, same-store}
 use Rattle.jv_requests.specs.Request.{IsApart, IsWithin}
-use Rattle.jv_requests.proofs.FlightLaws.{apart-new}
+use Rattle.jv_requests.proofs.FlightLaws.{apart-new, numbered}
 use Rattle.jv_requests.proofs.StillLaws.{stays-same}
 use Rattle.jv_client.specs.ClientValue.{ClientValue}
 use Rattle.jv_client.specs.Held.{IsClient, Holds, IsOnWay, flight_of, in_flight, number_of}
@@ -40,12 +40,9 @@ module _ (g : Known) (v : Shared) where
   on_way : (o : Option Flight) (f : Flight) → o ≡ Some f → IsOnWay g v o → Flies g v f
   on_way o f is h = (subst (IsOnWay g v) is h).0
 
-  numbered : (f : Flight) → Flies g v f → f.id ≢ 0
-  numbered f flies none = let some = flies.ever.some in absurd (omega (arith, some, none))
-
   -- a step that is about no slice, after which the client has none in flight
   pub apart_nothing : (mine : ℕ) → IsApart g v mine 0 0
-  apart_nothing mine = apart-new g v mine 0 numbered
+  apart_nothing mine = apart-new g v mine 0 (numbered g v)
 
 -- clients that stay while what they share goes on
 

@@ -24,7 +24,7 @@ use Rattle.jv_client.specs.ClientValue.{ClientValue}
 use Rattle.jv_client.specs.YardUse.{YardUse}
 use Rattle.jv_client.specs.declared.made.Made.{Made}
 use Rattle.jv_client.specs.declared.made.Made.TheVariants as made
-use Rattle.jv_client.specs.Makes.{FailsAlone, TellsBad, UsesDevices, entries_of, faults_of, is_failure_entry, is_failure_of, kinds_of, step_of, tells_failure}
+use Rattle.jv_client.specs.Makes.{FailsAlone, SaysBad, UsesDevices, entries_of, faults_of, is_failure_entry, is_failure_of, kinds_of, step_of, says_failure}
 use Rattle.jv_session.specs.Stands.{ScheduleValue, IsYardOf}
 use Rattle.jv_session.specs.Lines.{AnswersSo, BlocksStay, LineState, LineUses, StaysPut, AreFailures, device_failures}
 use Rattle.jv_session.specs.Growing.{YardGrows}
@@ -57,7 +57,7 @@ both_failures first second device = first device + second device
 
 -- those of one step
 abbrev pub made_failures : Made → Device → ℕ
-made_failures made device = times (tells_failure device made)
+made_failures made device = times (says_failure device made)
 
 -- what entries say of devices
 
@@ -168,7 +168,7 @@ uses_then start now later m n f g a b = record {
   limits = b.limits ∙ a.limits;
 }
 
--- the clock was asked so often, and no device is used, nor is one said to have failed
+-- the clock was asked `asks` times, and no device is used, nor is one said to have failed
 pub uses_clock : (before after : LineState) (asks : ℕ) → Passes before.clock.answers after.clock.answers asks
     → after.devices ≡ before.devices → AnswersSo before.journal after.journal no_failures → before.schedule.at ≤ after.schedule.at
     → after.schedule.limits ≡ before.schedule.limits → LineUses before after asks no_failures
@@ -231,9 +231,9 @@ uses_step before after line now h made appends alone passes uses used at limits 
     setting = uses.setting;
     grows = record { staged = grown.staged; puts = grown.puts; objects = grown.objects };
   };
-  counts = λ device. rose_times-if (tells_failure device made) (faults_of device before.devices)
+  counts = λ device. rose_times-if (says_failure device made) (faults_of device before.devices)
       (faults_of device after.devices)
-      (subst (λ n. RoseIf (tells_failure device made) n (faults_of device after.devices))
+      (subst (λ n. RoseIf (says_failure device made) n (faults_of device after.devices))
       (faults_at now before.devices device) (uses.counts device));
   answers = record {
     acts = entries_of line now h.id (kinds_of made);
@@ -260,4 +260,4 @@ stopped_bad (made.Answer told reply) before after key bytes is h = absurd (cc is
 stopped_bad (made.Both kind told reply) before after key bytes is h = absurd (cc is)
 stopped_bad (made.Broken at found) before after key bytes is h =
     subst (λ rows. IfSome rows (λ known. IsBad (typed known) key bytes)) (sym (h.rows refl))
-    (subst (TellsBad before) is h.bad)
+    (subst (SaysBad before) is h.bad)

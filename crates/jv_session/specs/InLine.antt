@@ -1,6 +1,6 @@
 -- A line in progress: what a call makes of it, wherever the line stands.
 use Rattle.std.specs.Prelude.{◌≡◌, ℕ, ◌+◌, ◌≤◌, min, max, true, ◌||◌, IsSome, IfSome, List, [], ◌∷◌, ◌++◌, length, slice_get, slice_set, None, Some, Result, Ok, Err}
-use Rattle.jv_model.specs.declared.limits.TheConstants.{LAST_MOMENT}
+use Rattle.jv_model.specs.declared.limits.TheConstants.{LAST_MOMENT, CLIENTS}
 use Rattle.jv_model.specs.declared.act.Act.{Act}
 use Rattle.jv_model.specs.declared.act.ActKind.{ActKind}
 use Rattle.jv_model.specs.declared.act.Told.TheVariants.{Refused as ToldRefused}
@@ -135,7 +135,7 @@ Moments s by before after (Err stopped) = StopsBefore before after stopped
 pub record HasNoted (s s' : ScheduleValue) (number client : ℕ) (kind : ActKind) (by now : ℕ) (before after : Ticks) (journal more : List Act) : Type 0 where
   pub moment : IsMomentOf s by now before after
   pub later : s.at ≤ now
-  pub eight : length s.clients ≡ 8
+  pub eight : length s.clients ≡ CLIENTS
   pub appends : more ≡ journal ++ entry_of number now client kind ∷ []
   pub same : s' ≡ record s { at = now }
 

@@ -37,13 +37,13 @@ device_failures device = count_by (λ act. is_failure_entry device act.kind)
 abbrev pub AreFailures : List Act → (Device → ℕ) → Type 0
 AreFailures acts failed = (device : Device) → device_failures device acts ≡ failed device
 
--- what was appended to a journal answers so often that a device failed
+-- what was appended to a journal answers of each device as often as `failed` says that it failed
 pub record AnswersSo (before after : List Act) (failed : Device → ℕ) : Type 0 where
   pub acts : List Act
   pub grows : after ≡ before ++ acts
   pub failures : AreFailures acts failed
 
--- the entries of one line, which has this number, were appended and are allowed, and the clock was asked so often
+-- the entries of one line, which has this number, were appended and are allowed, and the clock was asked `asks` times
 pub record Appends (p : Past) (more : List Line) (number asks : ℕ) (before after : List Act) (acts : List Act) (q : Past) : Type 0 where
   pub grows : after ≡ before ++ acts
   pub allowed : AllAllowed p acts

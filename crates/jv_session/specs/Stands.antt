@@ -1,6 +1,6 @@
 -- When a schedule stands where a journal's past does.
 use Rattle.std.specs.Prelude.{◌≡◌, ◌≢◌, ℕ, ◌+◌, ◌≤◌, ◌<◌, min, Bool, true, false, IsSome, IfSome, is_some, List, [], ◌∷◌, length, slice_get, Option, None, Some}
-use Rattle.jv_model.specs.declared.limits.TheConstants.{LAST_MOMENT}
+use Rattle.jv_model.specs.declared.limits.TheConstants.{LAST_MOMENT, CLIENTS}
 use Rattle.jv_model.specs.declared.basics.Limits.{Limits}
 use Rattle.jv_model.specs.declared.setting.Setting.{Setting}
 use Rattle.jv_model.specs.journal.State.{State}
@@ -44,7 +44,7 @@ pub record IsMember (limits : Limits) (k : ℕ) (c : ClientValue) : Type 0 where
 pub record IsSchedule (limits : Limits) (at ticks : ℕ) (clients : List ClientValue) : Type 0 where
   pub last : at ≤ LAST_MOMENT
   pub passed : ticks ≤ LAST_MOMENT
-  pub eight : length clients ≡ 8
+  pub eight : length clients ≡ CLIENTS
   pub members : (k : ℕ) → IfSome (slice_get clients k) (IsMember limits k)
 
 -- A schedule may go on with this yard: its blocks have a length that there is, and it knows of no moment after the schedule's.

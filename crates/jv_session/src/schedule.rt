@@ -10,7 +10,7 @@ ghost use Rattle.jv_session.specs.Lines.{AtDoor, LineRuns, line_state};
 
 use crate::line_end::LineEnd;
 use jv_client::Client;
-use jv_model::{Bytes, ClientId, Journal, Limits, Line, Reply, Setting};
+use jv_model::{Bytes, CLIENTS, ClientId, Journal, Limits, Line, Reply, Setting};
 use jv_outside::{Carrier, Clock, Depot, Keeper, Shelf};
 use jv_script::print_reply;
 use jv_yard::{Alone, ObservedYard, Yard, YardDoor};
@@ -26,7 +26,7 @@ pub struct Schedule {
     pub(crate) at: u64,
     /// The seconds that lines let pass, at most the last moment there is.
     pub(crate) ticks: u64,
-    pub(crate) clients: [Client; 8],
+    pub(crate) clients: [Client; CLIENTS as usize],
     pub(crate) setting: Setting,
 }
 
@@ -71,8 +71,9 @@ impl Schedule {
         }
     }
 
-    /// Runs a line that is built, and whose number is one above that of the line before, over the rows of the keeper and the
-    /// blocks of the door's yard, which is in. Asks the clock before each step, and not for a line that makes none.
+    /// Runs a line that is built, and whose number is one above that of the line before, over the rows of the keeper
+    /// and the blocks of the door's yard, which is in. Asks the clock before each step, and not for a line that makes
+    /// none. Returns how the line ended, and [`LineEnd`] says what is then left.
     pub fn line<K: Keeper, D: Depot, H: Shelf, C: Clock>(
         &mut self,
         line: Line,

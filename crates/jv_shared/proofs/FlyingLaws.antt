@@ -4,23 +4,21 @@ use Rattle.std.specs.Prelude.{slice_index}
 use Rattle.std.proofs.lemmas.Bool.{cases_lt}
 use Rattle.std.proofs.lemmas.List.{length-take, length-drop}
 use Rattle.std.proofs.lemmas.Nat.{mul-le}
-use Rattle.jv_model.specs.declared.limits.TheConstants.{WINDOW}
+use Rattle.jv_model.specs.declared.limits.TheConstants.{WINDOW, MIN_BLOCK, MAX_BLOCKS}
 use Rattle.jv_model.specs.declared.slice.Rec.{Rec}
-use Rattle.jv_model.specs.blocks.BlockNames.{IsBlock}
-use Rattle.jv_model.specs.blocks.Slices.{block_at, block_count}
+use Rattle.jv_model.specs.blocks.BlockNames.{IsBlock, name_in}
+use Rattle.jv_model.specs.blocks.Slices.{block_at, block_count, shown}
 use Rattle.jv_model.specs.tree.Tree.{Tree}
 use Rattle.jv_outside.specs.declared.parcel.Parcel.{Parcel}
 use Rattle.jv_outside.specs.Parcels.{StandsFor}
 use Rattle.jv_slices.proofs.BlockLaws.{block_begins}
 use Rattle.jv_volume.specs.TypedRows.{Rows, typed}
 use Rattle.jv_volume.specs.Slices.{next_slice}
-use Rattle.jv_contents.specs.Blocks.{told_by}
+use Rattle.jv_contents.specs.Blocks.{known_by}
 use Rattle.jv_contents.specs.Bytes.{spot_byte}
 use Rattle.jv_contents.specs.Flights.{Flight, InFlight, IsComplete, flight_block, flight_bytes}
-use Rattle.jv_contents.specs.Places.{shown}
-use Rattle.jv_contents.proofs.FlightLaws.{complete-shows, complete-told}
+use Rattle.jv_contents.proofs.FlightLaws.{complete-shows, complete-known}
 use Rattle.jv_yard.specs.BlockCalls.{IsBlockParcel}
-use Rattle.jv_yard.specs.Contents.{name_in}
 use Rattle.jv_yard.proofs.CallLaws.{block_parcel}
 use Rattle.jv_shared.specs.Lengths.{IsLength}
 use Rattle.jv_shared.specs.Shared.{HasStore, Known, Shared}
@@ -36,9 +34,9 @@ slice_block-is block id size index long positive low short there =
     record {
       id = positive;
       id_in_range = low;
-      index = elim (cases_lt index 1024) [
+      index = elim (cases_lt index MAX_BLOCKS) [
         | inl few ↦ few
-        | inr many ↦ absurd (omega (arith, begins, short, mul-le 1024 65536 index block many least))
+        | inr many ↦ absurd (omega (arith, begins, short, mul-le MAX_BLOCKS MIN_BLOCK index block many least))
       ];
       some = omega (arith, begins, least);
       size = omega arith;
@@ -56,13 +54,13 @@ module _ (t : Tree) (g : Known) (v : Shared) (s : HasStore t g v) (f : Flight) (
   -- ---- a complete one
 
   -- its blocks have its bytes
-  pub flight-told : IsComplete v.yard.setting.block f → (k : ℕ) → k < length f.bytes
-      → told_by v.yard.setting.block g.blocks f.id (length f.bytes) k ≡ slice_index f.bytes k
-  flight-told complete k low = complete-told v.yard.setting.block (typed s.rows) g.blocks f flight_now complete (block_some t g v s) k low
+  pub flight-known : IsComplete v.yard.setting.block f → (k : ℕ) → k < length f.bytes
+      → known_by v.yard.setting.block g.blocks f.id (length f.bytes) k ≡ slice_index f.bytes k
+  flight-known complete k low = complete-known v.yard.setting.block (typed s.rows) g.blocks f flight_now complete (block_some t g v s) k low
 
   -- and a record of a part of it shows them
   pub flight-shown : IsComplete v.yard.setting.block f → (r : Rec) → r.id ≡ f.id → r.size ≡ length f.bytes → r.off + r.len ≤ length f.bytes
-      → (n : ℕ) → n < r.len → spot_byte (told_by v.yard.setting.block g.blocks) (shown r n) ≡ slice_index f.bytes (r.off + n)
+      → (n : ℕ) → n < r.len → spot_byte (known_by v.yard.setting.block g.blocks) (shown r n) ≡ slice_index f.bytes (r.off + n)
   flight-shown complete r own long inside n low =
       complete-shows v.yard.setting.block (typed s.rows) g.blocks f flight_now complete (block_some t g v s) r own long inside n low
 

@@ -6,14 +6,15 @@ use Rattle.std.specs.Cmp.{eq_by_cmp_equiv}
 use Rattle.std.proofs.lemmas.Bool.{and_parts}
 use Rattle.jv_model.specs.FiniteMap.{first_where, text_key}
 use Rattle.jv_model.proofs.FiniteMapLaws.{IsFound, first_where-found}
+use Rattle.jv_model.specs.blocks.BlockNames.{name_in}
 use Rattle.jv_outside.specs.Blocks.{staged_at, staged_key}
 use Rattle.jv_outside.specs.Objects.{bytes_at}
 use Rattle.jv_volume.specs.TypedRows.{typed}
 use Rattle.jv_volume.specs.Slices.{next_slice}
 use Rattle.jv_volume.proofs.ShapeMapLaws.{first_where-none, tied_same}
-use Rattle.jv_contents.specs.Blocks.{AreBelow, Blocks, Grows, told_by}
+use Rattle.jv_contents.specs.Blocks.{AreBelow, Blocks, Grows, known_by}
 use Rattle.jv_contents.specs.Bytes.{tree_with}
-use Rattle.jv_yard.specs.Contents.{blocks_in, is_block, name_in}
+use Rattle.jv_yard.specs.Contents.{blocks_in, is_block}
 use Rattle.jv_yard.specs.Later.{IsStagedWith, contents_of}
 use Rattle.jv_yard.specs.Staging.{staged_since}
 use Rattle.jv_shared.specs.Shared.{HasStore, Known, Shared, staged_in}
@@ -117,7 +118,7 @@ module _ (v : Shared) (s : IsFresh v) where
       by_test false passes e = absurd (cc)
 
   -- At the start something is known with which the tree is that of the rows.
-  pub fresh_store : (g : Known) × HasStore (tree_with (told_by v.yard.setting.block g.blocks) (typed s.rows)) g v
+  pub fresh_store : (g : Known) × HasStore (tree_with (known_by v.yard.setting.block g.blocks) (typed s.rows)) g v
   fresh_store = (
     record { blocks = all_blocks; sizes = s.whole.slices.sizes },
     record {

@@ -13,10 +13,10 @@ use Rattle.jv_slices.proofs.BlockLaws.{index_below}
 use Rattle.jv_slices.proofs.PlanLaws.{visible_covers}
 use Rattle.jv_volume.specs.TypedRows.{Rows}
 use Rattle.jv_volume.specs.Slices.{IsUnknown, next_slice}
-use Rattle.jv_contents.specs.Blocks.{Blocks, Grows, told_by}
+use Rattle.jv_contents.specs.Blocks.{Blocks, Grows, known_by}
 use Rattle.jv_contents.specs.Bytes.{spot_byte}
 use Rattle.jv_contents.specs.Flights.{Flight}
-use Rattle.jv_contents.proofs.BlockLaws.{grows-none, grows-then, there-grows, told-grows, seen_contained}
+use Rattle.jv_contents.proofs.BlockLaws.{grows-none, grows-then, there-grows, known-grows, seen_contained}
 use Rattle.jv_contents.proofs.FlightLaws.{flies-still}
 use Rattle.jv_contents.proofs.PlaceLaws.{record_inside}
 use Rattle.jv_contents.proofs.WholeLaws.{all-mapped}
@@ -66,26 +66,26 @@ module _ (own : ℕ) (rows rows' : Rows) (g g' : Known) (present present' : Bloc
   }
 
   -- what is known of the places of a list whose records' blocks are there stays
-  told_keeps : (block : ℕ) → 0 < block → Grows present g.blocks → (list : List Rec) → AllByRecursion (IsFound block rows g present) list → (place : ℕ)
-      → spot_byte (told_by block g'.blocks) (stored_place list place) ≡ spot_byte (told_by block g.blocks) (stored_place list place)
+  known_keeps : (block : ℕ) → 0 < block → Grows present g.blocks → (list : List Rec) → AllByRecursion (IsFound block rows g present) list → (place : ℕ)
+      → spot_byte (known_by block g'.blocks) (stored_place list place) ≡ spot_byte (known_by block g.blocks) (stored_place list place)
   unfolding stored_place
-  told_keeps block some known list found place = by_record (visible list place) refl
+  known_keeps block some known list found place = by_record (visible list place) refl
     where
       of_record : (r : Rec) → IsFound block rows g present r → (r.pos ≤ place) × (place < r.pos + r.len) → (zero : Bool) → (r.id == 0) ≡ zero
-          → spot_byte (told_by block g'.blocks) (cond zero Zero (Slice r.id r.size (r.off + (place - r.pos))))
-          ≡ spot_byte (told_by block g.blocks) (cond zero Zero (Slice r.id r.size (r.off + (place - r.pos))))
+          → spot_byte (known_by block g'.blocks) (cond zero Zero (Slice r.id r.size (r.off + (place - r.pos))))
+          ≡ spot_byte (known_by block g.blocks) (cond zero Zero (Slice r.id r.size (r.off + (place - r.pos))))
       of_record r is covered true z = refl
       of_record r is covered false z =
           let named : r.id ≢ 0 = eqb-false r.id 0 z in
           let within = record_inside r is.record_is named in
           let at : ℕ = r.off + (place - r.pos) in
           let inside : at < r.size = omega (arith, within, covered) in
-          told-grows block g.blocks g'.blocks k.learns.blocks r.id r.size at
+          known-grows block g.blocks g'.blocks k.learns.blocks r.id r.size at
           (there-grows present g.blocks (block_at r.id r.size block (at / block)) known
           (is.there named (at / block) (index_below r.size block at (at / block) some inside (omega arith))))
 
       by_record : (o : Option Rec) → visible list place ≡ o
-          → spot_byte (told_by block g'.blocks) (place_by o place) ≡ spot_byte (told_by block g.blocks) (place_by o place)
+          → spot_byte (known_by block g'.blocks) (place_by o place) ≡ spot_byte (known_by block g.blocks) (place_by o place)
       by_record None seen = refl
       by_record (Some r) seen =
           of_record r (All-contains (IsFound block rows g present) list r (All-from_recursion (IsFound block rows g present) list found) (seen_contained list place r seen))
@@ -97,7 +97,7 @@ module _ (own : ℕ) (rows rows' : Rows) (g g' : Known) (present present' : Bloc
   shows-keeps block some known window length list content shows = record {
     long = shows.long;
     records = all-mapped (IsFound block rows g present) (IsFound block rows' g' present') (found-keeps block) list shows.records;
-    bytes = λ place small low. shows.bytes place small low ∙ sym (told_keeps block some known list shows.records place);
+    bytes = λ place small low. shows.bytes place small low ∙ sym (known_keeps block some known list shows.records place);
   }
 
   -- ---- flights

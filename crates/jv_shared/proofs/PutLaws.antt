@@ -2,7 +2,7 @@
 use Rattle.std.proofs.Common.{◌≡◌, ◌≢◌, ℕ, ◌+◌, ◌<◌, ◌^◌, Bool, true, false, inl, inr, List, Some, refl, sym, ap, subst, ◌∙◌, arith}
 use Rattle.std.specs.Prelude.{if◌then◌else◌}
 use Rattle.jv_model.specs.declared.slice.BlockId.{BlockId}
-use Rattle.jv_model.specs.blocks.BlockNames.{IsBlock}
+use Rattle.jv_model.specs.blocks.BlockNames.{IsBlock, name_in}
 use Rattle.jv_model.specs.blocks.Slices.{is_same_block}
 use Rattle.jv_model.specs.tree.Tree.{Tree}
 use Rattle.jv_outside.specs.declared.parcel.Parcel.{Parcel}
@@ -19,7 +19,7 @@ use Rattle.jv_contents.proofs.BlockLaws.{has_blocks-grow, tree-grows}
 use Rattle.jv_contents.proofs.FlightLaws.{next_block-free, put-below, put-grows, put-next, put_or_was}
 use Rattle.jv_yard.specs.declared.note.Note.{Note}
 use Rattle.jv_yard.specs.BlockCalls.{IsPut as PutsParcel}
-use Rattle.jv_yard.specs.Contents.{blocks_in, name_in}
+use Rattle.jv_yard.specs.Contents.{blocks_in}
 use Rattle.jv_yard.specs.YardValue.{YardValue}
 use Rattle.jv_yard.proofs.CallLaws.{IsKept-same}
 use Rattle.jv_yard.proofs.ContentsLaws.{put-objects, put-other, put-same}

@@ -16,16 +16,16 @@ use Rattle.jv_volume.specs.TypedRows.{Rows, typed}
 use Rattle.jv_volume.specs.Views.{row_in, setting_in, setting_at, slice_row_at}
 use Rattle.jv_volume.specs.TreeOf.{tree_of}
 use Rattle.jv_volume.specs.Slices.{IsUnknown, WholeSlices, listed, next_slice}
-use Rattle.jv_volume.specs.Whole.{Quiet, Whole, no_bytes}
+use Rattle.jv_volume.specs.Whole.{Quiet, Whole, no_bytes, SlicesStay}
 use Rattle.jv_volume.proofs.TreeOfLaws.{setting-tree_of}
-use Rattle.jv_contents.specs.Blocks.{AreBelow, Blocks, HasBlocks, told_by}
-use Rattle.jv_contents.specs.Bytes.{Told, bytes_of, tree_with}
+use Rattle.jv_volume.proofs.QuietLaws.{slice_row-stay}
+use Rattle.jv_contents.specs.Blocks.{AreBelow, Blocks, HasBlocks, known_by}
+use Rattle.jv_contents.specs.Bytes.{KnownBytes, bytes_of, tree_with}
 use Rattle.jv_contents.specs.Counts.{KeepsOthers}
 use Rattle.jv_contents.specs.Flights.{Flight, IsComplete}
-use Rattle.jv_contents.specs.Stays.{SlicesStay}
 use Rattle.jv_contents.proofs.BlockLaws.{below-rows, grows-none, has_blocks-on, named_has_row}
 use Rattle.jv_contents.proofs.FlightLaws.{complete-there, flies-new}
-use Rattle.jv_contents.proofs.KeepLaws.{below-keeps, bytes-stay, has_blocks-stay, keeps-quiet, slice_row-stay, stay-counters, unknown-stay}
+use Rattle.jv_contents.proofs.KeepLaws.{below-keeps, bytes-stay, has_blocks-stay, keeps-quiet, stay-counters, unknown-stay}
 use Rattle.jv_contents.proofs.WholeLaws.{all-mapped}
 use Rattle.jv_yard.specs.Contents.{blocks_in}
 use Rattle.jv_shared.specs.Shared.{AreSized, HasStore, Known, Shared, present_in, rows_in, typed_in, with_size}
@@ -56,25 +56,25 @@ sized-keeps sizes own more rows after w keeps its sized = sized-slices sizes aft
 
 -- ---- the setting
 
-pub setting_stored : (told : Told) (rows : Rows) → Whole rows → setting_at rows ≡ Some (tree_with told rows).setting
-setting_stored told rows w =
+pub setting_stored : (known_bytes : KnownBytes) (rows : Rows) → Whole rows → setting_at rows ≡ Some (tree_with known_bytes rows).setting
+setting_stored known_bytes rows w =
     ap (λ c. setting_in (row_in c)) w.stored.setting
-    ∙ ap Some (setting-tree_of no_bytes rows ∙ sym (setting-tree_of (bytes_of told rows) rows))
+    ∙ ap Some (setting-tree_of no_bytes rows ∙ sym (setting-tree_of (bytes_of known_bytes rows) rows))
 
 module _ (t : Tree) (g : Known) (v : Shared) (s : HasStore t g v) where
   -- rows that are left, with the volume's setting and all blocks
   store_left : (keeper : Store) (carrier : Carriage) (left : RowMap) (sizes : ℕ → ℕ) → keeper.rows ≡ Some left → Whole (typed left) → AreSized sizes (typed left)
-      → (tree_with (told_by v.yard.setting.block g.blocks) (typed left)).setting ≡ t.setting
+      → (tree_with (known_by v.yard.setting.block g.blocks) (typed left)).setting ≡ t.setting
       → HasBlocks v.yard.setting.block (typed left) (blocks_in v.yard.setting s.objects) → AreBelow (typed left) g.blocks
-      → HasStore (tree_with (told_by v.yard.setting.block g.blocks) (typed left)) (record g { sizes = sizes }) (record v { keeper = keeper; carrier = carrier })
+      → HasStore (tree_with (known_by v.yard.setting.block g.blocks) (typed left)) (record g { sizes = sizes }) (record v { keeper = keeper; carrier = carrier })
   store_left keeper carrier left sizes is whole sized setting there below = record {
     rows = left;
     rows_are = is;
     whole = whole;
     sized = sized;
-    setting = setting_stored (told_by v.yard.setting.block g.blocks) (typed left) whole
+    setting = setting_stored (known_by v.yard.setting.block g.blocks) (typed left) whole
         ∙ ap Some (setting ∙ ap (λ (x : Tree). x.setting) s.tree)
-        ∙ sym (setting_stored (told_by v.yard.setting.block g.blocks) (typed s.rows) s.whole) ∙ s.setting;
+        ∙ sym (setting_stored (known_by v.yard.setting.block g.blocks) (typed s.rows) s.whole) ∙ s.setting;
     objects = s.objects;
     objects_are = s.objects_are;
     staged = s.staged;
@@ -107,8 +107,8 @@ module _ (t : Tree) (g : Known) (v : Shared) (s : HasStore t g v) where
   pub lists-lead : (keeper : Store) (carrier : Carriage) (left : RowMap) (own more : ℕ) → keeper.rows ≡ Some left → Whole (typed left)
       → KeepsOthers own more (typed s.rows) (typed left)
       → ((slice : SliceRow) → slice_row_at (typed left) own ≡ Some slice → (slice.size ≡ g.sizes own) × SliceIsThere v.yard.setting.block (present_in v) own slice.size)
-      → (tree_with (told_by v.yard.setting.block g.blocks) (typed left)).setting ≡ t.setting
-      → Leads own (tree_with (told_by v.yard.setting.block g.blocks) (typed left)) g g v (record v { keeper = keeper; carrier = carrier })
+      → (tree_with (known_by v.yard.setting.block g.blocks) (typed left)).setting ≡ t.setting
+      → Leads own (tree_with (known_by v.yard.setting.block g.blocks) (typed left)) g g v (record v { keeper = keeper; carrier = carrier })
   lists-lead keeper carrier left own more is whole keeps its setting = record {
     store = store_left keeper carrier left g.sizes is whole
         (sized-keeps g.sizes own more (typed s.rows) (typed left) whole.slices keeps (λ slice there. (its slice there).0) s.sized)
@@ -125,15 +125,15 @@ module _ (t : Tree) (g : Known) (v : Shared) (s : HasStore t g v) where
   -- one that makes no slice
   pub others-lead : (keeper : Store) (carrier : Carriage) (left : RowMap) (more : ℕ) → keeper.rows ≡ Some left → Whole (typed left)
       → KeepsOthers 0 more (typed s.rows) (typed left)
-      → (tree_with (told_by v.yard.setting.block g.blocks) (typed left)).setting ≡ t.setting
-      → Leads 0 (tree_with (told_by v.yard.setting.block g.blocks) (typed left)) g g v (record v { keeper = keeper; carrier = carrier })
+      → (tree_with (known_by v.yard.setting.block g.blocks) (typed left)).setting ≡ t.setting
+      → Leads 0 (tree_with (known_by v.yard.setting.block g.blocks) (typed left)) g g v (record v { keeper = keeper; carrier = carrier })
   others-lead keeper carrier left more is whole keeps setting =
       lists-lead keeper carrier left 0 more is whole keeps (λ slice there. (let none = whole.slices.none in absurd (cc))) setting
 
   -- one on metadata
   pub quiet-leads : (keeper : Store) (carrier : Carriage) (left : RowMap) (own : ℕ) → keeper.rows ≡ Some left → Whole (typed left)
-      → Quiet (typed s.rows) (typed left) → (tree_with (told_by v.yard.setting.block g.blocks) (typed left)).setting ≡ t.setting
-      → Leads own (tree_with (told_by v.yard.setting.block g.blocks) (typed left)) g g v (record v { keeper = keeper; carrier = carrier })
+      → Quiet (typed s.rows) (typed left) → (tree_with (known_by v.yard.setting.block g.blocks) (typed left)).setting ≡ t.setting
+      → Leads own (tree_with (known_by v.yard.setting.block g.blocks) (typed left)) g g v (record v { keeper = keeper; carrier = carrier })
   quiet-leads keeper carrier left own is whole quiet setting = record {
     store = (others-lead keeper carrier left 0 is whole (keeps-quiet (typed s.rows) (typed left) quiet) setting).store;
     kept = keeps_left keeper carrier left g.sizes own is
@@ -148,8 +148,8 @@ module _ (t : Tree) (g : Known) (v : Shared) (s : HasStore t g v) where
   pub commit-leads : (keeper : Store) (carrier : Carriage) (left : RowMap) (f : Flight) (more : ℕ) → Flies g v f → IsComplete v.yard.setting.block f
       → keeper.rows ≡ Some left → Whole (typed left) → KeepsOthers f.id more (typed s.rows) (typed left)
       → ((slice : SliceRow) → slice_row_at (typed left) f.id ≡ Some slice → slice.size ≡ length f.bytes)
-      → (tree_with (told_by v.yard.setting.block g.blocks) (typed left)).setting ≡ t.setting
-      → Leads f.id (tree_with (told_by v.yard.setting.block g.blocks) (typed left)) g g v (record v { keeper = keeper; carrier = carrier })
+      → (tree_with (known_by v.yard.setting.block g.blocks) (typed left)).setting ≡ t.setting
+      → Leads f.id (tree_with (known_by v.yard.setting.block g.blocks) (typed left)) g g v (record v { keeper = keeper; carrier = carrier })
   commit-leads keeper carrier left f more flies complete is whole keeps long setting =
       lists-lead keeper carrier left f.id more is whole keeps
       (λ slice there. (
@@ -168,11 +168,11 @@ module _ (t : Tree) (g : Known) (v : Shared) (s : HasStore t g v) where
     numbered_stay : SlicesStay (typed s.rows) (typed left)
     numbered_stay = stay-counters (typed s.rows) (typed left) others
 
-    numbered_tree : tree_with (told_by v.yard.setting.block g.blocks) (typed left) ≡ t
+    numbered_tree : tree_with (known_by v.yard.setting.block g.blocks) (typed left) ≡ t
     numbered_tree =
-        same (bytes_of (told_by v.yard.setting.block g.blocks) (typed left))
+        same (bytes_of (known_by v.yard.setting.block g.blocks) (typed left))
         ∙ ap (λ (bytes : ℕ → ℕ → ℕ). tree_of bytes (typed s.rows))
-        (λ i inode p. bytes-stay (typed s.rows) (typed left) numbered_stay (told_by v.yard.setting.block g.blocks) inode p i)
+        (λ i inode p. bytes-stay (typed s.rows) (typed left) numbered_stay (known_by v.yard.setting.block g.blocks) inode p i)
         ∙ sym s.tree
 
     -- the sizes of slices that have numbers stay

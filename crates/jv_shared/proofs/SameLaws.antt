@@ -6,7 +6,7 @@ use Rattle.jv_model.specs.tree.Tree.{Tree}
 use Rattle.jv_outside.specs.Carriage.{Carriage}
 use Rattle.jv_outside.specs.Store.{Store}
 use Rattle.jv_volume.specs.TypedRows.{Rows, typed}
-use Rattle.jv_contents.specs.Blocks.{Blocks, Grows, HasBlocks, told_by}
+use Rattle.jv_contents.specs.Blocks.{Blocks, Grows, HasBlocks, known_by}
 use Rattle.jv_contents.specs.Bytes.{tree_with}
 use Rattle.jv_yard.specs.declared.faults.YardFault.{YardFault}
 use Rattle.jv_yard.specs.declared.faults.YardFault.TheVariants.{Depot, Shelf, Memory}
@@ -96,7 +96,7 @@ same-store t g v v' same s = record {
   staged_copies = λ client. subst (λ (blocks : Blocks). Grows blocks g.blocks) (staged_same client) (s.staged_copies client);
   kept = IsKept-same v.yard v'.yard same.setting same.blocks same.staged s.kept;
   below = s.below;
-  tree = s.tree ∙ ap (λ (x : Setting). tree_with (told_by x.block g.blocks) (typed s.rows)) (sym same.setting);
+  tree = s.tree ∙ ap (λ (x : Setting). tree_with (known_by x.block g.blocks) (typed s.rows)) (sym same.setting);
 }
   where
     staged_same : (client : ℕ) → staged_in v.yard s.staged client ≡ staged_in v'.yard s.staged client

@@ -16,13 +16,14 @@ use Rattle.jv_model.specs.blocks.Slices.{IsRecord, block_at, block_count, stored
 use Rattle.jv_model.specs.journal.Reading.{bytes_from}
 use Rattle.jv_model.specs.tree.Tree.{Content, Kind, File, Directory, Symlink, content_at}
 use Rattle.jv_model.specs.tree.Tree.{content_of as content_in}
+use Rattle.jv_model.specs.tree.Changes.{content_of}
 use Rattle.jv_volume.specs.TypedRows.{Rows}
 use Rattle.jv_volume.specs.Views.{row_in, records_in, lists_of, node_row_at}
-use Rattle.jv_volume.specs.TreeOf.{node_of, content_of}
+use Rattle.jv_volume.specs.TreeOf.{node_of}
 use Rattle.jv_volume.specs.Slices.{listed, next_slice, WholeSlices}
 use Rattle.jv_volume.proofs.TreeOfLaws.{node_at-tree_of}
-use Rattle.jv_contents.specs.Blocks.{Blocks, HasBlocks, IsThere, told_by}
-use Rattle.jv_contents.specs.Bytes.{Told, spot_byte, bytes_of, tree_with}
+use Rattle.jv_contents.specs.Blocks.{Blocks, HasBlocks, IsThere, known_by}
+use Rattle.jv_contents.specs.Bytes.{KnownBytes, spot_byte, bytes_of, tree_with}
 use Rattle.jv_contents.proofs.BlockLaws.{named_has_row}
 use Rattle.jv_contents.proofs.PlaceLaws.{place_in-window}
 use Rattle.jv_contents.proofs.WholeLaws.{all-mapped}
@@ -32,25 +33,25 @@ use Rattle.jv_shared.specs.Seen.{IsFound, ShowsWindow}
 -- ---- a look
 
 -- a file of a tree of rows has the bytes that are known of it
-pub byte_looked : (told : Told) (rows : Rows) (inode : ℕ) (content : Content) → content_at (tree_with told rows) inode ≡ Some content
-    → (p : ℕ) → p < content.length → content.byte p ≡ bytes_of told rows inode p
-byte_looked told rows inode content is p low =
-    by_row (node_row_at rows inode) (sym (ap content_in (node_at-tree_of (bytes_of told rows) rows inode)) ∙ is)
+pub byte_looked : (known_bytes : KnownBytes) (rows : Rows) (inode : ℕ) (content : Content) → content_at (tree_with known_bytes rows) inode ≡ Some content
+    → (p : ℕ) → p < content.length → content.byte p ≡ bytes_of known_bytes rows inode p
+byte_looked known_bytes rows inode content is p low =
+    by_row (node_row_at rows inode) (sym (ap content_in (node_at-tree_of (bytes_of known_bytes rows) rows inode)) ∙ is)
   where
     in_kind : Kind → Option Content
     in_kind kind = elim kind as (λ _. Option Content) [ File c ↦ Some c | Directory parent ↦ None | Symlink target ↦ None ]
 
     by_kind : (row : NodeRow) (file directory : Bool)
-        → in_kind (if file then File (content_of row.length (bytes_of told rows inode)) else if directory then Directory row.parent else Symlink row.target) ≡ Some content
-        → content.byte p ≡ bytes_of told rows inode p
+        → in_kind (if file then File (content_of row.length (bytes_of known_bytes rows inode)) else if directory then Directory row.parent else Symlink row.target) ≡ Some content
+        → content.byte p ≡ bytes_of known_bytes rows inode p
     by_kind row true directory e =
-        let same : content_of row.length (bytes_of told rows inode) ≡ content = cc in
+        let same : content_of row.length (bytes_of known_bytes rows inode) ≡ content = cc in
         let long : row.length ≡ content.length = ap (λ (c : Content). c.length) same in
-        sym (ap (λ (c : Content). c.byte p) same) ∙ ap (λ b. if b then bytes_of told rows inode p else 0) (lt-ltb p row.length (omega (arith, low, long)))
+        sym (ap (λ (c : Content). c.byte p) same) ∙ ap (λ b. if b then bytes_of known_bytes rows inode p else 0) (lt-ltb p row.length (omega (arith, low, long)))
     by_kind row false true e = absurd (cc)
     by_kind row false false e = absurd (cc)
 
-    by_row : (o : Option NodeRow) → content_in (option_map (node_of (bytes_of told rows inode)) o) ≡ Some content → content.byte p ≡ bytes_of told rows inode p
+    by_row : (o : Option NodeRow) → content_in (option_map (node_of (bytes_of known_bytes rows inode)) o) ≡ Some content → content.byte p ≡ bytes_of known_bytes rows inode p
     by_row None e = absurd (cc)
     by_row (Some row) e = by_kind row (row.kind == 1) (row.kind == 2) e
 
@@ -90,17 +91,17 @@ module _ (block : ℕ) (rows : Rows) (g : Known) (present : Blocks) (w : WholeSl
       by_test false = tt
 
   -- a look at a window of a file: its records show the file's bytes
-  pub looked_shows : (inode window : ℕ) (content : Content) → content_at (tree_with (told_by block g.blocks) rows) inode ≡ Some content
+  pub looked_shows : (inode window : ℕ) (content : Content) → content_at (tree_with (known_by block g.blocks) rows) inode ≡ Some content
       → ShowsWindow block rows g present window content.length (lists_of rows inode window) content
   looked_shows inode window content is = record {
     long = refl;
     records = records_found inode window;
-    bytes = λ place small low. byte_looked told rows inode content is (window * WINDOW + place) low
-        ∙ ap (spot_byte told) (place_in-window (lists_of rows inode) window place small);
+    bytes = λ place small low. byte_looked known_bytes rows inode content is (window * WINDOW + place) low
+        ∙ ap (spot_byte known_bytes) (place_in-window (lists_of rows inode) window place small);
   }
     where
-      told : Told
-      told = told_by block g.blocks
+      known_bytes : KnownBytes
+      known_bytes = known_by block g.blocks
 
 -- ---- reading
 
@@ -117,9 +118,9 @@ module _ (block : ℕ) (rows : Rows) (g : Known) (present : Blocks) (window leng
     (shows : ShowsWindow block rows g present window length list content) where
   -- a part of the window reads as the file did
   pub window_reads : (from n : ℕ) → from + n ≤ WINDOW → window * WINDOW + from + n ≤ length
-      → bytes_from (λ q. spot_byte (told_by block g.blocks) (stored_place list q)) from n ≡ bytes_from content.byte (window * WINDOW + from) n
+      → bytes_from (λ q. spot_byte (known_by block g.blocks) (stored_place list q)) from n ≡ bytes_from content.byte (window * WINDOW + from) n
   window_reads from n inside within =
-      bytes_from-same (λ q. spot_byte (told_by block g.blocks) (stored_place list q)) content.byte from (window * WINDOW + from) n
+      bytes_from-same (λ q. spot_byte (known_by block g.blocks) (stored_place list q)) content.byte from (window * WINDOW + from) n
       (λ k low. sym (shows.bytes (from + k) (omega (arith, low, inside)) (omega (arith, low, within))) ∙ ap content.byte (omega arith))
 
   -- what a record names is there

@@ -1,6 +1,7 @@
 -- Laws of what clients share: what a client sees of a store that is a tree's, and what keeps it one.
 use Rattle.std.proofs.Common.{◌≡◌, ℕ, ◌<◌, ◌≤◌, Bool, true, false, List, length, Option, None, Some, refl, sym, ap, subst, ◌∙◌, arith}
 use Rattle.std.specs.Prelude.{◌&&◌, Contains, if◌then◌else◌, is_some, IsSome}
+use Rattle.jv_model.specs.declared.limits.TheConstants.{LAST_CLIENT}
 use Rattle.jv_model.specs.declared.setting.Setting.{Setting}
 use Rattle.jv_model.specs.declared.slice.BlockId.{BlockId}
 use Rattle.jv_model.specs.declared.slice.Rec.{Rec}
@@ -8,6 +9,7 @@ use Rattle.jv_model.specs.rows.RowKeys.{RowMap}
 use Rattle.jv_model.specs.blocks.Slices.{block_at, block_count}
 use Rattle.jv_model.specs.tree.Tree.{Content, Tree, content_at}
 use Rattle.jv_model.proofs.TestLaws.{known_is}
+use Rattle.jv_model.specs.blocks.BlockNames.{name_in}
 use Rattle.jv_outside.specs.Blocks.{staged_at}
 use Rattle.jv_outside.specs.Objects.{ObjectMap, bytes_at}
 use Rattle.jv_volume.specs.TypedRows.{Rows, typed}
@@ -15,9 +17,9 @@ use Rattle.jv_volume.specs.Views.{lists_of}
 use Rattle.jv_contents.specs.Blocks.{Blocks, Grows, HasBlocks, IsThere}
 use Rattle.jv_contents.proofs.BlockLaws.{has_blocks-grow, there-grows}
 use Rattle.jv_yard.specs.BlockCalls.{IsBlockBy, IsBlockOf}
-use Rattle.jv_yard.specs.Contents.{blocks_in, is_block, name_in}
+use Rattle.jv_yard.specs.Contents.{blocks_in, is_block}
 use Rattle.jv_yard.specs.Staging.{staged_since}
-use Rattle.jv_yard.proofs.ContentsLaws.{is_block-tells, read-depot}
+use Rattle.jv_yard.proofs.ContentsLaws.{is_block-says, read-depot}
 use Rattle.jv_shared.specs.Shared.{HasStore, Known, Shared, depot_blocks, present_in, rows_in, typed_in}
 use Rattle.jv_shared.specs.Lengths.{IsLength}
 use Rattle.jv_shared.specs.Seen.{IsView, ShowsWindow}
@@ -78,7 +80,7 @@ module _ (t : Tree) (g : Known) (v : Shared) (s : HasStore t g v) where
       (subst (λ (x : Tree). content_at x inode ≡ Some content) s.tree is)))))
 
   -- What a client reads of a block that is there is known of it: its own staged copy, or the depot's.
-  pub block_read : (client : ℕ) (b : BlockId) (value : Option (List ℕ)) → client ≤ 7 → IsThere (present_in v) b
+  pub block_read : (client : ℕ) (b : BlockId) (value : Option (List ℕ)) → client ≤ LAST_CLIENT → IsThere (present_in v) b
       → IsBlockOf v.yard client (name_in v.yard.setting b) value → value ≡ g.blocks b
   block_read client b value low there read = by_since (staged_since client (name_in v.yard.setting b) v.yard.staged) refl
     where
@@ -97,7 +99,7 @@ module _ (t : Tree) (g : Known) (v : Shared) (s : HasStore t g v) where
 
       by_since : (o : Option ℕ) → staged_since client (name_in v.yard.setting b) v.yard.staged ≡ o → value ≡ g.blocks b
       by_since None e =
-          read-depot v.yard s.objects client b value s.objects_are (is_block-tells v.yard.setting.block b passes) e read
+          read-depot v.yard s.objects client b value s.objects_are (is_block-says v.yard.setting.block b passes) e read
           ∙ here ∙ sym (s.copies b there.bytes here)
       by_since (Some since) e =
           let staged : IsSome (staged_since client (name_in v.yard.setting b) v.yard.staged) = ap is_some e in
@@ -115,7 +117,7 @@ module _ (t : Tree) (g : Known) (v : Shared) (s : HasStore t g v) where
   pub named_read : (window length : ℕ) (list : List Rec) (content : Content) → IsView g v window length list content
       → (b : BlockId) (r : Rec) → Contains list r → 0 < r.id → b.index < block_count r.size v.yard.setting.block
       → b ≡ block_at r.id r.size v.yard.setting.block b.index
-      → (client : ℕ) (value : Option (List ℕ)) → client ≤ 7 → IsBlockOf v.yard client (name_in v.yard.setting b) value
+      → (client : ℕ) (value : Option (List ℕ)) → client ≤ LAST_CLIENT → IsBlockOf v.yard client (name_in v.yard.setting b) value
       → (value ≡ g.blocks b) × IsThere g.blocks b
   named_read window length list content view b r among some below is client value low read =
       let there = named_there v.yard.setting.block (rows_in v) g (present_in v) window length list content view b r among some below is in

@@ -7,7 +7,7 @@ use Rattle.jv_model.specs.blocks.Slices.{IsRecord, block_at, block_count, stored
 use Rattle.jv_model.specs.tree.Tree.{Content}
 use Rattle.jv_volume.specs.TypedRows.{Rows}
 use Rattle.jv_volume.specs.Slices.{next_slice}
-use Rattle.jv_contents.specs.Blocks.{Blocks, IsThere, told_by}
+use Rattle.jv_contents.specs.Blocks.{Blocks, IsThere, known_by}
 use Rattle.jv_contents.specs.Bytes.{spot_byte}
 use Rattle.jv_shared.specs.Shared.{Known, Shared, present_in, rows_in}
 
@@ -28,7 +28,7 @@ pub record ShowsWindow (block : ℕ) (rows : Rows) (g : Known) (present : Blocks
   pub long : content.length ≡ length
   pub records : AllByRecursion (IsFound block rows g present) list
   pub bytes : (place : ℕ) → place < WINDOW → window * WINDOW + place < length
-      → content.byte (window * WINDOW + place) ≡ spot_byte (told_by block g.blocks) (stored_place list place)
+      → content.byte (window * WINDOW + place) ≡ spot_byte (known_by block g.blocks) (stored_place list place)
 
 -- a view of a window of a file, over what clients share
 abbrev pub IsView : Known → Shared → ℕ → ℕ → List Rec → Content → Type 0

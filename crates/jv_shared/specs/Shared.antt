@@ -7,6 +7,7 @@ use Rattle.jv_model.specs.FiniteMap.{empty_map}
 use Rattle.jv_model.specs.blocks.Slices.{is_same_block}
 use Rattle.jv_model.specs.rows.RowKeys.{RowMap}
 use Rattle.jv_model.specs.tree.Tree.{Tree}
+use Rattle.jv_model.specs.blocks.BlockNames.{name_in}
 use Rattle.jv_outside.specs.Blocks.{StagedMap, staged_at}
 use Rattle.jv_outside.specs.Carriage.{Carriage}
 use Rattle.jv_outside.specs.Objects.{ObjectMap}
@@ -15,9 +16,9 @@ use Rattle.jv_volume.specs.TypedRows.{Rows, typed}
 use Rattle.jv_volume.specs.Views.{setting_at, slice_row_at}
 use Rattle.jv_volume.specs.Slices.{ListsHave}
 use Rattle.jv_volume.specs.Whole.{Whole}
-use Rattle.jv_contents.specs.Blocks.{AreBelow, Blocks, Grows, HasBlocks, told_by}
+use Rattle.jv_contents.specs.Blocks.{AreBelow, Blocks, Grows, HasBlocks, known_by}
 use Rattle.jv_contents.specs.Bytes.{tree_with}
-use Rattle.jv_yard.specs.Contents.{blocks_in, is_block, name_in}
+use Rattle.jv_yard.specs.Contents.{blocks_in, is_block}
 use Rattle.jv_yard.specs.Staging.{staged_since}
 use Rattle.jv_yard.specs.YardValue.{IsKept, YardValue}
 
@@ -83,4 +84,4 @@ pub record HasStore (t : Tree) (g : Known) (v : Shared) : Type 0 where
   pub staged_copies : (client : ℕ) → Grows (staged_in v.yard staged client) g.blocks
   pub kept : IsKept v.yard
   pub below : AreBelow (typed rows) g.blocks
-  pub tree : t ≡ tree_with (told_by v.yard.setting.block g.blocks) (typed rows)
+  pub tree : t ≡ tree_with (known_by v.yard.setting.block g.blocks) (typed rows)

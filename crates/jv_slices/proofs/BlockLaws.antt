@@ -4,6 +4,7 @@ use Rattle.std.specs.List.{range_with_len}
 use Rattle.std.proofs.lemmas.Nat.{div-add-mod', mod_below, le-div, mul-le}
 use Rattle.std.proofs.lemmas.Bool.{cases_lt}
 use Rattle.std.proofs.Math.Nat.{add-mul-div_right}
+use Rattle.jv_model.specs.declared.limits.TheConstants.{WINDOW, MIN_BLOCK, MAX_BLOCKS}
 use Rattle.jv_model.specs.blocks.Slices.{block_count, block_length, block_lengths}
 
 -- the index of a place's block is below the number of blocks
@@ -41,7 +42,7 @@ div_few a n block some =
     omega (arith, div_rises (a + n) (a + n * block) block some more, add-mul-div_right a n some)
 
 -- a place of a window is in one of its blocks
-pub index_low : (place index block : ℕ) → 65536 ≤ block → place < 67108864 → index ≤ place / block → index < 1024
+pub index_low : (place index block : ℕ) → MIN_BLOCK ≤ block → place < WINDOW → index ≤ place / block → index < MAX_BLOCKS
 index_low place index block wide inside low =
-    ⊎_elim (λ (below : place / block < 1024). omega (arith, low, below))
-    (λ (above : 1024 ≤ place / block). absurd (omega (arith, inside, div-add-mod' place block, mul-le 1024 65536 (place / block) block above wide))) (cases_lt (place / block) 1024)
+    ⊎_elim (λ (below : place / block < MAX_BLOCKS). omega (arith, low, below))
+    (λ (above : MAX_BLOCKS ≤ place / block). absurd (omega (arith, inside, div-add-mod' place block, mul-le MAX_BLOCKS MIN_BLOCK (place / block) block above wide))) (cases_lt (place / block) MAX_BLOCKS)

@@ -11,6 +11,7 @@ use Rattle.std.proofs.lemmas.List.Concat.{flat_map-cons}
 use Rattle.std.proofs.lemmas.List.Elements.{All-head, All-tail, All-push, All-append}
 use Rattle.std.proofs.lemmas.List.FromFn.{length-map-range_with_len}
 use Rattle.std.proofs.lemmas.List.Folds.{list_any-append}
+use Rattle.jv_model.specs.declared.limits.TheConstants.{MIN_BLOCK, MAX_BLOCKS}
 use Rattle.jv_model.specs.declared.slice.BlockId.{BlockId}
 use Rattle.jv_model.specs.declared.slice.Piece.{Piece}
 use Rattle.jv_model.specs.declared.slice.Rec.{Rec}
@@ -179,24 +180,24 @@ listed_All P keys (b ∷ bs) h k =
     (cases_Bool (list_any (is_same_block b) keys)) in
     listed_All P (with_block keys b) bs one (All-tail P b bs k)
 
-range_low : (id size block start n : ℕ) → ((index : ℕ) → start ≤ index → index < start + n → index < 1024) → All (λ (b : BlockId). b.index < 1024) (map (block_at id size block) (range_with_len start n))
+range_low : (id size block start n : ℕ) → ((index : ℕ) → start ≤ index → index < start + n → index < MAX_BLOCKS) → All (λ (b : BlockId). b.index < MAX_BLOCKS) (map (block_at id size block) (range_with_len start n))
 range_low id size block start zero h = λ k d below. absurd (omega arith)
 range_low id size block start (suc n) h =
-    let P : BlockId → Type 0 = λ b. b.index < 1024 in
+    let P : BlockId → Type 0 = λ b. b.index < MAX_BLOCKS in
     All-append P (block_at id size block start ∷ []) (map (block_at id size block) (range_with_len (start + 1) n))
     (All-push P [] (block_at id size block start) (λ k d below. absurd (omega arith)) (h start (omega arith) (omega arith))) (range_low id size block (start + 1) n (λ index low high. h index (omega arith) (omega arith)))
 
-piece_low : (block len : ℕ) (spot : Spot) → 65536 ≤ block → 1 ≤ len → LiesIn len spot → FitsWindow spot → All (λ (b : BlockId). b.index < 1024) (blocks_under block len spot)
+piece_low : (block len : ℕ) (spot : Spot) → MIN_BLOCK ≤ block → 1 ≤ len → LiesIn len spot → FitsWindow spot → All (λ (b : BlockId). b.index < MAX_BLOCKS) (blocks_under block len spot)
 piece_low block len Zero wide some lies fits = λ k d below. absurd (omega arith)
 piece_low block len (Slice id size at) wide some lies fits =
     let rises : at / block ≤ (at + len - 1) / block = div_rises at (at + len - 1) block (omega arith) (omega arith) in
     range_low id size block (at / block) ((at + len - 1) / block + 1 - at / block)
     (λ index low high. index_low (at + len - 1) index block wide (omega (arith, lies, fits)) (omega (arith, rises, low, high)))
 
-pieces_low : (block : ℕ) (pieces : List Piece) → 65536 ≤ block → All IsPart pieces → All (λ (p : Piece). FitsWindow p.spot) pieces → All (λ (b : BlockId). b.index < 1024) (flat_map (blocks_of_piece block) pieces)
+pieces_low : (block : ℕ) (pieces : List Piece) → MIN_BLOCK ≤ block → All IsPart pieces → All (λ (p : Piece). FitsWindow p.spot) pieces → All (λ (b : BlockId). b.index < MAX_BLOCKS) (flat_map (blocks_of_piece block) pieces)
 pieces_low block [] wide parts fits = λ k d below. absurd (omega arith)
 pieces_low block (p ∷ ps) wide parts fits =
-    let P : BlockId → Type 0 = λ b. b.index < 1024 in
+    let P : BlockId → Type 0 = λ b. b.index < MAX_BLOCKS in
     let part : IsPart p = All-head IsPart p ps parts in
     let fit : FitsWindow p.spot = All-head (λ (q : Piece). FitsWindow q.spot) p ps fits in
     subst (λ (bs : List BlockId). All P bs) (sym (flat_map-cons (blocks_of_piece block) p ps))
@@ -206,4 +207,4 @@ pieces_low block (p ∷ ps) wide parts fits =
 pub indexes_are_low : IndexesAreLow
 unfolding needed_blocks
 indexes_are_low block pieces wide parts fits =
-    listed_All (λ (b : BlockId). b.index < 1024) [] (flat_map (blocks_of_piece block) pieces) (λ k d below. absurd (omega arith)) (pieces_low block pieces wide parts fits)
+    listed_All (λ (b : BlockId). b.index < MAX_BLOCKS) [] (flat_map (blocks_of_piece block) pieces) (λ k d below. absurd (omega arith)) (pieces_low block pieces wide parts fits)

@@ -8,7 +8,7 @@ use Rattle.jv_model.specs.declared.slice.Piece.{Piece}
 use Rattle.jv_model.specs.declared.slice.Spot.{Spot}
 use Rattle.jv_model.specs.declared.slice.Spot.TheVariants.{Zero, Slice}
 use Rattle.jv_model.specs.declared.slice.BlockId.{BlockId}
-use Rattle.jv_model.specs.blocks.BlockNames.{block_name_of}
+use Rattle.jv_model.specs.blocks.BlockNames.{name_in}
 use Rattle.jv_model.specs.blocks.Slices.{IsPlan, IsPart, is_same_block, block_at, blocks_of_piece, needed_blocks}
 
 -- a list has one plan of a range
@@ -57,4 +57,4 @@ pub record HasWidths (block : BlockId) : Type 0 where
 -- two blocks of a volume have two names
 abbrev pub NamesAreDistinct : Type 0
 NamesAreDistinct = (setting : Setting) (a b : BlockId) → HasWidths a → HasWidths b
-    → block_name_of setting a.id a.index a.size ≡ block_name_of setting b.id b.index b.size → a ≡ b
+    → name_in setting a ≡ name_in setting b → a ≡ b

@@ -28,7 +28,8 @@ pub fn block_len(size: u32, block: u32, index: u32) -> u32
     block.min(size - index * block)
 }
 
-/// The blocks that pieces need, each once, as a reader reaches them from piece to piece.
+/// The blocks that pieces need, each once, as a reader reaches them from piece to piece. Lengths are in bytes. The only
+/// error is out of memory.
 #[tactic(auto, unfolding(jv_model::specs::blocks::Slices::needed_blocks))]
 pub fn needs(alloc: Global, pieces: &Pieces, block: u32) -> Result<BlockKeys, AllocError>
     requires some { 0 < block }
@@ -48,7 +49,7 @@ pub fn needs(alloc: Global, pieces: &Pieces, block: u32) -> Result<BlockKeys, Al
 const FEW: usize = 8;
 
 /// The set of the listed blocks, still empty, or no set where they will be few.
-fn no_blocks(alloc: Global, pieces: &[Piece], block: u32) -> Option<BTreeSet<Listed>>
+fn no_blocks(alloc: Global, pieces: &[Piece], block: u32) -> Option<BTreeSet<OrderedBlock>>
     ensures listed { ListsIn [] result }
     ensures few { IsNone result ↔ AreFew block pieces.now }
 {
@@ -66,17 +67,17 @@ pub fn are_few(pieces: &[Piece], block: u32) -> bool
     pieces.len() <= FEW && pieces.iter().all(|piece| piece.len <= block)
 }
 
-/// A block in the order of the set of those that are listed.
-#[derive(Clone, Copy, Debug, PartialEq, Eq, PartialOrd, Ord)]
-struct Listed {
-    id: u64,
-    index: u32,
-    size: u32,
+/// A block in the order of sets and maps: by id, index and size.
+#[derive(Clone, Copy, Debug, Drop, PartialEq, Eq, PartialOrd, Ord)]
+pub struct OrderedBlock {
+    pub id: u64,
+    pub index: u32,
+    pub size: u32,
 }
 
 fn add_piece(
     keys: &mut Vec<BlockId>,
-    listed: &mut Option<BTreeSet<Listed>>,
+    listed: &mut Option<BTreeSet<OrderedBlock>>,
     piece: Piece,
     block: u32,
 ) -> Result<(), AllocError>
@@ -101,7 +102,7 @@ fn add_piece(
 
 fn add_block(
     keys: &mut Vec<BlockId>,
-    listed: &mut Option<BTreeSet<Listed>>,
+    listed: &mut Option<BTreeSet<OrderedBlock>>,
     block: BlockId,
 ) -> Result<(), AllocError>
     requires listed { ListsIn keys.old.items listed.old }
@@ -117,7 +118,7 @@ fn add_block(
 /// Whether a block isn't among the keys. The set has it afterwards, where there is one.
 fn is_new(
     keys: &[BlockId],
-    listed: &mut Option<BTreeSet<Listed>>,
+    listed: &mut Option<BTreeSet<OrderedBlock>>,
     block: BlockId,
 ) -> Result<bool, AllocError>
     requires listed { ListsIn keys.now listed.old }
@@ -128,7 +129,7 @@ fn is_new(
         return Ok(!has_block(keys, block));
     };
     let BlockId { id, index, size } = block;
-    Ok(set.insert(Listed { id, index, size })?)
+    Ok(set.insert(OrderedBlock { id, index, size })?)
 }
 
 fn has_block(keys: &[BlockId], block: BlockId) -> bool

@@ -5,7 +5,8 @@ ghost use Rattle.jv_model.specs.blocks.BlockNames.{upper_digit, upper_pair};
 use itoa::Buffer;
 use std::alloc::AllocError;
 
-/// Adds the decimal digits of a number, without leading zeros.
+/// Adds the decimal digits of a number, without leading zeros. The only error is out of memory, after which the text is
+/// of no use.
 #[tactic(auto, using(std::proofs::lemmas::Fmt::decimal_digit))]
 pub fn push_decimal(text: &mut Vec<u8>, number: u64) -> Result<(), AllocError>
     ensures { OnOk result (text.new.items ≡ text.old.items ++ decimal number) }

@@ -9,7 +9,7 @@ mod name_parsing;
 mod name_spelling;
 mod plans;
 
-pub use blocks::{are_few, block_len, blocks_of, needs};
+pub use blocks::{OrderedBlock, are_few, block_len, blocks_of, needs};
 pub use digits::{push_decimal, upper_pair};
 pub use laws::{
     indexes_are_low, names_are_distinct, needs_are_few, needs_are_once, needs_are_those,

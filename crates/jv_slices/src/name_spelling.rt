@@ -9,7 +9,7 @@ use std::alloc::{AllocError, Global};
 const ROOM: usize = 32;
 
 /// The name of a block as an object: of the block at `index` of the slice `id`, which has `size` bytes. Any numbers are
-/// spelled, also those of no block.
+/// spelled, also those of no block. The only error is out of memory.
 #[tactic(auto, unfolding(jv_model::specs::blocks::BlockNames::block_name_of))]
 pub fn block_name(
     alloc: Global,

@@ -1,22 +1,16 @@
 ghost use Rattle.std.specs.Prelude.{All, IfOk};
 ghost use Rattle.jv_model.specs.blocks.Slices.{IsRecord};
 
-use jv_model::{BlockId, List, Piece, Rec, Setting, Spot, copied};
+use jv_model::{BlockId, List, Piece, Rec, Setting, Spot};
+use jv_samples::setting;
 use jv_slices::{block_len, block_name, blocks_of, byte_at, needs, parse_block_name, plan};
 use std::alloc::{AllocError, Global};
 use std::test::Fail;
 
-fn setting(alloc: Global, hash: u8) -> Result<Setting, AllocError> {
-    Ok(Setting {
-        version: 1,
-        block: 65_536,
-        trash_days: 1,
-        capacity: 0,
-        inodes: 0,
-        hash,
-        name: copied(alloc, b"test")?,
-        bucket: copied(alloc, b"/tmp")?,
-    })
+fn setting_with(alloc: Global, hash: u8) -> Result<Setting, AllocError> {
+    let mut setting = setting(alloc)?;
+    setting.hash = hash;
+    Ok(setting)
 }
 
 #[test]
@@ -48,7 +42,7 @@ fn a_name_is_spelled_and_read_again(rt: HostRuntime) -> Result<(), Fail> {
         ),
     ];
     for (row, hash, id, index, size, text) in rows {
-        let setting = setting(rt.alloc(), hash)?;
+        let setting = setting_with(rt.alloc(), hash)?;
         let name = block_name(rt.alloc(), &setting, id, index, size)?;
         assert_eq!(rt; name.as_slice(), text.as_bytes(), "{row}");
         let block = BlockId { id, index, size };
@@ -88,16 +82,16 @@ fn a_later_record_parts_an_earlier_one(rt: HostRuntime) -> Result<(), Fail> {
     let pieces = plan(rt.alloc(), &list, 0, 12)?;
     let of = |id, size, at| Spot::Slice { id, size, at };
     let wanted = [
-        (0, 3, of(1, 10, 0)),
-        (3, 2, of(2, 2, 0)),
-        (5, 5, of(1, 10, 5)),
-        (10, 2, Spot::Zero),
+        ("before it", 0, 3, of(1, 10, 0)),
+        ("the later one", 3, 2, of(2, 2, 0)),
+        ("behind it", 5, 5, of(1, 10, 5)),
+        ("past both", 10, 2, Spot::Zero),
     ];
     assert_eq!(rt; pieces.len(), wanted.len());
-    for ((from, len, spot), piece) in wanted.iter().zip(pieces.as_slice()) {
+    for ((name, from, len, spot), piece) in wanted.iter().zip(pieces.as_slice()) {
         let (from, len, spot) = (*from, *len, *spot);
-        assert_eq!(rt; *piece, Piece { from, len, spot });
-        assert_eq!(rt; byte_at(&list, from), spot);
+        assert_eq!(rt; *piece, Piece { from, len, spot }, "{name}");
+        assert_eq!(rt; byte_at(&list, from), spot, "{name}");
     }
     let keys = needs(rt.alloc(), &pieces, 6)?;
     let wanted = [(1, 0, 6), (2, 0, 2), (1, 1, 4)].map(|(id, index, size)| BlockId {

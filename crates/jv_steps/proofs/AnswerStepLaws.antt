@@ -2,7 +2,7 @@
 use Rattle.std.proofs.Common.{◌≡◌, ℕ, Bool, true, false, List, [], ◌∷◌, length, Option, None, Some, refl, ap, subst}
 use Rattle.std.proofs.Common.{◌∙◌}
 use Rattle.std.specs.Option.{option_map}
-use Rattle.std.specs.Prelude.{◌||◌, if◌then◌else◌, filter, not, ◌==◌}
+use Rattle.std.specs.Prelude.{◌||◌, if◌then◌else◌, filter, not, ◌==◌, unwrap_or}
 use Rattle.jv_model.specs.declared.act.ActKind.TheVariants.{Answered}
 use Rattle.jv_model.specs.declared.act.Told.{Told}
 use Rattle.jv_model.specs.declared.act.Told.TheVariants.{Fine, Looks}
@@ -20,7 +20,7 @@ use Rattle.jv_model.specs.client.Profile.{handle_of}
 use Rattle.jv_model.specs.client.Submission.{is_flushed}
 use Rattle.jv_model.specs.journal.State.{State, after_told, answer_then, is_of_another}
 use Rattle.jv_model.specs.journal.Steps.{Start, AtOnce, CountsCache, MayAnswer, file_in_use, is_failure, told_of}
-use Rattle.jv_model.specs.journal.Past.{or_no_bytes, reply_of, told_reply}
+use Rattle.jv_model.specs.journal.Past.{reply_of, told_reply}
 use Rattle.jv_model.specs.journal.Reading.{reading}
 use Rattle.jv_steps.specs.IsStep.{IsStep}
 use Rattle.jv_steps.proofs.ReadyLaws.{ready-at}
@@ -85,15 +85,15 @@ module _ (start : Start) (alone : Bool) (s : State) (client now : ℕ) (d : Doin
   nothing_in : Option OpenFile → List ℕ
   nothing_in o = elim o as (λ _. List ℕ) [
     | None ↦ []
-    | Some file ↦ or_no_bytes
-        (reading mine.views (handle_of d.op) file [] 0 0)
+    | Some file ↦ unwrap_or
+        (reading mine.views (handle_of d.op) file [] 0 0) []
   ]
 
   nothing-read : (o : Option OpenFile)
       → elim o as (λ _. List ℕ) [
         | None ↦ []
-        | Some file ↦ or_no_bytes
-            (reading mine.views (handle_of d.op) file [] 0 0)
+        | Some file ↦ unwrap_or
+            (reading mine.views (handle_of d.op) file [] 0 0) []
       ] ≡ []
   nothing-read None = refl
   nothing-read (Some file) = refl

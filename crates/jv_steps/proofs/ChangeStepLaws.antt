@@ -19,10 +19,10 @@ use Rattle.jv_model.specs.tree.FileBytes.{truncate, truncated, copy, copied}
 use Rattle.jv_model.specs.client.ModelClient.{ModelClient, Doing, Working, Replying, inode_at}
 use Rattle.jv_model.specs.client.Profile.{handle_of}
 use Rattle.jv_model.specs.client.Submission.{is_flushed}
-use Rattle.jv_model.specs.journal.State.{State, after_told, caller, is_refused, refusal_in, transacted}
+use Rattle.jv_model.specs.journal.State.{State, after_told, caller, is_refused, refusal_in, transacted, without_views}
 use Rattle.jv_model.specs.journal.Steps.{Start, Settles, change_entry, is_crowded}
 use Rattle.jv_steps.specs.IsStep.{IsStep, at_stage}
-use Rattle.jv_steps.specs.Stages.{changes_files, without_views}
+use Rattle.jv_steps.specs.Stages.{changes_files}
 use Rattle.jv_steps.proofs.ReadyLaws.{ready-at, quiet-changes, quieted-changes}
 use Rattle.jv_steps.proofs.StepFormLaws.{step-answered}
 use Rattle.jv_steps.proofs.TreeChangeLaws.{IsCalm, copy-calm, copy-ok, truncate-calm, truncate-ok}

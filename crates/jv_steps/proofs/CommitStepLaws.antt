@@ -22,11 +22,10 @@ use Rattle.jv_model.specs.client.Profile.{handle_of}
 use Rattle.jv_model.specs.client.Submission.{next_segment}
 use Rattle.jv_model.specs.client.ModelClient.{ModelClient, Doing, Stage, Working, Replying, is_last_of_removed}
 use Rattle.jv_model.specs.journal.State.{State, after_told, answer_then, committed_stage, finished, has_session}
-use Rattle.jv_model.specs.journal.State.{with_client}
+use Rattle.jv_model.specs.journal.State.{with_client, without_committed}
 use Rattle.jv_model.specs.journal.Steps.{Start, Commits, Settles, is_failure, told_of}
 use Rattle.jv_steps.specs.Leaves.{Leaves}
 use Rattle.jv_steps.specs.IsStep.{IsStep, at_stage}
-use Rattle.jv_steps.specs.WithoutCommitted.{without_committed}
 use Rattle.jv_steps.proofs.StepFormLaws.{leaves-one, requested, step-answered, step-on, with_stage-doing}
 
 -- what an operation that is done leaves of a client doesn't depend on how far it was

@@ -9,11 +9,10 @@ use Rattle.jv_model.specs.declared.fault.Fault.{Fault}
 use Rattle.jv_model.specs.declared.fault.Fault.TheVariants.{NoSpace, Stale, TimedOut}
 use Rattle.jv_model.specs.declared.fault.Gone.TheVariants.{Session, Node as GoneNode}
 use Rattle.jv_model.specs.declared.op.Reply.TheVariants.{Done}
-use Rattle.jv_model.specs.FiniteMap.{get}
 use Rattle.jv_model.specs.tree.Attempt.{◌>>=◌, require, some_or}
 use Rattle.jv_model.specs.tree.Caller.{Outcome, done}
 use Rattle.jv_model.specs.tree.Tree.{Tree, Content, Node, content_at, content_of, fits, node_at}
-use Rattle.jv_model.specs.tree.FileBytes.{committed}
+use Rattle.jv_model.specs.tree.FileBytes.{commit_of, committed}
 use Rattle.jv_model.specs.client.Pending.{Segment, bytes_in_range}
 use Rattle.jv_model.specs.client.Submission.{next_segment}
 use Rattle.jv_model.specs.client.ModelClient.{ModelClient, Doing, Working, session_of}
@@ -21,21 +20,6 @@ use Rattle.jv_model.specs.journal.State.{State, has_session}
 use Rattle.jv_model.specs.journal.Steps.{Start, Commits, is_crowded}
 use Rattle.jv_steps.specs.RefusesCommit.{RefusesCommit, Late, NoFile, NoRoom, NoSession}
 use Rattle.jv_steps.proofs.CommitStepLaws.{commits-may}
-
--- the length of a file, as a session sees it
-abbrev length_tested : ℕ → ℕ → Tree → Result ℕ Fault
-length_tested sid inode t = do
-  _ ← require (is_some (get t.sessions sid)) (Stale (Session sid))
-  content ← some_or (content_at t inode) (Stale (GoneNode inode))
-  Ok content.length
-
--- the tree after a commit of bytes to a file by a session, whose first block was put at a moment; or its refusal
-abbrev pub commit_tested : (sid inode from : ℕ) → List ℕ → (started now : ℕ) → Tree → Result Tree Fault
-commit_tested sid inode from bytes started now t = do
-  _ ← length_tested sid inode t
-  _ ← require (nat_lt now (started + UPLOAD_LIFE)) (TimedOut started now)
-  _ ← require (fits t (committed t now inode from bytes)) NoSpace
-  Ok (committed t now inode from bytes)
 
 -- the same as the outcome of a transaction, which has its tree or its refusal
 
@@ -72,7 +56,7 @@ module _ (s : State) (now : ℕ) (c : ModelClient) (segment : Segment) (started 
       (λ _. some_or content (Stale (GoneNode segment.inode)) >>= (λ content. Ok content.length)))
       >>= (λ _. require in_time (TimedOut started now) >>= (λ _. require room NoSpace >>= (λ _. Ok left_by)))
 
-  -- what a commit wants
+  -- what a commit needs
   abbrev IsAllowed : Type 0
   IsAllowed =
       IsTrue (has_session s.tree c) × IsTrue (is_some (node_at s.tree segment.inode)) × (now < started + UPLOAD_LIFE)
@@ -98,7 +82,7 @@ module _ (s : State) (now : ℕ) (c : ModelClient) (segment : Segment) (started 
       )
 
   pub tests-allow : (left : Tree)
-      → commit_tested (session_of c) segment.inode segment.from bytes started now s.tree ≡ Ok left
+      → commit_of (session_of c) segment.inode segment.from bytes started now s.tree ≡ Ok left
       → IsAllowed × (left ≡ left_by)
   tests-allow left e =
       allowed_by (has_session s.tree c) (content_at s.tree segment.inode) (nat_lt now (started + UPLOAD_LIFE))
@@ -106,7 +90,7 @@ module _ (s : State) (now : ℕ) (c : ModelClient) (segment : Segment) (started 
 
   -- the commit may stand
   pub tests-commit : (d : Doing) (quiets : ℕ) (left : Tree)
-      → commit_tested (session_of c) segment.inode segment.from bytes started now s.tree ≡ Ok left
+      → commit_of (session_of c) segment.inode segment.from bytes started now s.tree ≡ Ok left
       → d.stage ≡ Working quiets started → 2 ≤ quiets → c.writeback ≡ false
       → next_segment d.flush c.pending ≡ Some segment
       → Commits s now c d segment.inode segment.from segment.len 0
@@ -141,7 +125,7 @@ module _ (s : State) (now : ℕ) (c : ModelClient) (segment : Segment) (started 
 
     -- the first test that fails refuses it; where no file is there is no other node
     pub tests-refuse : (fault : Fault)
-        → commit_tested (session_of c) segment.inode segment.from bytes started now s.tree ≡ Err fault
+        → commit_of (session_of c) segment.inode segment.from bytes started now s.tree ≡ Err fault
         → (content_at s.tree segment.inode ≡ None → node_at s.tree segment.inode ≡ None)
         → RefusesCommit start s now c segment started fault
     tests-refuse fault e file =

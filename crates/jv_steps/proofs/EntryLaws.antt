@@ -9,10 +9,9 @@ use Rattle.jv_model.specs.tree.FileBytes.{truncated, copied}
 use Rattle.jv_model.specs.client.ModelClient.{ModelClient, Doing, Stage, Replying, with_stage}
 use Rattle.jv_model.specs.journal.State.{State, after_quiet, after_look, after_truncation, after_copy, after_told}
 use Rattle.jv_model.specs.journal.State.{quieted, view_now, looked, compaction_looked}
-use Rattle.jv_model.specs.journal.State.{is_compaction, with_client}
+use Rattle.jv_model.specs.journal.State.{is_compaction, with_client, with_look, without_views}
 use Rattle.jv_steps.specs.Leaves.{Leaves}
 use Rattle.jv_steps.specs.IsStep.{at_stage}
-use Rattle.jv_steps.specs.Stages.{with_look, without_views}
 use Rattle.jv_steps.proofs.CommitStepLaws.{finished-doing}
 use Rattle.jv_steps.proofs.FlushStepLaws.{refused-doing}
 use Rattle.jv_steps.proofs.StepFormLaws.{with_stage-doing, leaves-one}

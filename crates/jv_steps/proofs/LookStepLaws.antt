@@ -17,7 +17,7 @@ use Rattle.jv_model.specs.client.ModelClient.{ModelClient, OpenFile, Doing, Stag
 use Rattle.jv_model.specs.client.ModelClient.{inode_at, inode_in}
 use Rattle.jv_model.specs.client.Profile.{handle_of}
 use Rattle.jv_model.specs.journal.State.{State, after_told, has_session, is_compaction, look_refusal, looked}
-use Rattle.jv_model.specs.journal.State.{quieted, sees_first, is_of_another}
+use Rattle.jv_model.specs.journal.State.{quieted, sees_first, is_of_another, with_look, sees}
 use Rattle.jv_model.specs.journal.Steps.{Start, IsRefusedIn, SessionGone, InodeGone, LooksAt, CompactionLooks}
 use Rattle.jv_model.specs.journal.Steps.{MayStep, MayAnswer, Refuses, Settles, file_in_use, is_missing}
 use Rattle.jv_model.specs.journal.Steps.{may_be_quiet, may_read_on, window_to_look}
@@ -25,7 +25,7 @@ use Rattle.jv_model.specs.journal.Past.{reply_of}
 use Rattle.jv_model.specs.journal.Reading.{Asked, asked_parts, fresh_view, part_to_look}
 use Rattle.jv_steps.specs.IsStep.{IsStep, at_stage}
 use Rattle.jv_steps.specs.Leaves.{Leaves}
-use Rattle.jv_steps.specs.Stages.{MayRead, Begins, GoesOn, with_look}
+use Rattle.jv_steps.specs.Stages.{MayRead, Begins, GoesOn}
 use Rattle.jv_steps.proofs.ReadyLaws.{quieted-reads, quiet-reads}
 use Rattle.jv_steps.proofs.StepFormLaws.{requested, step-on, step-answered}
 use Rattle.jv_steps.proofs.EntryLaws.{told-staged, leaves-look, leaves-quiet}
@@ -63,16 +63,10 @@ window-needed c d misses offset len does may file =
     by_part None = refl
     by_part (Some asked) = refl
 
--- whether a reading has a view of its first window
-abbrev sees_by : ModelClient → ℕ → Option OpenFile → List Asked → Bool
-sees_by c handle None parts = false
-sees_by c handle (Some file) [] = false
-sees_by c handle (Some file) (asked ∷ others) = is_some (fresh_view c.views handle file asked.window)
-
 pub sees_first-is : (c : ModelClient) (d : Doing) (file : OpenFile) → file_in_use c d ≡ Some file → (asked : Asked)
     (others : List Asked)
     → sees_first c d (asked ∷ others) ≡ is_some (fresh_view c.views (handle_of d.op) file asked.window)
-sees_first-is c d file opened asked others = ap (λ o. sees_by c (handle_of d.op) o (asked ∷ others)) opened
+sees_first-is c d file opened asked others = ap (λ o. sees c (handle_of d.op) o (asked ∷ others)) opened
 
 -- ---- why a look is refused
 

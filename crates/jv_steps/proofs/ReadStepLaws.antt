@@ -1,7 +1,7 @@
 -- Steps of a reading that ask for a block, or that answer with what was read.
 use Rattle.std.proofs.Common.{◌≡◌, ℕ, Bool, true, false, List, [], ◌∷◌, length, Option, None, Some, refl, ap, subst}
 use Rattle.std.proofs.Common.{◌∙◌}
-use Rattle.std.specs.Prelude.{◌||◌, not, is_some}
+use Rattle.std.specs.Prelude.{◌||◌, not, is_some, unwrap_or}
 use Rattle.jv_model.specs.declared.act.ActKind.{ActKind}
 use Rattle.jv_model.specs.declared.act.ActKind.TheVariants.{Answered, Quiet, Look}
 use Rattle.jv_model.specs.declared.act.Told.{Told}
@@ -16,15 +16,15 @@ use Rattle.jv_model.specs.client.ModelClient.{ModelClient, OpenFile, Doing, Work
 use Rattle.jv_model.specs.client.Profile.{handle_of}
 use Rattle.jv_model.specs.client.Submission.{is_flushed}
 use Rattle.jv_model.specs.journal.State.{State, after_told, has_session, is_of_another, quieted}
-use Rattle.jv_model.specs.journal.State.{sees_first}
+use Rattle.jv_model.specs.journal.State.{sees_first, with_look}
 use Rattle.jv_model.specs.journal.Steps.{Start, MayStep, ReadsFresh, ReadsViews, asked_of, file_in_use}
 use Rattle.jv_model.specs.journal.Steps.{may_be_quiet, may_read_on, window_to_look}
-use Rattle.jv_model.specs.journal.Past.{or_no_bytes, read_in, reply_of}
+use Rattle.jv_model.specs.journal.Past.{read_in, reply_of}
 use Rattle.jv_model.specs.journal.Reading.{asked_parts, reading}
 use Rattle.jv_model.specs.journal.Stepping.{is_answer}
 use Rattle.jv_steps.specs.Leaves.{Leaves}
 use Rattle.jv_steps.specs.IsStep.{IsStep, at_stage}
-use Rattle.jv_steps.specs.Stages.{MayRead, Begins, with_look}
+use Rattle.jv_steps.specs.Stages.{MayRead, Begins}
 use Rattle.jv_steps.proofs.ReadyLaws.{quieted-reads, quiet-reads}
 use Rattle.jv_steps.proofs.StepFormLaws.{requested, step-alone, step-on, step-answered}
 use Rattle.jv_steps.proofs.EntryLaws.{told-staged, leaves-quiet}
@@ -38,10 +38,10 @@ module _ (c : ModelClient) (d : Doing) (file : OpenFile) (opened : file_in_use c
     (reads : reading c.views (handle_of d.op) file (asked_of d.does) first second ≡ Some bytes) where
   abbrev bytes_of : Option OpenFile → List ℕ
   bytes_of None = []
-  bytes_of (Some file) = or_no_bytes (reading c.views (handle_of d.op) file (asked_of d.does) first second)
+  bytes_of (Some file) = unwrap_or (reading c.views (handle_of d.op) file (asked_of d.does) first second) []
 
   pub read-is : read_in c d first second ≡ bytes
-  read-is = ap bytes_of opened ∙ ap or_no_bytes reads
+  read-is = ap bytes_of opened ∙ ap (λ (found : Option (List ℕ)). unwrap_or found []) reads
 
   reads-fresh : may_read_on c d ≡ true → ReadsFresh c d (Looks first second (length bytes))
   reads-fresh goes = record {

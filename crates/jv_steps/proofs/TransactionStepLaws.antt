@@ -2,6 +2,7 @@
 use Rattle.std.proofs.Common.{◌≡◌, ℕ, ◌+◌, Bool, true, false, List, [], ◌∷◌, ◌++◌, Some, refl, sym, ap, subst}
 use Rattle.std.proofs.Common.{◌∙◌}
 use Rattle.std.specs.Prelude.{◌&&◌, filter, not, if◌then◌else◌}
+use Rattle.std.proofs.Math.Bool.{and-not_self}
 use Rattle.jv_model.specs.declared.act.ActKind.{ActKind}
 use Rattle.jv_model.specs.declared.act.ActKind.TheVariants.{Answered, Meta}
 use Rattle.jv_model.specs.declared.act.Told.{Told}
@@ -41,11 +42,7 @@ none_passes test none (x ∷ xs) = ap (λ b. if b then x ∷ filter test xs else
 pub sustains-none : (t : Tree) (c : ModelClient) → newly_sustained t t c ≡ []
 sustains-none t c = none_passes (λ inode. is_sustained t (session_of c) inode && not
     (is_sustained t (session_of c) inode))
-    (λ inode. never_both (is_sustained t (session_of c) inode)) (held_inodes c.handles)
-  where
-    never_both : (b : Bool) → (b && not b) ≡ false
-    never_both true = refl
-    never_both false = refl
+    (λ inode. and-not_self (is_sustained t (session_of c) inode)) (held_inodes c.handles)
 
 -- ---- the entry
 

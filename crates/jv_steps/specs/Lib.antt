@@ -3,4 +3,3 @@ pub mod IsStep
 pub mod Leaves
 pub mod RefusesCommit
 pub mod Stages
-pub mod WithoutCommitted

@@ -1,4 +1,6 @@
 //! Runs of scenes over devices in memory, and what is printed of them. Who runs a command's words is handed in.
+//!
+//! Each function that returns an error fails out of memory alone; what it adds to is then of no use.
 #![tactic(auto)]
 
 mod objects;
@@ -7,6 +9,7 @@ mod rows;
 mod slices;
 mod stage;
 mod sweep;
+mod texts;
 mod theatre;
 
 pub use stage::{Parts, Player, Stores, Streams};

@@ -1,12 +1,9 @@
 //! The objects of a depot, and the blocks that are staged on a shelf.
-use jv_model::{ClientId, Sequence, copied};
+use crate::texts::shown_text;
+use jv_model::{CLIENTS, ClientId, Sequence, copied};
 use jv_outside::{MemDepot, MemShelf, Object, ObjectList, Staged, StagedList};
 use jv_scenes::Scene;
 use std::alloc::{AllocError, Global};
-use std::str;
-
-/// How many clients there are.
-const CLIENTS: u8 = 8;
 
 /// The objects that a scene begins with. Of objects with one name the first stands.
 pub fn objects(alloc: Global, scene: &Scene) -> Result<ObjectList, AllocError> {
@@ -80,7 +77,7 @@ fn add_staged(
 pub fn objects_text(alloc: Global, objects: &ObjectList) -> Result<String, AllocError> {
     let mut text = String::new(alloc);
     for object in objects.as_slice() {
-        let name = str::from_utf8(object.name.as_slice()).unwrap_or("not text");
+        let name = shown_text(object.name.as_slice());
         let size = object.bytes.len();
         writeln!(text, "object {name} {size}")?;
     }
@@ -92,7 +89,7 @@ pub fn staged_text(alloc: Global, staged: &StagedList) -> Result<String, AllocEr
     let mut text = String::new(alloc);
     for block in staged.as_slice() {
         let letter = letter_of(block.client);
-        let name = str::from_utf8(block.name.as_slice()).unwrap_or("not text");
+        let name = shown_text(block.name.as_slice());
         let size = block.bytes.len();
         writeln!(text, "staged {letter} {name} {size}")?;
     }

@@ -1,8 +1,9 @@
 //! What is printed of runs.
 use crate::objects::{objects_text, staged_text};
 use crate::rows::rows_text;
-use crate::stage::{Played, Player, Stage, Stock};
-use jv_scenes::{DEVICES, Device, Scene, Variant};
+use crate::stage::{Played, Player, SceneStage, Stock};
+use crate::texts::shown_text;
+use jv_scenes::{DEVICES, Scene, Variant, WorldDevice};
 use std::alloc::{AllocError, Global};
 use std::str;
 
@@ -62,9 +63,9 @@ fn push_counts(report: &mut String, scene: &Scene, played: &Played) -> Result<()
     report.push_str("\n")
 }
 
-fn push_count(report: &mut String, played: &Played, device: Device) -> Result<(), AllocError> {
+fn push_count(report: &mut String, played: &Played, device: WorldDevice) -> Result<(), AllocError> {
     let name = device.name();
-    if device == Device::Carrier {
+    if device == WorldDevice::Carrier {
         write!(report, " {name}")?;
     } else {
         let made = played.made(device);
@@ -77,7 +78,7 @@ fn push_count(report: &mut String, played: &Played, device: Device) -> Result<()
 }
 
 /// Adds the places where devices are opened, the keeper's without its name.
-fn push_places(report: &mut String, scene: &Scene, stage: &Stage) -> Result<(), AllocError> {
+fn push_places(report: &mut String, scene: &Scene, stage: &SceneStage) -> Result<(), AllocError> {
     for device in DEVICES {
         if scene.shows(device) {
             push_place(report, stage, device)?;
@@ -86,13 +87,17 @@ fn push_places(report: &mut String, scene: &Scene, stage: &Stage) -> Result<(), 
     Ok(())
 }
 
-fn push_place(report: &mut String, stage: &Stage, device: Device) -> Result<(), AllocError> {
+fn push_place(
+    report: &mut String,
+    stage: &SceneStage,
+    device: WorldDevice,
+) -> Result<(), AllocError> {
     let Some(place) = stage.opened(device) else {
         return Ok(());
     };
-    let place = str::from_utf8(place).unwrap_or("not text");
+    let place = shown_text(place);
     match device {
-        Device::Keeper => push_line(report, "opened", place),
+        WorldDevice::Keeper => push_line(report, "opened", place),
         _ => writeln!(report, "opened {} {place}", device.name()),
     }
 }
@@ -103,7 +108,7 @@ pub fn push_played(
     report: &mut String,
     scene: &Scene,
     played: &Played,
-    stage: &Stage,
+    stage: &SceneStage,
 ) -> Result<(), AllocError> {
     let status = played.status;
     writeln!(report, "status {status}")?;
@@ -120,7 +125,7 @@ pub fn push_stock(
     alloc: Global,
     report: &mut String,
     scene: &Scene,
-    stage: &mut Stage,
+    stage: &mut SceneStage,
 ) -> Result<(), AllocError> {
     let stock = stage.stock(alloc)?;
     if scene.shows_blocks {
@@ -140,7 +145,7 @@ pub fn push_list(
     report: &mut String,
     scene: &Scene,
     stock: Stock,
-    stage: &mut Stage,
+    stage: &mut SceneStage,
     player: &impl Player,
 ) -> Result<(), AllocError> {
     if scene.list.is_empty() {
@@ -200,5 +205,5 @@ fn said(played: &Played) -> &str {
     } else {
         played.err.as_slice()
     };
-    str::from_utf8(bytes).unwrap_or("not text")
+    shown_text(bytes)
 }

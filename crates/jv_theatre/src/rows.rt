@@ -1,15 +1,13 @@
 //! The rows of a keeper, before a run and after it.
+use jv_model::tables::{TABLE_OF_COUNTERS, TABLE_OF_DEAD, TABLE_OF_LISTS, TABLE_OF_SLICES};
 use jv_model::{Moment, RowKey, Rows, Sequence, copied};
 use jv_outside::{Change, MemKeeper};
 use jv_rows::{default_setting, fresh_rows};
 use jv_scenes::Scene;
 use std::alloc::{AllocError, Global};
 
-/// The table of the counters.
-const COUNTERS: u8 = 1;
-
 /// The tables whose rows name slices by their numbers: lists, slices and dead slices.
-const OF_SLICES: [u8; 3] = [4, 5, 9];
+const OF_SLICES: [u8; 3] = [TABLE_OF_LISTS, TABLE_OF_SLICES, TABLE_OF_DEAD];
 
 /// Where the number of the next slice stands in the counters' row: from which byte on, and before which.
 const NEXT_SLICE: (usize, usize) = (8, 16);
@@ -43,13 +41,19 @@ fn add_row(alloc: Global, rows: &mut Rows, key: &RowKey, bytes: &[u8]) -> Result
     rows.push((key, copied(alloc, bytes)?))
 }
 
+/// Adds the rows of a table of a keeper.
+fn add_table(keeper: &mut MemKeeper, tab: u8, all: &mut Rows) -> Result<(), AllocError> {
+    for row in keeper.rows_in(tab)?.into_vec() {
+        all.push(row)?;
+    }
+    Ok(())
+}
+
 /// All rows of a keeper.
 pub fn rows_of(alloc: Global, keeper: &mut MemKeeper) -> Result<Rows, AllocError> {
     let mut all = Sequence::new(alloc);
     for tab in 0..=u8::MAX {
-        for row in keeper.rows_in(tab)?.into_vec() {
-            all.push(row)?;
-        }
+        add_table(keeper, tab, &mut all)?;
     }
     Ok(all)
 }
@@ -82,7 +86,7 @@ fn push_unnumbered(
     if OF_SLICES.contains(&key.tab) {
         return Ok(());
     }
-    if key.tab == COUNTERS {
+    if key.tab == TABLE_OF_COUNTERS {
         return push_row(
             alloc,
             text,

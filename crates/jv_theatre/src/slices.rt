@@ -1,18 +1,12 @@
 //! The slices of a volume: whether its rows agree on them, and whether their blocks are there.
 use crate::stage::Stock;
+use jv_model::tables::{TABLE_OF_LISTS, TABLE_OF_SETTING, TABLE_OF_SLICES};
 use jv_model::{List, Name, Rec, RowKey, Rows, Setting, SliceRow};
 use jv_rows::{Misread, parse_list, parse_setting, parse_slice};
 use jv_slices::{block_len, block_name, blocks_of};
 use std::alloc::{AllocError, Global};
 
-/// The tables that are read: the setting's, and those of lists and slices.
-const SETTING: u8 = 0;
-
-const LISTS: u8 = 4;
-
-const SLICES: u8 = 5;
-
-/// What is wrong with the slices of a stock, if anything is, and if the rows of the three tables can be read.
+/// What is wrong with the slices of a stock, if anything is, and if the rows of the setting, of lists and of slices can be read.
 pub fn broken_slices(alloc: Global, stock: &Stock) -> Result<Option<&'static str>, AllocError> {
     match read_slices(alloc, &stock.rows) {
         Ok(slices) => slices.broken(alloc, stock),
@@ -48,9 +42,9 @@ impl Slices {
     /// Adds a row.
     fn add(&mut self, alloc: Global, key: &RowKey, bytes: &[u8]) -> Result<(), Misread> {
         match key.tab {
-            SETTING => self.setting = Some(parse_setting(alloc, bytes)?),
-            LISTS => self.add_records(&parse_list(alloc, bytes)?)?,
-            SLICES => self.rows.push((key.a, parse_slice(bytes)?))?,
+            TABLE_OF_SETTING => self.setting = Some(parse_setting(alloc, bytes)?),
+            TABLE_OF_LISTS => self.add_records(&parse_list(alloc, bytes)?)?,
+            TABLE_OF_SLICES => self.rows.push((key.a, parse_slice(bytes)?))?,
             _ => {}
         }
         Ok(())

@@ -1,14 +1,14 @@
 //! Stages: devices in memory, and runs over them.
 use crate::objects::{objects, objects_of, staged, staged_of};
 use crate::rows::{rows, rows_of};
+use crate::texts::text_of;
 use jv_model::{Bytes, Journal, Rows, Sequence};
 use jv_outside::{
     Fails, MemCarrier, MemClock, MemDepot, MemKeeper, MemShelf, MemSink, MemSource, NumberList,
     ObjectList, StagedList,
 };
-use jv_scenes::{Device, Scene, Variant};
+use jv_scenes::{Scene, Variant, WorldDevice};
 use std::alloc::{AllocError, Global};
-use std::str;
 
 /// What a run reads and prints.
 #[derive(Drop)]
@@ -71,7 +71,7 @@ pub trait Player {
 
 /// A place for the parts of one world at a time. They are dear to drop, so runs borrow their stage, and nobody else has them.
 #[derive(Drop)]
-pub struct Stage {
+pub struct SceneStage {
     parts: Option<Parts>,
 }
 
@@ -101,16 +101,16 @@ impl Count {
 
 impl Played {
     /// How often a device was called since the world was made.
-    pub fn made(&self, device: Device) -> u64 {
+    pub fn made(&self, device: WorldDevice) -> u64 {
         self.count(device).made
     }
 
     /// How often a device's calls failed since the world was made.
-    pub fn faults(&self, device: Device) -> u64 {
+    pub fn faults(&self, device: WorldDevice) -> u64 {
         self.count(device).faults
     }
 
-    fn count(&self, device: Device) -> Count {
+    fn count(&self, device: WorldDevice) -> Count {
         match self.counts.get(device.place()) {
             Some(count) => *count,
             None => Count::NONE,
@@ -122,9 +122,9 @@ impl Played {
 fn streams_of(alloc: Global, scene: &Scene, variant: Variant<'_>) -> Result<Streams, AllocError> {
     let most = scene.most.max(1);
     let script = scene.source(alloc, variant)?;
-    let source = scene.fails_of(alloc, Device::Source, variant)?;
-    let out = scene.fails_of(alloc, Device::Out, variant)?;
-    let err = scene.fails_of(alloc, Device::Err, variant)?;
+    let source = scene.fails_of(alloc, WorldDevice::Source, variant)?;
+    let out = scene.fails_of(alloc, WorldDevice::Out, variant)?;
+    let err = scene.fails_of(alloc, WorldDevice::Err, variant)?;
     Ok(Streams {
         source: MemSource::new(script, source).in_pieces_of(most),
         out: MemSink::new(Sequence::new(alloc), out).in_pieces_of(most),
@@ -148,9 +148,9 @@ fn stores_with(
     variant: Variant<'_>,
     stock: Stock,
 ) -> Result<Stores, AllocError> {
-    let keeper = scene.fails_of(alloc, Device::Keeper, variant)?;
-    let depot = scene.fails_of(alloc, Device::Depot, variant)?;
-    let shelf = scene.fails_of(alloc, Device::Shelf, variant)?;
+    let keeper = scene.fails_of(alloc, WorldDevice::Keeper, variant)?;
+    let depot = scene.fails_of(alloc, WorldDevice::Depot, variant)?;
+    let shelf = scene.fails_of(alloc, WorldDevice::Shelf, variant)?;
     let Stock {
         rows,
         objects,
@@ -170,8 +170,8 @@ fn parts_with(
     variant: Variant<'_>,
     stores: Stores,
 ) -> Result<Parts, AllocError> {
-    let clock = scene.fails_of(alloc, Device::Clock, variant)?;
-    let Fails::At(carrier) = scene.fails_of(alloc, Device::Carrier, variant)?;
+    let clock = scene.fails_of(alloc, WorldDevice::Clock, variant)?;
+    let Fails::At(carrier) = scene.fails_of(alloc, WorldDevice::Carrier, variant)?;
     let streams = streams_of(alloc, scene, variant)?;
     Ok(Parts {
         streams,
@@ -182,10 +182,10 @@ fn parts_with(
     })
 }
 
-impl Stage {
+impl SceneStage {
     /// An empty stage.
-    pub fn new() -> Stage {
-        Stage { parts: None }
+    pub fn new() -> SceneStage {
+        SceneStage { parts: None }
     }
 
     /// Sets the stage for a scene, or a variant of it.
@@ -234,14 +234,14 @@ impl Stage {
     }
 
     /// The place where a device is opened, if it is one that has a place and shows it, and is opened.
-    pub fn opened(&self, device: Device) -> Option<&[u8]> {
+    pub fn opened(&self, device: WorldDevice) -> Option<&[u8]> {
         let Some(parts) = &self.parts else {
             return None;
         };
         match device {
-            Device::Keeper => parts.stores.keeper.opened(),
-            Device::Depot => parts.stores.depot.opened(),
-            Device::Shelf => parts.stores.shelf.opened(),
+            WorldDevice::Keeper => parts.stores.keeper.opened(),
+            WorldDevice::Depot => parts.stores.depot.opened(),
+            WorldDevice::Shelf => parts.stores.shelf.opened(),
             _ => None,
         }
     }
@@ -257,7 +257,7 @@ impl Stage {
         let carrier = MemCarrier::new(alloc, self.failing_carrier(alloc)?);
         let status = player.run(alloc, words, &mut self.parts, carrier)?;
         let played = self.played(alloc, status, taken, said)?;
-        if played.faults(Device::Carrier) > 0 {
+        if played.faults(WorldDevice::Carrier) > 0 {
             self.mend_carrier(alloc);
         }
         Ok(played)
@@ -335,30 +335,30 @@ impl Stage {
     /// The counts of all devices, in their order. The carrier, which is in a box, shows none.
     fn counts(&self, carrier: u64) -> [Count; 8] {
         [
-            self.count(Device::Source, carrier),
-            self.count(Device::Out, carrier),
-            self.count(Device::Err, carrier),
-            self.count(Device::Clock, carrier),
-            self.count(Device::Keeper, carrier),
-            self.count(Device::Depot, carrier),
-            self.count(Device::Carrier, carrier),
-            self.count(Device::Shelf, carrier),
+            self.count(WorldDevice::Source, carrier),
+            self.count(WorldDevice::Out, carrier),
+            self.count(WorldDevice::Err, carrier),
+            self.count(WorldDevice::Clock, carrier),
+            self.count(WorldDevice::Keeper, carrier),
+            self.count(WorldDevice::Depot, carrier),
+            self.count(WorldDevice::Carrier, carrier),
+            self.count(WorldDevice::Shelf, carrier),
         ]
     }
 
-    fn count(&self, device: Device, carrier: u64) -> Count {
+    fn count(&self, device: WorldDevice, carrier: u64) -> Count {
         let Some(parts) = &self.parts else {
             return Count::NONE;
         };
         let (made, faults) = match device {
-            Device::Source => (parts.streams.source.made(), parts.streams.source.faults()),
-            Device::Out => (parts.streams.out.made(), parts.streams.out.faults()),
-            Device::Err => (parts.streams.err.made(), parts.streams.err.faults()),
-            Device::Clock => (parts.clock.made(), parts.clock.faults()),
-            Device::Keeper => (parts.stores.keeper.made(), parts.stores.keeper.faults()),
-            Device::Depot => (parts.stores.depot.made(), parts.stores.depot.faults()),
-            Device::Shelf => (parts.stores.shelf.made(), parts.stores.shelf.faults()),
-            Device::Carrier => (0, carrier),
+            WorldDevice::Source => (parts.streams.source.made(), parts.streams.source.faults()),
+            WorldDevice::Out => (parts.streams.out.made(), parts.streams.out.faults()),
+            WorldDevice::Err => (parts.streams.err.made(), parts.streams.err.faults()),
+            WorldDevice::Clock => (parts.clock.made(), parts.clock.faults()),
+            WorldDevice::Keeper => (parts.stores.keeper.made(), parts.stores.keeper.faults()),
+            WorldDevice::Depot => (parts.stores.depot.made(), parts.stores.depot.faults()),
+            WorldDevice::Shelf => (parts.stores.shelf.made(), parts.stores.shelf.faults()),
+            WorldDevice::Carrier => (0, carrier),
         };
         Count { made, faults }
     }
@@ -377,6 +377,5 @@ fn carrier_faults(out: &[u8], err: &[u8]) -> u64 {
 
 /// How many lines of a text are this one.
 pub fn count_lines(text: &[u8], wanted: &str) -> u64 {
-    let text = str::from_utf8(text).unwrap_or("");
-    text.lines().filter(|line| *line == wanted).count() as u64
+    text_of(text).lines().filter(|line| *line == wanted).count() as u64
 }

@@ -3,11 +3,11 @@ use crate::report::{push_list, push_played};
 use crate::rows::{rows_text, unnumbered_text};
 use crate::slices::broken_slices;
 use crate::stage::{Played, Player, count_lines};
+use crate::texts::text_of;
 use crate::theatre::Theatre;
 use jv_model::Rows;
-use jv_scenes::{DEVICES, Device, Scene, Sweep, Variant};
+use jv_scenes::{DEVICES, Scene, SweepRun, Variant, WorldDevice};
 use std::alloc::{AllocError, Global};
-use std::str;
 
 /// The status of a run that a device's fault ended.
 const FAILED: u8 = 5;
@@ -40,7 +40,7 @@ pub fn push_sweep(
     alloc: Global,
     report: &mut String,
     scene: &Scene,
-    sweep: Sweep,
+    sweep: SweepRun,
     theatre: &mut Theatre<impl Player>,
 ) -> Result<(), AllocError> {
     let base = show(alloc, scene, Variant::Same, theatre)?;
@@ -52,7 +52,7 @@ fn push_devices(
     report: &mut String,
     scene: &Scene,
     base: &Run,
-    sweep: Sweep,
+    sweep: SweepRun,
     theatre: &mut Theatre<impl Player>,
 ) -> Result<(), AllocError> {
     for device in DEVICES {
@@ -140,7 +140,7 @@ impl Sum {
     };
 
     /// With one more run.
-    fn with(self, base: &Played, now: &Played, device: Device, is_broken: bool) -> Sum {
+    fn with(self, base: &Played, now: &Played, device: WorldDevice, is_broken: bool) -> Sum {
         Sum {
             failed: self.failed.saturating_add(rise(base, now, device)),
             ended: self.ended.saturating_add(u64::from(now.status == FAILED)),
@@ -155,8 +155,8 @@ fn push_device(
     report: &mut String,
     scene: &Scene,
     base: &Run,
-    sweep: Sweep,
-    device: Device,
+    sweep: SweepRun,
+    device: WorldDevice,
     theatre: &mut Theatre<impl Player>,
 ) -> Result<(), AllocError> {
     let mut sum = Sum::NONE;
@@ -172,7 +172,7 @@ fn push_run(
     report: &mut String,
     scene: &Scene,
     base: &Run,
-    failing: (Device, u64),
+    failing: (WorldDevice, u64),
     sum: Sum,
     theatre: &mut Theatre<impl Player>,
 ) -> Result<Sum, AllocError> {
@@ -187,7 +187,7 @@ fn judge(
     scene: &Scene,
     base: &Run,
     now: &Run,
-    failing: (Device, u64),
+    failing: (WorldDevice, u64),
     sum: Sum,
     theatre: &mut Theatre<impl Player>,
 ) -> Result<Sum, AllocError> {
@@ -201,7 +201,7 @@ fn judge(
 fn push_broken(
     report: &mut String,
     number: u64,
-    device: Device,
+    device: WorldDevice,
     broken: Option<&'static str>,
 ) -> Result<(), AllocError> {
     let Some(why) = broken else {
@@ -211,8 +211,13 @@ fn push_broken(
     writeln!(report, "broken by call {number} of {name}: {why}")
 }
 
-fn push_sum(report: &mut String, sweep: Sweep, device: Device, sum: Sum) -> Result<(), AllocError> {
-    let Sweep { first, last, .. } = sweep;
+fn push_sum(
+    report: &mut String,
+    sweep: SweepRun,
+    device: WorldDevice,
+    sum: Sum,
+) -> Result<(), AllocError> {
+    let SweepRun { first, last, .. } = sweep;
     let name = device.name();
     let Sum {
         failed,
@@ -229,13 +234,13 @@ fn push_sum(report: &mut String, sweep: Sweep, device: Device, sum: Sum) -> Resu
 }
 
 /// By how much a device failed more often.
-fn rise(base: &Played, now: &Played, device: Device) -> u64 {
+fn rise(base: &Played, now: &Played, device: WorldDevice) -> u64 {
     now.faults(device).saturating_sub(base.faults(device))
 }
 
 /// The number of the first answer, from 0, that the device failed, where it isn't one of the run in which no further call
 /// fails.
-fn first_failure(base: &Run, now: &Run, device: Device) -> Option<usize> {
+fn first_failure(base: &Run, now: &Run, device: WorldDevice) -> Option<usize> {
     let failure = device.failure()?;
     if failures(base, failure) >= failures(now, failure) {
         return None;
@@ -258,7 +263,7 @@ fn broken_failure(
     scene: &Scene,
     base: &Run,
     now: &Run,
-    device: Device,
+    device: WorldDevice,
     line: usize,
     theatre: &mut Theatre<impl Player>,
 ) -> Result<Option<&'static str>, AllocError> {
@@ -273,7 +278,7 @@ fn broken_failure(
 }
 
 /// What of the rule a run breaks by how often a device failed, or by its status.
-fn broken_count(base: &Run, now: &Run, device: Device) -> Option<&'static str> {
+fn broken_count(base: &Run, now: &Run, device: WorldDevice) -> Option<&'static str> {
     let failure = device.failure()?;
     if rise(&base.played, &now.played, device) != 1 {
         Some("more than one call failed")
@@ -314,7 +319,7 @@ fn broken_by(
     scene: &Scene,
     base: &Run,
     now: &Run,
-    device: Device,
+    device: WorldDevice,
     theatre: &mut Theatre<impl Player>,
 ) -> Result<Option<&'static str>, AllocError> {
     match first_failure(base, now, device) {
@@ -324,7 +329,7 @@ fn broken_by(
 }
 
 /// What of the rule a run breaks in which one more call of a device was to fail, where that was no operation's call.
-fn broken_rule(base: &Run, now: &Run, device: Device) -> Option<&'static str> {
+fn broken_rule(base: &Run, now: &Run, device: WorldDevice) -> Option<&'static str> {
     let rise = rise(&base.played, &now.played, device);
     if !has_rows_of(base, now) && !was_cut_off(&now.played) {
         Some("the rows, or what is listed, are neither those before nor those of the whole run")
@@ -351,7 +356,7 @@ fn was_cut_off(now: &Played) -> bool {
     now.status == FAILED && now.entries > 0
 }
 
-fn has_other_faults(base: &Played, now: &Played, device: Device) -> bool {
+fn has_other_faults(base: &Played, now: &Played, device: WorldDevice) -> bool {
     for other in DEVICES {
         if other != device && rise(base, now, other) > 0 {
             return true;
@@ -365,7 +370,7 @@ fn has_other_faults(base: &Played, now: &Played, device: Device) -> bool {
 fn broken_end(
     base: &Played,
     now: &Played,
-    device: Device,
+    device: WorldDevice,
     has_failed: bool,
 ) -> Option<&'static str> {
     if now.status == FAILED && says_failed(now, device) {
@@ -385,20 +390,16 @@ fn broken_end(
 }
 
 /// Whether a fault of the device ends a run.
-fn is_never_passed_over(device: Device) -> bool {
-    device != Device::Err && device.failure().is_none()
+fn is_never_passed_over(device: WorldDevice) -> bool {
+    device != WorldDevice::Err && device.failure().is_none()
 }
 
 /// Whether standard error says that the device failed, and nothing else.
-fn says_failed(now: &Played, device: Device) -> bool {
+fn says_failed(now: &Played, device: WorldDevice) -> bool {
     let Some(rest) = text_of(&now.err).strip_prefix("juicevol: ") else {
         return false;
     };
     rest.strip_suffix(" failed\n") == Some(device.name())
-}
-
-fn text_of(bytes: &Vec<u8>) -> &str {
-    str::from_utf8(bytes.as_slice()).unwrap_or("")
 }
 
 /// The number of answers that aren't those of the run in which no further call fails. The last one may be cut.

@@ -1,8 +1,8 @@
 //! What is done in a scene, one thing after the other, and the stages for it.
 use crate::report::{push_list, push_played, push_stock, push_then, push_try};
-use crate::stage::{Player, Stage};
+use crate::stage::{Player, SceneStage};
 use crate::sweep::push_sweep;
-use jv_scenes::{Again, Further, Scene, Variant, bytes_of};
+use jv_scenes::{Further, Repeat, Scene, Variant, bytes_of};
 use std::alloc::{AllocError, Global};
 
 /// The stages of a scene, and who plays on them.
@@ -10,11 +10,11 @@ use std::alloc::{AllocError, Global};
 pub struct Theatre<P> {
     pub(crate) player: P,
     /// That of the scene's own runs.
-    own: Stage,
+    own: SceneStage,
     /// That of tries and sweeps.
-    pub(crate) tried: Stage,
+    pub(crate) tried: SceneStage,
     /// That of the runs which list what is left.
-    pub(crate) listed: Stage,
+    pub(crate) listed: SceneStage,
 }
 
 impl<P: Player> Theatre<P> {
@@ -22,9 +22,9 @@ impl<P: Player> Theatre<P> {
     pub fn new(player: P) -> Theatre<P> {
         Theatre {
             player,
-            own: Stage::new(),
-            tried: Stage::new(),
-            listed: Stage::new(),
+            own: SceneStage::new(),
+            tried: SceneStage::new(),
+            listed: SceneStage::new(),
         }
     }
 }
@@ -93,7 +93,7 @@ fn push_further(
     theatre: &mut Theatre<impl Player>,
 ) -> Result<(), AllocError> {
     match further {
-        Further::Again(again) => push_again(alloc, report, scene, again, theatre),
+        Further::Repeat(again) => push_again(alloc, report, scene, again, theatre),
         Further::Try(words) => try_words(alloc, report, scene, words.as_slice(), theatre),
         Further::TryLine(line) => try_line(alloc, report, scene, line.as_str(), theatre),
     }
@@ -130,7 +130,7 @@ fn push_again(
     alloc: Global,
     report: &mut String,
     scene: &Scene,
-    again: &Again,
+    again: &Repeat,
     theatre: &mut Theatre<impl Player>,
 ) -> Result<(), AllocError> {
     let words = match &again.words {

@@ -5,8 +5,7 @@ use Rattle.std.specs.Option.{option_map}
 use Rattle.jv_model.specs.declared.basics.Who.{Who}
 use Rattle.jv_model.specs.declared.fault.Down.{Down}
 use Rattle.jv_model.specs.declared.fault.Fault.{Fault}
-use Rattle.jv_model.specs.declared.fault.Fault.TheVariants.{NotFound, NotPermitted, Stale}
-use Rattle.jv_model.specs.declared.fault.Gone.TheVariants.{Session as GoneSession}
+use Rattle.jv_model.specs.declared.fault.Fault.TheVariants.{NotFound, NotPermitted}
 use Rattle.jv_model.specs.declared.fault.RowFault.TheVariants.{Bad, Failed, Memory}
 use Rattle.jv_model.specs.declared.fault.TxFault.{TxFault}
 use Rattle.jv_model.specs.declared.fault.TxFault.TheVariants.{Refused, Moved, Rows as OfRows}
@@ -17,11 +16,12 @@ use Rattle.jv_model.specs.FiniteMap.{get, insert}
 use Rattle.jv_model.specs.rows.RowKeys.{RowMap}
 use Rattle.jv_model.specs.rows.RowPlaces.{node_key}
 use Rattle.jv_model.specs.tree.Attempt.{◌>>=◌, require, some_or}
-use Rattle.jv_model.specs.tree.Caller.{Caller, Outcome, done}
+use Rattle.jv_model.specs.tree.Caller.{Caller, Outcome, done, session_there}
 use Rattle.jv_model.specs.tree.Changes.{status_changed, put_node}
 use Rattle.jv_model.specs.tree.Reading.{with_attributes, chmod, chown, utimes}
-use Rattle.jv_model.specs.tree.Tree.{Tree, Node, in_trash, node_at, parent_of, kind_space, is_directory}
+use Rattle.jv_model.specs.tree.Tree.{Tree, Node, in_trash, node_at, parent_of, kind_space}
 use Rattle.jv_model.specs.tree.Walk.{inode_by, inode_of}
+use Rattle.jv_model.proofs.TestLaws.{some_same}
 use Rattle.jv_outside.specs.declared.batch.Change.{Change}
 use Rattle.jv_outside.specs.Rows.{applied}
 use Rattle.jv_outside.specs.Store.{Store, Commits}
@@ -35,7 +35,7 @@ use Rattle.jv_volume.proofs.NodeRowLaws.{IsNodeRow}
 use Rattle.jv_volume.proofs.QuietLaws.{quiet-alter, quiet-slices}
 use Rattle.jv_volume.proofs.SameShapeLaws.{whole-attributes}
 use Rattle.jv_volume.proofs.SeenLaws.{rows-alter}
-use Rattle.jv_volume.proofs.StoredLaws.{HasNode, found_node, whole-stored, whole-shape, stored-again, same_shape}
+use Rattle.jv_volume.proofs.StoredLaws.{HasNode, found_node, whole-stored, whole-shape}
 use Rattle.jv_volume.proofs.StoredStepLaws.{stored-change_node}
 use Rattle.jv_volume.proofs.TreeOfLaws.{tree_of-put_node}
 use Rattle.jv_volume.proofs.WalkShapeLaws.{IsReached, Directory, Entry, path_reached}
@@ -43,8 +43,8 @@ use Rattle.jv_rows.specs.Drafts.{Drafts, drafted}
 use Rattle.jv_rows.specs.Transactions.{IsFor, Transacts, Always, Landed}
 use Rattle.jv_rows.specs.Walks.{Comes}
 use Rattle.jv_rows.specs.declared.walking.Place.{Place}
-use Rattle.jv_rows.proofs.TransactionLaws.{of_known, Past, Fails, FailsBy, past-start, past-as, past-fails, transacts-refused, transacts-exit}
-use Rattle.jv_rows.proofs.ArrivalLaws.{past-place, stops-place, has-node}
+use Rattle.jv_rows.proofs.TransactionLaws.{of_known, Past, FailsBy, past-start, past-as, past-fails, transacts-refused, transacts-exit}
+use Rattle.jv_rows.proofs.ArrivalLaws.{past-place, stops-place}
 use Rattle.jv_tree.specs.Attributes.{changeable_inode, HasPut, PutsNode, IsNotBad}
 
 -- ---- a row that was put
@@ -114,7 +114,7 @@ module _ (caller : Caller) (change : Node → Node) (path : List ℕ) (t : Tree)
       ap (λ o. some_or o NotFound >>= may_change inode) there.1 ∙ by_test inode there.0 there.1 (not (in_trash inode))
 
   pub begins-attributes : with_attributes t caller path change ≡ (changeable_inode t caller.sid path >>= attributes_changed caller change t)
-  begins-attributes = by_parts (require (is_some (get t.sessions caller.sid)) (Stale (GoneSession caller.sid))) (inode_of t path) refl
+  begins-attributes = by_parts (session_there t caller.sid) (inode_of t path) refl
 
 -- ---- a row with other attributes
 
@@ -140,7 +140,7 @@ module _ (rows : Rows) (whole : Whole rows) (inode : ℕ) (row new : NodeRow) (t
   pub changed-whole : Whole changed_rows
   changed-whole = record {
     cells = rows-alter rows (node_key inode) (Some (Ok (OfNode new))) whole.cells
-        (λ x e. subst (λ c. IsRowAt (node_key inode) c) (some_is e) (record { key_is = refl; cell_is = refl }));
+        (λ x e. subst (λ c. IsRowAt (node_key inode) c) (some_same (Ok (OfNode new)) x e) (record { key_is = refl; cell_is = refl }));
     stored = stored-change_node no_bytes rows inode row new whole.stored there
         (is.row_is row.nlink (no_bytes inode) (subst (λ l. IsNodeRow l (no_bytes inode) row) (sym has.links) has.row_is)) is.kind
         (ap kind_space (is.kind_is (no_bytes inode)));
@@ -150,9 +150,6 @@ module _ (rows : Rows) (whole : Whole rows) (inode : ℕ) (row new : NodeRow) (t
     slices = quiet-slices rows changed_rows changed-quiet whole.slices;
     files = files-same_length rows inode row new whole.files there is.kind is.length;
   }
-    where
-      some_is : {A : Type 0} {x y : A} → Some x ≡ Some y → x ≡ y
-      some_is e = cc
 
 -- ---- the operation
 

@@ -2,6 +2,7 @@
 use Rattle.std.proofs.Common.{◌≡◌, ℕ, suc, ◌+◌, ◌-◌, ◌<◌, ◌≤◌, Bool, true, false, List, [], ◌∷◌, ◌++◌, length, get_or, drop, Option, Some, None, Result, Ok, Err, refl, sym, ap, ◌∙◌, append_assoc, arith}
 use Rattle.std.specs.Prelude.{◌==◌, ◌&&◌, if◌then◌else◌, IfSome}
 use Rattle.std.proofs.lemmas.List.{append-nil, at_drop_more}
+use Rattle.jv_model.specs.declared.tables.TheConstants.{TABLE_OF_EDGES}
 use Rattle.jv_model.specs.declared.row.Row.{Row}
 use Rattle.jv_model.specs.declared.row.Row.TheVariants.{OfSetting, OfCounters, OfNode, OfEdge, OfList, OfSlice, OfSession, OfSustained, OfDropped, OfDead}
 use Rattle.jv_model.specs.declared.row.RowKey.{RowKey}
@@ -28,7 +29,7 @@ edge_then name (Some edge) others = (name, edge.inode) ∷ others
 
 abbrev pub entries_from : ℕ → List (RowKey × List ℕ) → List (List ℕ × ℕ)
 entries_from dir [] = []
-entries_from dir (r ∷ rows) = (if (r.0.tab == 3) && (r.0.a == dir) then edge_then r.0.b (edge_of r.1) (entries_from dir rows) else entries_from dir rows)
+entries_from dir (r ∷ rows) = (if (r.0.tab == TABLE_OF_EDGES) && (r.0.a == dir) then edge_then r.0.b (edge_of r.1) (entries_from dir rows) else entries_from dir rows)
 
 -- the rows of edges behind a key
 abbrev pub edges_after : RowKey → RowMap → List (RowKey × List ℕ)
@@ -36,7 +37,7 @@ edges_after last known = filter (λ row. is_after 3 (Some last) row.0) known.lis
 
 -- the entries of a directory that were read, up to a key
 pub record IsReadSoFar (known : RowMap) (dir : ℕ) (last : RowKey) (entries : List (List ℕ × ℕ)) : Type 0 where
-  pub table : last.tab ≡ 3
+  pub table : last.tab ≡ TABLE_OF_EDGES
   pub number : last.a ≡ dir
   pub parts : entries_from dir (edges_after (edge_key dir []) known) ≡ entries ++ entries_from dir (edges_after last known)
 

@@ -9,6 +9,7 @@ use Rattle.std.specs.Cmp.Lexicographic.{slice_cmp}
 use Rattle.std.specs.FinMap.Entries.{below_all, is_sorted}
 use Rattle.std.proofs.lemmas.Map.Keys.{le_from_is_le}
 use Rattle.std.proofs.lemmas.Bool.{and_parts}
+use Rattle.jv_model.specs.declared.tables.TheConstants.{TABLE_OF_EDGES}
 use Rattle.jv_model.specs.declared.row.RowKey.{RowKey}
 use Rattle.jv_model.specs.rows.RowKeys.{row_cmp, row_cmp_total}
 use Rattle.jv_model.proofs.TestLaws.{first_of_both, second_of_both, less_is, lt_is}
@@ -20,7 +21,7 @@ behind k r = is_after 3 (Some k) r.0
 
 -- a row is an edge's, behind a key
 pub record Follows (k : RowKey) (r : RowKey × List ℕ) : Type 0 where
-  pub table : r.0.tab ≡ 3
+  pub table : r.0.tab ≡ TABLE_OF_EDGES
   pub above : row_cmp k r.0 ≡ Less
 
 -- rows of edges that rise from a key on
@@ -29,7 +30,7 @@ Chain k [] = Unit {0}
 Chain k (r ∷ rows) = Follows k r × Chain r.0 rows
 
 -- the key of the last row, or a key where there is none
-abbrev pub last_or : RowKey → List (RowKey × List ℕ) → RowKey
+abbrev pub last_or : {X : Type 0} → RowKey → List (RowKey × X) → RowKey
 last_or k [] = k
 last_or k (r ∷ rows) = last_or r.0 rows
 
@@ -59,8 +60,8 @@ chain_at : (k j : RowKey) (e : RowKey × List ℕ) (es : List (RowKey × List �
     → Chain j (filter (behind k) es)
     → Chain j (cond b (e ∷ filter (behind k) es) (filter (behind k) es))
 chain_at k j e es true is above here others =
-    let both = and_parts (e.0.tab == 3) (is_lt (row_cmp k e.0)) is in
-    (record { table = eqb-true e.0.tab 3 both.0; above = above (lt_is (row_cmp k e.0) both.1) }, here)
+    let both = and_parts (e.0.tab == TABLE_OF_EDGES) (is_lt (row_cmp k e.0)) is in
+    (record { table = eqb-true e.0.tab TABLE_OF_EDGES both.0; above = above (lt_is (row_cmp k e.0) both.1) }, here)
 chain_at k j e es false is above here others = others
 
 chain_of : (k j : RowKey) (es : List (RowKey × List ℕ)) → T (is_sorted row_cmp es) → AllByRecursion (IsAbove k j) es → Chain j (filter (behind k) es)
@@ -83,7 +84,7 @@ last-above k rows zero c = Same refl
 last-above k [] (suc n) c = Same refl
 last-above k (r ∷ rows) (suc n) c = above_by k r.0 (last_or r.0 (take n rows)) c.0.above (last-above r.0 rows n c.1)
 
-pub chain-table : (k : RowKey) (rows : List (RowKey × List ℕ)) (n : ℕ) → k.tab ≡ 3 → Chain k rows → (last_or k (take n rows)).tab ≡ 3
+pub chain-table : (k : RowKey) (rows : List (RowKey × List ℕ)) (n : ℕ) → k.tab ≡ TABLE_OF_EDGES → Chain k rows → (last_or k (take n rows)).tab ≡ TABLE_OF_EDGES
 chain-table k rows zero tab c = tab
 chain-table k [] (suc n) tab c = tab
 chain-table k (r ∷ rows) (suc n) tab c = chain-table r.0 rows n c.0.table c.1
@@ -94,10 +95,10 @@ not_behind i q (Below b) = ap is_lt (row_cmp_total.antisymm q i ∙ ap ordering_
 
 -- ---- what comes behind a page
 
-passes : (k : RowKey) (r : RowKey × List ℕ) → r.0.tab ≡ 3 → row_cmp k r.0 ≡ Less → behind k r ≡ true
-passes k r tab less = ap (λ (b : Bool). b && is_lt (row_cmp k r.0)) (eq-eqb r.0.tab 3 tab) ∙ ap is_lt less
+passes : (k : RowKey) (r : RowKey × List ℕ) → r.0.tab ≡ TABLE_OF_EDGES → row_cmp k r.0 ≡ Less → behind k r ≡ true
+passes k r tab less = ap (λ (b : Bool). b && is_lt (row_cmp k r.0)) (eq-eqb r.0.tab TABLE_OF_EDGES tab) ∙ ap is_lt less
 
-pass_at : (i : RowKey) (r : RowKey × List ℕ) (rows : List (RowKey × List ℕ)) → r.0.tab ≡ 3 → row_cmp i r.0 ≡ Less → filter (behind i) rows ≡ rows
+pass_at : (i : RowKey) (r : RowKey × List ℕ) (rows : List (RowKey × List ℕ)) → r.0.tab ≡ TABLE_OF_EDGES → row_cmp i r.0 ≡ Less → filter (behind i) rows ≡ rows
     → filter (behind i) (r ∷ rows) ≡ r ∷ rows
 pass_at i r rows tab less rest =
     ap (λ (b : Bool). cond b (r ∷ filter (behind i) rows) (filter (behind i) rows)) (passes i r tab less) ∙ ap (λ (l : List (RowKey × List ℕ)). r ∷ l) rest
@@ -114,14 +115,14 @@ suffix k rows zero c = pass_all k k rows (Same refl) c
 suffix k [] (suc n) c = refl
 suffix k (r ∷ rows) (suc n) c =
     let q : RowKey = last_or r.0 (take n rows) in
-    ap (λ (a : Bool). cond (a && is_lt (row_cmp q r.0)) (r ∷ filter (behind q) rows) (filter (behind q) rows)) (eq-eqb r.0.tab 3 c.0.table)
+    ap (λ (a : Bool). cond (a && is_lt (row_cmp q r.0)) (r ∷ filter (behind q) rows) (filter (behind q) rows)) (eq-eqb r.0.tab TABLE_OF_EDGES c.0.table)
     ∙ ap (λ (b : Bool). cond b (r ∷ filter (behind q) rows) (filter (behind q) rows)) (not_behind r.0 q (last-above r.0 rows n c.1))
     ∙ suffix r.0 rows n c.1
 
 sooner : (k q : RowKey) → IsAtMost k q → (e : RowKey × List ℕ) → behind q e ≡ true → behind k e ≡ true
 sooner k q low e later =
-    let both = and_parts (e.0.tab == 3) (is_lt (row_cmp q e.0)) later in
-    passes k e (eqb-true e.0.tab 3 both.0) (then_below k q e.0 low (lt_is (row_cmp q e.0) both.1))
+    let both = and_parts (e.0.tab == TABLE_OF_EDGES) (is_lt (row_cmp q e.0)) later in
+    passes k e (eqb-true e.0.tab TABLE_OF_EDGES both.0) (then_below k q e.0 low (lt_is (row_cmp q e.0) both.1))
 
 not_later : (k q : RowKey) → IsAtMost k q → (e : RowKey × List ℕ) → behind k e ≡ false → behind q e ≡ false
 not_later k q low e is = by_test (behind q e) refl

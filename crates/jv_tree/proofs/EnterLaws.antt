@@ -30,10 +30,10 @@ use Rattle.jv_volume.specs.TypedRows.{Cell, Rows, typed}
 use Rattle.jv_volume.specs.Views.{row_in, setting_in, setting_at, counters_in, counters_at, node_in, node_row_at}
 use Rattle.jv_volume.specs.TreeOf.{tree_of}
 use Rattle.jv_volume.specs.Whole.{Whole, Quiet}
-use Rattle.jv_volume.proofs.MadeRowsLaws.{touched_row, made_rows}
+use Rattle.jv_volume.proofs.MadeRowsLaws.{made_rows}
 use Rattle.jv_tree.specs.Entering.{IsFreePlace, IsNewKind, place_of, new_row, enter, has_room, one_more}
 use Rattle.jv_tree.proofs.EnteringLaws.{enter-full, enter-linked_full, enter-done, whole-entered, quiet-entered}
-use Rattle.jv_volume.specs.Stored.{links_by}
+use Rattle.jv_volume.specs.Stored.{links_by, directory_touched}
 
 -- one more change that was made
 pub was_drafted : {E : Type 0} (key : RowKey) (stands : Option Cell) (before after : List Change) (result : Result (Unit {0}) E) → result ≡ Ok tt
@@ -109,7 +109,7 @@ module _ (before : Store) (changes : List Change) (none : changes ≡ []) (now m
         enter-fails last fault f = transacts-refused ready before last reply act fault (past-fails before after last act act with_counters fault f)
 
         module _ (node dir_after : NodeRow) (more : Counters) (d1 d2 d3 d4 : List Change) (node_is : node ≡ new_row kind mode now)
-            (dir_is : dir_after ≡ touched_row now (place.dir.node.nlink + links_by node.kind) place.dir.node) (more_is : more ≡ one_more c)
+            (dir_is : dir_after ≡ directory_touched now (place.dir.node.nlink + links_by node.kind) place.dir.node) (more_is : more ≡ one_more c)
             (one : (known : RowMap) → drafted d1 known ≡ alter (drafted changes known) (node_key c.inode) (cell OfNode (Some node)))
             (two : (known : RowMap) → drafted d2 known ≡ alter (drafted d1 known) (edge_key place.dir.inode place.name) (cell OfEdge (Some (record { kind = node.kind; inode = c.inode }))))
             (three : (known : RowMap) → drafted d3 known ≡ alter (drafted d2 known) (node_key place.dir.inode) (cell OfNode (Some dir_after)))
@@ -122,7 +122,7 @@ module _ (before : Store) (changes : List Change) (none : changes ≡ []) (now m
               four known ∙ ap (λ (m : Counters). alter (drafted d3 known) counters_key (cell OfCounters (Some m))) more_is
               ∙ ap (λ (rows : Rows). alter rows counters_key (cell OfCounters (Some (one_more c))))
               (three known ∙ ap (λ (d : NodeRow). alter (drafted d2 known) (node_key place.dir.inode) (cell OfNode (Some d))) dir_is
-              ∙ ap (λ (rows : Rows). alter rows (node_key place.dir.inode) (cell OfNode (Some (touched_row now (place.dir.node.nlink + links_by node.kind) place.dir.node))))
+              ∙ ap (λ (rows : Rows). alter rows (node_key place.dir.inode) (cell OfNode (Some (directory_touched now (place.dir.node.nlink + links_by node.kind) place.dir.node))))
               (two known ∙ ap (λ (rows : Rows). alter rows (edge_key place.dir.inode place.name) (cell OfEdge (Some (record { kind = node.kind; inode = c.inode }))))
               (one known ∙ ap (λ (rows : Rows). alter rows (node_key c.inode) (cell OfNode (Some node))) (ap (λ ch. drafted ch known) none ∙ drafted-none known))))
               ∙ ap (λ (row : NodeRow). rows_by row (typed known)) node_is

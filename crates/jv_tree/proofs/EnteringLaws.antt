@@ -13,7 +13,7 @@ use Rattle.jv_model.specs.rows.RowGrammar.{is_node, is_target, is_symlink}
 use Rattle.jv_model.specs.tree.Attempt.{◌>>=◌, require}
 use Rattle.jv_model.specs.tree.Caller.{answered}
 use Rattle.jv_model.specs.tree.Making.{with_next, entered}
-use Rattle.jv_model.specs.tree.Tree.{Tree, Node, Kind, File, Directory, Symlink, EntryKey, new_node, node_at, kind_space, link_count, space_limit, inode_limit, links_fit, full_count}
+use Rattle.jv_model.specs.tree.Tree.{Tree, Node, Kind, File, Directory, Symlink, EntryKey, new_node, node_at, kind_space, link_count, space_limit, inode_limit, links_fit}
 use Rattle.jv_volume.specs.TypedRows.{Rows}
 use Rattle.jv_volume.specs.Views.{counters_at, node_row_at, setting_at}
 use Rattle.jv_volume.specs.TreeOf.{node_of, tree_of}
@@ -200,7 +200,7 @@ module _ (bytes : ℕ → ℕ → ℕ) (rows : Rows) (now mode : ℕ) (place : E
       parent = facts.parent;
     }
       where
-        numbers_left : has_room t.setting c ≡ true → c.inode < full_count
+        numbers_left : has_room t.setting c ≡ true → c.inode < FULL_COUNT
         numbers_left h = ltb-true c.inode FULL_COUNT (and_parts numbers space (and_parts (numbers && space) inodes h).0).0
 
     -- the rows after it

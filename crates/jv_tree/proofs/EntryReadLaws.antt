@@ -1,45 +1,43 @@
 -- The entries that stored rows of a directory have are those of the tree, and what a reading of them in pages answers.
-use Rattle.std.proofs.Common.{◌≡◌, ◌≢◌, ℕ, zero, suc, ◌<◌, ◌++◌, Bool, true, false, cond, T, List, [], ◌∷◌, map, take, Option, Some, None, Result, Ok, Err, ok_or, refl, sym, ap, subst, ◌∙◌, true≢false, eqb-true}
-use Rattle.std.specs.Prelude.{◌==◌, ◌&&◌, if◌then◌else◌, is_ok, is_some, filter, IfSome, IsErrAnd}
+use Rattle.std.proofs.Common.{◌≡◌, ◌≢◌, ℕ, ◌<◌, ◌++◌, Bool, true, false, cond, T, List, [], ◌∷◌, map, Option, Some, None, Result, Ok, Err, ok_or, refl, sym, ap, subst, ◌∙◌, true≢false, eqb-true}
+use Rattle.std.specs.Prelude.{◌==◌, ◌&&◌, if◌then◌else◌, filter, IsErrAnd}
 use Rattle.std.specs.Option.{option_map}
 use Rattle.std.specs.List.{AllByRecursion}
 use Rattle.std.specs.declared.cmp.Ordering.{Ordering}
 use Rattle.std.specs.declared.cmp.Ordering.TheVariants.{Less}
 use Rattle.std.specs.Ordering.{is_lt, nat_cmp, ordering_then}
 use Rattle.std.specs.Cmp.{nat_cmp_total, tied_itself}
-use Rattle.std.specs.FinMap.Entries.{put, find, by_order, below_all, is_sorted}
+use Rattle.std.specs.FinMap.Entries.{put, is_sorted}
 use Rattle.std.proofs.lemmas.Bool.{and_parts}
+use Rattle.jv_model.specs.declared.tables.TheConstants.{TABLE_OF_EDGES}
 use Rattle.jv_model.specs.declared.fault.Fault.{Fault}
 use Rattle.jv_model.specs.declared.fault.RowFault.{RowFault}
-use Rattle.jv_model.specs.declared.fault.RowFault.TheVariants.{Bad, Failed, Memory}
 use Rattle.jv_model.specs.declared.fault.TxFault.{TxFault}
 use Rattle.jv_model.specs.declared.fault.TxFault.TheVariants.{Rows as OfRows}
 use Rattle.jv_model.specs.declared.row.Edge.{Edge}
 use Rattle.jv_model.specs.declared.row.Row.{Row}
 use Rattle.jv_model.specs.declared.row.Row.TheVariants.{OfEdge}
 use Rattle.jv_model.specs.declared.row.RowKey.{RowKey}
-use Rattle.jv_model.specs.FiniteMap.{KeyOrder, Map, get, insert, map_of}
+use Rattle.jv_model.specs.FiniteMap.{KeyOrder, get, insert, map_of}
 use Rattle.jv_model.specs.rows.RowGrammar.{row_of, edge_of}
 use Rattle.jv_model.specs.rows.RowKeys.{RowMap, row_key, row_cmp}
 use Rattle.jv_model.specs.rows.RowPlaces.{edge_key}
 use Rattle.jv_model.specs.tree.Reading.{entries_of}
 use Rattle.jv_model.specs.tree.Tree.{Tree, EntryKey}
-use Rattle.jv_model.proofs.TestLaws.{first_of_both, second_of_both, less_is}
-use Rattle.jv_outside.specs.Rows.{is_after, rows_after}
+use Rattle.jv_model.proofs.TestLaws.{first_of_both, second_of_both}
+use Rattle.jv_model.proofs.FiniteMapLaws.{put_first}
 use Rattle.jv_outside.specs.Store.{Store}
 use Rattle.jv_volume.specs.TypedRows.{Cell, cell_of, typed_entries, typed, is_key}
 use Rattle.jv_volume.specs.TreeOf.{entry_selected, entries_selected, entry_of_key, tree_of}
-use Rattle.jv_volume.specs.Views.{row_in, edge_in}
+use Rattle.jv_volume.specs.Views.{edge_in}
 use Rattle.jv_volume.specs.Whole.{Whole}
-use Rattle.jv_volume.proofs.MapLaws.{find-below_all, is_sorted-changed}
+use Rattle.jv_volume.proofs.MapLaws.{is_sorted-changed}
 use Rattle.jv_volume.proofs.ReadLaws.{entries_of-rows}
-use Rattle.jv_volume.proofs.ShapeMapLaws.{tied_here, tied_apart}
-use Rattle.jv_volume.proofs.StoredLaws.{whole-typed}
 use Rattle.jv_volume.proofs.TypedLaws.{get-typed}
-use Rattle.jv_rows.specs.Scans.{row_then, rows_read, RefusesScan, ScansRows}
+use Rattle.jv_rows.specs.Scans.{ScansRows}
 use Rattle.jv_rows.specs.Tables.{edge_row}
-use Rattle.jv_rows.specs.Transactions.{IsBad, Malformed, Looks}
-use Rattle.jv_rows.proofs.ScannedLaws.{all-stored, fails-scan}
+use Rattle.jv_rows.specs.Transactions.{Looks}
+use Rattle.jv_rows.proofs.ScannedLaws.{all-stored, fails-scan, IsStored}
 use Rattle.jv_rows.proofs.TransactionLaws.{Past, past-fails, looks-exit}
 use Rattle.jv_tree.specs.Directories.{entries_within}
 use Rattle.jv_tree.proofs.DirectoryLaws.{edge_then, entries_from, edges_after, IsReadTo}
@@ -49,16 +47,11 @@ use Rattle.jv_tree.proofs.PageLaws.{IsEnd, read-all}
 -- ---- rows by their types, in their order
 
 module _ {K X : Type 0} (order : KeyOrder K) where
-  put_first : (k : K) (x : X) (es : List (K × X)) → T (below_all order.cmp k es) → put order.cmp k x es ≡ (k, x) ∷ es
-  put_first k x [] below = refl
-  put_first k x (e ∷ es) below =
-      ap (λ o. by_order o ((k, x) ∷ e ∷ es) ((e.0, x) ∷ es) (e ∷ put order.cmp k x es)) (less_is (order.cmp k e.0) (first_of_both _ _ below))
-
   -- the entries of a map that was made of sorted ones
   map_of-list : (es : List (K × X)) → T (is_sorted order.cmp es) → (map_of {order = order} es).list ≡ es
   unfolding insert
   map_of-list [] sorted = refl
-  map_of-list (e ∷ es) sorted = ap (put order.cmp e.0 e.1) (map_of-list es (second_of_both _ _ sorted)) ∙ put_first e.0 e.1 es (first_of_both _ _ sorted)
+  map_of-list (e ∷ es) sorted = ap (put order.cmp e.0 e.1) (map_of-list es (second_of_both _ _ sorted)) ∙ put_first order e.0 e.1 es (first_of_both _ _ sorted)
 
 typed-list : (known : RowMap) → (typed known).list ≡ typed_entries known.list
 unfolding typed
@@ -97,27 +90,24 @@ module _ (dir : ℕ) (key : RowKey) (bytes : List ℕ) (others : List (EntryKey 
   by_edge None = sym (either (key.a == dir) (shown dir others))
   by_edge (Some edge) = by_dir edge (key.a == dir)
 
-  listed_at : (t : Bool) → (key.tab == 3) ≡ t → shown dir (entry_selected inode_named (entry_of_key key) (cell_of key bytes) others)
-      ≡ cond ((key.tab == 3) && (key.a == dir)) (edge_then key.b (edge_of bytes) (shown dir others)) (shown dir others)
+  listed_at : (t : Bool) → (key.tab == TABLE_OF_EDGES) ≡ t → shown dir (entry_selected inode_named (entry_of_key key) (cell_of key bytes) others)
+      ≡ cond ((key.tab == TABLE_OF_EDGES) && (key.a == dir)) (edge_then key.b (edge_of bytes) (shown dir others)) (shown dir others)
   listed_at true is =
       let cell_is : cell_of key bytes ≡ ok_or (option_map OfEdge (edge_of bytes)) bytes =
-      ap (λ (t : ℕ). ok_or (row_of t bytes) bytes) (eqb-true key.tab 3 is) ∙ ap (λ (r : Option Row). ok_or r bytes) (edge_row bytes) in
+      ap (λ (t : ℕ). ok_or (row_of t bytes) bytes) (eqb-true key.tab TABLE_OF_EDGES is) ∙ ap (λ (r : Option Row). ok_or r bytes) (edge_row bytes) in
       ap (λ (b : Bool). selected_by b (cell_of key bytes)) is ∙ ap (selected_by true) cell_is ∙ by_edge (edge_of bytes) ∙ sym (ap from_by is)
   listed_at false is = ap (λ (b : Bool). selected_by b (cell_of key bytes)) is ∙ sym (ap from_by is)
 
 entries-listed : (dir : ℕ) (es : List (RowKey × List ℕ)) → shown dir (entries_selected entry_of_key inode_named (typed_entries es)) ≡ entries_from dir es
 entries-listed dir [] = refl
 entries-listed dir (e ∷ es) =
-    listed_at dir e.0 e.1 (entries_selected entry_of_key inode_named (typed_entries es)) (e.0.tab == 3) refl
-    ∙ ap (λ (l : List (List ℕ × ℕ)). cond ((e.0.tab == 3) && (e.0.a == dir)) (edge_then e.0.b (edge_of e.1) l) l) (entries-listed dir es)
+    listed_at dir e.0 e.1 (entries_selected entry_of_key inode_named (typed_entries es)) (e.0.tab == TABLE_OF_EDGES) refl
+    ∙ ap (λ (l : List (List ℕ × ℕ)). cond ((e.0.tab == TABLE_OF_EDGES) && (e.0.a == dir)) (edge_then e.0.b (edge_of e.1) l) l) (entries-listed dir es)
 
 -- ---- whole rows have no entry without a name
 
-abbrev IsStored : RowMap → RowKey × List ℕ → Type 0
-IsStored known e = get known e.0 ≡ Some e.1
-
 abbrev IsNamed : RowKey × List ℕ → Type 0
-IsNamed e = e.0.tab ≡ 3 → e.0.b ≡ [] → ⊥
+IsNamed e = e.0.tab ≡ TABLE_OF_EDGES → e.0.b ≡ [] → ⊥
 
 all_weaker : {A : Type 0} (P Q : A → Type 0) (xs : List A) → ((x : A) → P x → Q x) → AllByRecursion P xs → AllByRecursion Q xs
 all_weaker P Q [] weaker all = tt
@@ -133,7 +123,7 @@ is_named known whole e there table nameless =
 all_named : (known : RowMap) → Whole (typed known) → AllByRecursion IsNamed known.list
 all_named known whole = all_weaker (IsStored known) IsNamed known.list (is_named known whole) (all-stored row_key known)
 
-named_behind : (dir : ℕ) (key : RowKey) → key.tab ≡ 3 → key.a ≡ dir → (name : List ℕ) → key.b ≡ name → (key.b ≡ [] → ⊥)
+named_behind : (dir : ℕ) (key : RowKey) → key.tab ≡ TABLE_OF_EDGES → key.a ≡ dir → (name : List ℕ) → key.b ≡ name → (key.b ≡ [] → ⊥)
     → is_lt (row_cmp (edge_key dir []) key) ≡ true
 named_behind dir key table number [] is some = absurd (some is)
 named_behind dir key table number (x ∷ xs) is some =
@@ -142,10 +132,10 @@ named_behind dir key table number (x ∷ xs) is some =
 
 module _ (dir : ℕ) (e : RowKey × List ℕ) (es : List (RowKey × List ℕ)) (named : IsNamed e)
     (rest : entries_from dir (filter (behind (edge_key dir [])) es) ≡ entries_from dir es) where
-  outside : behind (edge_key dir []) e ≡ false → (t : Bool) → ((e.0.tab == 3) && (e.0.a == dir)) ≡ t → t ≡ false
+  outside : behind (edge_key dir []) e ≡ false → (t : Bool) → ((e.0.tab == TABLE_OF_EDGES) && (e.0.a == dir)) ≡ t → t ≡ false
   outside before true is =
-      let both = and_parts (e.0.tab == 3) (e.0.a == dir) is in
-      let table : e.0.tab ≡ 3 = eqb-true e.0.tab 3 both.0 in
+      let both = and_parts (e.0.tab == TABLE_OF_EDGES) (e.0.a == dir) is in
+      let table : e.0.tab ≡ TABLE_OF_EDGES = eqb-true e.0.tab TABLE_OF_EDGES both.0 in
       let later : is_lt (row_cmp (edge_key dir []) e.0) ≡ true = named_behind dir e.0 table (eqb-true e.0.a dir both.1) e.0.b refl (named table) in
       let passes : behind (edge_key dir []) e ≡ true = ap (λ (b : Bool). b && is_lt (row_cmp (edge_key dir []) e.0)) both.0 ∙ later in
       absurd (true≢false (sym passes ∙ before))
@@ -153,9 +143,9 @@ module _ (dir : ℕ) (e : RowKey × List ℕ) (es : List (RowKey × List ℕ)) (
 
   start_at : (b : Bool) → behind (edge_key dir []) e ≡ b
       → entries_from dir (cond b (e ∷ filter (behind (edge_key dir [])) es) (filter (behind (edge_key dir [])) es)) ≡ entries_from dir (e ∷ es)
-  start_at true is = ap (λ (l : List (List ℕ × ℕ)). cond ((e.0.tab == 3) && (e.0.a == dir)) (edge_then e.0.b (edge_of e.1) l) l) rest
+  start_at true is = ap (λ (l : List (List ℕ × ℕ)). cond ((e.0.tab == TABLE_OF_EDGES) && (e.0.a == dir)) (edge_then e.0.b (edge_of e.1) l) l) rest
   start_at false is = rest ∙ sym (ap (λ (b : Bool). cond b (edge_then e.0.b (edge_of e.1) (entries_from dir es)) (entries_from dir es))
-      (outside is ((e.0.tab == 3) && (e.0.a == dir)) refl))
+      (outside is ((e.0.tab == TABLE_OF_EDGES) && (e.0.a == dir)) refl))
 
 from_start : (dir : ℕ) (es : List (RowKey × List ℕ)) → AllByRecursion IsNamed es → entries_from dir (filter (behind (edge_key dir [])) es) ≡ entries_from dir es
 from_start dir [] all = refl

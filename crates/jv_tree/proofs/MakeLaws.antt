@@ -1,7 +1,7 @@
 -- How a file, a directory and a symlink are made: the session, the place of the entry, and the new node.
 use Rattle.std.proofs.Common.{◌≡◌, ℕ, Bool, true, false, List, Some, Result, Ok, Err, refl, ap, subst, ◌∙◌}
 use Rattle.std.specs.Prelude.{IsTrue, IfErr, IfSome, OnErr, nat_le, length}
-use Rattle.jv_model.specs.declared.limits.TheConstants.{MAX_PATH}
+use Rattle.jv_model.specs.declared.limits.TheConstants.{MAX_PATH, FULL_MODE}
 use Rattle.jv_model.specs.declared.fault.Fault.{Fault}
 use Rattle.jv_model.specs.declared.fault.Fault.TheVariants.{NameTooLong}
 use Rattle.jv_model.specs.declared.fault.RowFault.TheVariants.{Bad, Failed, Memory}
@@ -14,7 +14,7 @@ use Rattle.jv_model.specs.tree.Attempt.{◌>>=◌, require}
 use Rattle.jv_model.specs.tree.Caller.{Caller, Outcome, in_session}
 use Rattle.jv_model.specs.tree.Changes.{empty_content}
 use Rattle.jv_model.specs.tree.Making.{new_place, mkdir, create, symlink}
-use Rattle.jv_model.specs.tree.Tree.{Tree, Kind, File, Directory, Symlink, EntryKey, full_mode}
+use Rattle.jv_model.specs.tree.Tree.{Tree, Kind, File, Directory, Symlink, EntryKey}
 use Rattle.jv_outside.specs.Store.{Store}
 use Rattle.jv_rows.specs.declared.walking.EntryPlace.{EntryPlace}
 use Rattle.jv_rows.specs.Transactions.{BadFault, Looks, Lands, TransactionCounts, Transacts, Always}
@@ -159,6 +159,6 @@ unfolding create
 create-is t who path mode = refl
 
 pub symlink-is : (t : Tree) (who : Caller) (target path : List ℕ)
-    → symlink t who target path ≡ (in_session t who >>= (λ _. require (nat_le (length target) MAX_PATH) NameTooLong >>= (λ _. new_place t path >>= (λ place. enter (Symlink target) full_mode who.now place (λ inode. Found inode) t))))
+    → symlink t who target path ≡ (in_session t who >>= (λ _. require (nat_le (length target) MAX_PATH) NameTooLong >>= (λ _. new_place t path >>= (λ place. enter (Symlink target) FULL_MODE who.now place (λ inode. Found inode) t))))
 unfolding symlink
 symlink-is t who target path = refl

@@ -4,6 +4,7 @@ use Rattle.std.proofs.lemmas.Bool.{eqb-false, ne_eqb}
 use Rattle.std.proofs.lemmas.List.{length-append}
 use Rattle.std.specs.Prelude.{◌==◌, ◌&&◌, if◌then◌else◌, is_ok, is_some, filter, IfSome}
 use Rattle.std.specs.Option.{option_map}
+use Rattle.jv_model.specs.declared.tables.TheConstants.{TABLE_OF_EDGES}
 use Rattle.jv_model.specs.declared.row.Edge.{Edge}
 use Rattle.jv_model.specs.declared.row.Row.{Row}
 use Rattle.jv_model.specs.declared.row.Row.TheVariants.{OfSetting, OfCounters, OfNode, OfEdge, OfList, OfSlice, OfSession, OfSustained, OfDropped, OfDead}
@@ -31,12 +32,7 @@ last_is (x ∷ []) r (suc i) len is = absurd (omega (arith, len))
 last_is (x ∷ y ∷ page) r zero len is = absurd (omega (arith, len))
 last_is (x ∷ y ∷ page) r (suc i) len is = last_is (y ∷ page) r i (omega (arith, len)) is
 
--- the key of the last row, or a key where there is none
-abbrev last_from : RowKey → List (RowKey × Row) → RowKey
-last_from k [] = k
-last_from k (r ∷ rows) = last_from r.0 rows
-
-last_of-from : (k : RowKey) (list : List (RowKey × Row)) (key : RowKey) → last_of list ≡ Some key → last_from k list ≡ key
+last_of-from : (k : RowKey) (list : List (RowKey × Row)) (key : RowKey) → last_of list ≡ Some key → last_or k list ≡ key
 last_of-from k [] key e = absurd (true≢false (sym (ap is_some e)))
 last_of-from k (r ∷ []) key e = some_same r.0 key e
 last_of-from k (r ∷ x ∷ rows) key e = last_of-from r.0 (x ∷ rows) key e
@@ -75,14 +71,14 @@ edge_by bytes row None e h = absurd (true≢false (sym (ap is_some h)))
 edge_by bytes row (Some edge) e h = record { edge = edge; spelled = e; is = sym (some_same (OfEdge edge) row h) }
 
 -- a row of the table of edges is an edge
-edge_is : (key : RowKey) (bytes : List ℕ) (row : Row) → key.tab ≡ 3 → row_of key.tab bytes ≡ Some row → EdgeRead bytes row
+edge_is : (key : RowKey) (bytes : List ℕ) (row : Row) → key.tab ≡ TABLE_OF_EDGES → row_of key.tab bytes ≡ Some row → EdgeRead bytes row
 edge_is key bytes row tab is = edge_by bytes row (edge_of bytes) refl (sym (edge_row bytes) ∙ ap (λ (t : ℕ). row_of t bytes) (sym tab) ∙ is)
 
-last-read : (k : RowKey) (rows : List (RowKey × List ℕ)) (list : List (RowKey × Row)) → rows_read rows ≡ Ok list → last_from k list ≡ last_or k rows
-last-read k [] list read = sym (ap (last_from k) (same_ok [] list read))
+last-read : (k : RowKey) (rows : List (RowKey × List ℕ)) (list : List (RowKey × Row)) → rows_read rows ≡ Ok list → last_or k list ≡ last_or k rows
+last-read k [] list read = sym (ap (last_or k) (same_ok [] list read))
 last-read k (r ∷ rows) list read =
     let f = read_first r.0 r.1 (row_of r.0.tab r.1) (rows_read rows) list read in
-    ap (last_from k) f.list_is ∙ last-read r.0 rows f.rest f.others_are
+    ap (last_or k) f.list_is ∙ last-read r.0 rows f.rest f.others_are
 
 -- ---- the entries of a page
 
@@ -97,11 +93,11 @@ cons_within dir r rows edge is in_dir =
     ap (λ (row : Row). if r.0.a == dir then entry_then r.0.b row (entries_within dir rows) else []) is
     ∙ ap (λ (b : Bool). if b then (r.0.b, edge.inode) ∷ entries_within dir rows else []) in_dir
 
-from_first : (dir : ℕ) (r : RowKey × List ℕ) (rows : List (RowKey × List ℕ)) (edge : Edge) → r.0.tab ≡ 3 → edge_of r.1 ≡ Some edge → (d : Bool)
+from_first : (dir : ℕ) (r : RowKey × List ℕ) (rows : List (RowKey × List ℕ)) (edge : Edge) → r.0.tab ≡ TABLE_OF_EDGES → edge_of r.1 ≡ Some edge → (d : Bool)
     → (r.0.a == dir) ≡ d
     → entries_from dir (r ∷ rows) ≡ cond d ((r.0.b, edge.inode) ∷ entries_from dir rows) (entries_from dir rows)
 from_first dir r rows edge tab spelled d is_dir =
-    ap (λ (b : Bool). cond (b && (r.0.a == dir)) (edge_then r.0.b (edge_of r.1) (entries_from dir rows)) (entries_from dir rows)) (eq-eqb r.0.tab 3 tab)
+    ap (λ (b : Bool). cond (b && (r.0.a == dir)) (edge_then r.0.b (edge_of r.1) (entries_from dir rows)) (entries_from dir rows)) (eq-eqb r.0.tab TABLE_OF_EDGES tab)
     ∙ ap (λ (b : Bool). cond b (edge_then r.0.b (edge_of r.1) (entries_from dir rows)) (entries_from dir rows)) is_dir
     ∙ ap (λ (o : Option Edge). cond d (edge_then r.0.b o (entries_from dir rows)) (entries_from dir rows)) spelled
 
@@ -126,18 +122,18 @@ and_false false x y = refl
 
 skip_other : (dir : ℕ) (r : RowKey × List ℕ) (rows : List (RowKey × List ℕ)) → (r.0.a == dir) ≡ false → entries_from dir (r ∷ rows) ≡ entries_from dir rows
 skip_other dir r rows other =
-    ap (λ (b : Bool). cond ((r.0.tab == 3) && b) (edge_then r.0.b (edge_of r.1) (entries_from dir rows)) (entries_from dir rows)) other
-    ∙ and_false (r.0.tab == 3) (edge_then r.0.b (edge_of r.1) (entries_from dir rows)) (entries_from dir rows)
+    ap (λ (b : Bool). cond ((r.0.tab == TABLE_OF_EDGES) && b) (edge_then r.0.b (edge_of r.1) (entries_from dir rows)) (entries_from dir rows)) other
+    ∙ and_false (r.0.tab == TABLE_OF_EDGES) (edge_then r.0.b (edge_of r.1) (entries_from dir rows)) (entries_from dir rows)
 
 -- rows of later directories have none of its entries
-none-from : (dir : ℕ) (k : RowKey) (rows : List (RowKey × List ℕ)) → Chain k rows → k.tab ≡ 3 → dir < k.a → entries_from dir rows ≡ []
+none-from : (dir : ℕ) (k : RowKey) (rows : List (RowKey × List ℕ)) → Chain k rows → k.tab ≡ TABLE_OF_EDGES → dir < k.a → entries_from dir rows ≡ []
 none-from dir k [] c tab low = refl
 none-from dir k (r ∷ rows) c tab low =
     let up : k.a ≤ r.0.a = number-rises k r.0 (tab ∙ sym c.0.table) c.0.above in
     let past : dir < r.0.a = omega (arith, low, up) in
     skip_other dir r rows (ne_eqb r.0.a dir (λ e. absurd (omega (arith, past, e)))) ∙ none-from dir r.0 rows c.1 c.0.table past
 
-ends_at : (dir : ℕ) (k : RowKey) (r : RowKey × List ℕ) (rows : List (RowKey × List ℕ)) (row : Row) (rest : List (RowKey × Row)) → Chain k (r ∷ rows) → k.tab ≡ 3
+ends_at : (dir : ℕ) (k : RowKey) (r : RowKey × List ℕ) (rows : List (RowKey × List ℕ)) (row : Row) (rest : List (RowKey × Row)) → Chain k (r ∷ rows) → k.tab ≡ TABLE_OF_EDGES
     → dir ≤ k.a → EdgeRead r.1 row
     → all_within dir ((r.0, row) ∷ rest) ≡ false → (all_within dir rest ≡ false → dir ≤ r.0.a → entries_from dir rows ≡ entries_within dir rest) → (d : Bool)
     → (r.0.a == dir) ≡ d
@@ -157,7 +153,7 @@ ends_at dir k r rows row rest c tab low e other more false is =
     ∙ sym (ap (λ (b : Bool). if b then entry_then r.0.b row (entries_within dir rest) else []) is)
 
 -- a page that has a row of another directory has all entries that are left
-page-ends : (dir : ℕ) (k : RowKey) (rows : List (RowKey × List ℕ)) (n : ℕ) (list : List (RowKey × Row)) → Chain k rows → k.tab ≡ 3 → dir ≤ k.a
+page-ends : (dir : ℕ) (k : RowKey) (rows : List (RowKey × List ℕ)) (n : ℕ) (list : List (RowKey × Row)) → Chain k rows → k.tab ≡ TABLE_OF_EDGES → dir ≤ k.a
     → rows_read (take n rows) ≡ Ok list
     → all_within dir list ≡ false → entries_from dir rows ≡ entries_within dir list
 page-ends dir k rows zero list c tab low read other = absurd (true≢false (ap (all_within dir) (same_ok [] list read) ∙ other))
@@ -179,7 +175,7 @@ page-none dir (r ∷ rows) (suc n) list some read last =
 
 -- ---- the loop
 
-last_within : (dir : ℕ) (k : RowKey) (list : List (RowKey × Row)) → k.a ≡ dir → all_within dir list ≡ true → (last_from k list).a ≡ dir
+last_within : (dir : ℕ) (k : RowKey) (list : List (RowKey × Row)) → k.a ≡ dir → all_within dir list ≡ true → (last_or k list).a ≡ dir
 last_within dir k [] is all = is
 last_within dir k (r ∷ rows) is all =
     let each = all_first (is_entry r.1) (r.0.a == dir) (all_within dir rows) all in
@@ -222,15 +218,15 @@ pub data IsEnd (dir : ℕ) (list : List (RowKey × Row)) : Type 0 where
   NoMore : last_of list ≡ None → IsEnd dir list
 
 pub read-start : (dir : ℕ) (name : List ℕ) (entries : List (List ℕ × ℕ)) (start : Store) → name ≡ [] → entries ≡ []
-    → IsReadTo dir start start (record { tab = 3; a = dir; b = name }) entries
+    → IsReadTo dir start start (record { tab = TABLE_OF_EDGES; a = dir; b = name }) entries
 read-start dir name entries start no_name none = record {
   rows_are = refl;
   opened_at = refl;
   calm = refl;
-  so_far = if_known (λ known. IsReadSoFar known dir (record { tab = 3; a = dir; b = name }) entries) start.rows (λ known is. record {
+  so_far = if_known (λ known. IsReadSoFar known dir (record { tab = TABLE_OF_EDGES; a = dir; b = name }) entries) start.rows (λ known is. record {
     table = refl;
     number = refl;
-    parts = λ i. sym none i ++ entries_from dir (edges_after (record { tab = 3; a = dir; b = sym no_name i }) known);
+    parts = λ i. sym none i ++ entries_from dir (edges_after (record { tab = TABLE_OF_EDGES; a = dir; b = sym no_name i }) known);
   });
 }
 
@@ -296,7 +292,7 @@ abbrev pub has_some : List (List ℕ × ℕ) → Bool
 has_some [] = false
 has_some (e ∷ es) = true
 
-first_by : (dir : ℕ) (r : RowKey × List ℕ) (rows : List (RowKey × List ℕ)) (edge : Edge) → r.0.tab ≡ 3 → edge_of r.1 ≡ Some edge → dir ≤ r.0.a → Chain r.0 rows
+first_by : (dir : ℕ) (r : RowKey × List ℕ) (rows : List (RowKey × List ℕ)) (edge : Edge) → r.0.tab ≡ TABLE_OF_EDGES → edge_of r.1 ≡ Some edge → dir ≤ r.0.a → Chain r.0 rows
     → (d : Bool) → (r.0.a == dir) ≡ d → has_some (entries_from dir (r ∷ rows)) ≡ d
 first_by dir r rows edge tab spelled low c true is = ap has_some (from_first dir r rows edge tab spelled true is)
 first_by dir r rows edge tab spelled low c false is =

@@ -26,9 +26,10 @@ use Rattle.jv_model.specs.tree.Caller.{Caller, Outcome, answered, in_session}
 use Rattle.jv_model.specs.tree.Reading.{lookup, readdir, entries_of, stat, lstat, fstat, open_file, readlink, statfs, described, attr_of, usage_of, file_kind}
 use Rattle.jv_model.specs.tree.Tree.{Tree, Kind, File, Directory, Symlink, node_at, is_directory, target_at}
 use Rattle.jv_model.specs.tree.Walk.{inode_by}
+use Rattle.jv_model.specs.tree.Changes.{content_of}
 use Rattle.jv_outside.specs.Store.{Store}
 use Rattle.jv_volume.specs.TypedRows.{typed}
-use Rattle.jv_volume.specs.TreeOf.{content_of, node_of, tree_of}
+use Rattle.jv_volume.specs.TreeOf.{node_of, tree_of}
 use Rattle.jv_volume.specs.Whole.{Whole}
 use Rattle.jv_volume.specs.Views.{row_in, setting_in, setting_at, counters_in, counters_at, node_in, node_row_at}
 use Rattle.jv_volume.proofs.StoredLaws.{HasNode, found_node, no_node, found_counters, found_setting, whole-stored}

@@ -1,8 +1,7 @@
 -- The attributes that a node's row has, and changes of them.
-use Rattle.std.specs.Prelude.{◌≡◌, ℕ, ◌==◌, not, if◌then◌else◌, List, Option, Some, is_some, Result, Ok, Err, OnOk, OnErr, IfErr}
+use Rattle.std.specs.Prelude.{◌≡◌, ℕ, ◌==◌, not, if◌then◌else◌, List, Option, Some, Result, Ok, OnOk, OnErr, IfErr}
 use Rattle.jv_model.specs.declared.fault.Fault.{Fault}
-use Rattle.jv_model.specs.declared.fault.Fault.TheVariants.{NotPermitted, Stale}
-use Rattle.jv_model.specs.declared.fault.Gone.TheVariants.{Session}
+use Rattle.jv_model.specs.declared.fault.Fault.TheVariants.{NotPermitted}
 use Rattle.jv_model.specs.declared.fault.RowFault.TheVariants.{Bad, Failed, Memory}
 use Rattle.jv_model.specs.declared.fault.TxFault.{TxFault}
 use Rattle.jv_model.specs.declared.fault.TxFault.TheVariants.{Refused, Moved, Rows as OfRows}
@@ -11,12 +10,13 @@ use Rattle.jv_model.specs.declared.row.Row.TheVariants.{OfNode}
 use Rattle.jv_model.specs.declared.setting.Attr.{Attr}
 use Rattle.jv_model.specs.declared.setting.FileKind.{FileKind}
 use Rattle.jv_model.specs.declared.setting.FileKind.TheVariants as kind
-use Rattle.jv_model.specs.FiniteMap.{get, insert}
+use Rattle.jv_model.specs.FiniteMap.{insert}
 use Rattle.jv_model.specs.rows.RowKeys.{RowMap}
 use Rattle.jv_model.specs.rows.RowPlaces.{node_key}
 use Rattle.jv_model.specs.tree.Attempt.{◌>>=◌, require}
 use Rattle.jv_model.specs.tree.Tree.{Tree, in_trash}
 use Rattle.jv_model.specs.tree.Walk.{inode_of}
+use Rattle.jv_model.specs.tree.Caller.{session_there}
 use Rattle.jv_outside.specs.Store.{Store}
 use Rattle.jv_rows.specs.Transactions.{TransactionCounts}
 use Rattle.jv_volume.specs.TypedRows.{typed}
@@ -41,7 +41,7 @@ attr_in inode row = record {
 -- The inode of a path whose attributes may change: the trash and its hours keep theirs.
 abbrev pub changeable_inode : Tree → ℕ → List ℕ → Result ℕ Fault
 changeable_inode t sid path = do
-  _ ← require (is_some (get t.sessions sid)) (Stale (Session sid))
+  _ ← session_there t sid
   inode ← inode_of t path
   _ ← require (not (in_trash inode)) NotPermitted
   Ok inode

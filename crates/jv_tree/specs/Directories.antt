@@ -1,14 +1,13 @@
 -- The entries of a directory among rows that were read.
-use Rattle.std.specs.Prelude.{ℕ, ◌==◌, ◌&&◌, Bool, true, false, if◌then◌else◌, List, [], ◌∷◌, Option, None, Some}
+use Rattle.std.specs.Prelude.{ℕ, ◌==◌, ◌&&◌, Bool, true, false, if◌then◌else◌, List, [], ◌∷◌, Option, option_map}
 use Rattle.jv_model.specs.declared.row.Row.{Row}
 use Rattle.jv_model.specs.declared.row.Row.TheVariants.{OfEdge}
 use Rattle.jv_model.specs.declared.row.RowKey.{RowKey}
+use Rattle.jv_model.specs.Lists.{last_item}
 
 -- the key of the last row
 abbrev pub last_of : List (RowKey × Row) → Option RowKey
-last_of [] = None
-last_of (r ∷ []) = Some r.0
-last_of (r ∷ other ∷ rows) = last_of (other ∷ rows)
+last_of rows = option_map (λ r. r.0) (last_item rows)
 
 -- whether a row is an entry
 abbrev pub is_entry : Row → Bool

@@ -1,5 +1,5 @@
 -- How a new node comes under a new entry: what its row is, what the volume's limits let in, and what becomes of its directory.
-use Rattle.std.specs.Prelude.{◌≡◌, ℕ, ◌+◌, Bool, true, false, ◌&&◌, not, ◌<◌, nat_le, nat_lt, if◌then◌else◌, List, None, Result, Ok, Err, IsTrue}
+use Rattle.std.specs.Prelude.{◌≡◌, ℕ, ◌+◌, Bool, true, false, ◌&&◌, ◌<◌, nat_le, nat_lt, if◌then◌else◌, List, None, Result, Ok, Err, IsTrue}
 use Rattle.jv_model.specs.declared.limits.TheConstants.{FULL_COUNT, MAX_LINKS, SPACE_UNIT}
 use Rattle.jv_model.specs.declared.fault.Fault.{Fault}
 use Rattle.jv_model.specs.declared.fault.Fault.TheVariants.{NoSpace}
@@ -16,8 +16,8 @@ use Rattle.jv_model.specs.tree.Making.{may_be_new, new_place, entered}
 use Rattle.jv_rows.specs.Walks.{pair_in}
 use Rattle.jv_rows.specs.declared.walking.EntryPlace.{EntryPlace}
 use Rattle.jv_volume.specs.TypedRows.{is_entry_name}
-use Rattle.jv_volume.specs.Stored.{node_row, links_by}
-pub use Rattle.jv_model.specs.script.Spelled.{has_no_zero}
+use Rattle.jv_volume.specs.Stored.{node_row, links_by, directory_touched}
+pub use Rattle.jv_model.specs.Lists.{has_no_zero}
 
 -- the place of a new entry, as a pair
 abbrev pub new_pair : Tree → List ℕ → Result (ℕ × List ℕ) Fault
@@ -75,5 +75,5 @@ Grows setting c (Err fault) = (has_room setting c ≡ false) × (fault ≡ NoSpa
 -- a directory that gets an entry has both times at the moment, and one link more for a directory in it, which is refused where
 -- no more can be stored
 abbrev pub GetsEntry : NodeRow → NodeRow → ℕ → ℕ → Result (Unit {0}) Fault → Type 0
-GetsEntry before after now kind (Ok unit) = (after ≡ record before { mtime = now; ctime = now; nlink = before.nlink + links_by kind }) × (kind ≡ 2 → before.nlink < MAX_LINKS)
+GetsEntry before after now kind (Ok unit) = (after ≡ directory_touched now (before.nlink + links_by kind) before) × (kind ≡ 2 → before.nlink < MAX_LINKS)
 GetsEntry before after now kind (Err fault) = (kind ≡ 2) × (before.nlink ≡ MAX_LINKS) × (fault ≡ NoSpace)

@@ -38,12 +38,12 @@ fn store<K: Keeper>(alloc: Global, k: &mut K, inode: u64, node: &Node) -> Result
     Ok(())
 }
 
-/// Sets the permission bits of what a path leads to, at most [`jv_model::MAX_MODE`].
+/// Sets the permission bits of what a path leads to, at most [`jv_model::MAX_MODE`]. POSIX.1-2017, fchmodat.
 ///
 /// # Errors
 ///
-/// Stale where the session is gone, then as of [`walk_to`], and NotPermitted for the trash and its hours. Failed if the keeper
-/// failed. Memory.
+/// Stale where the session is gone, then as of [`walk_to`], and NotPermitted for the trash and its hours. Failed if the
+/// keeper failed. Memory. On error no row has changed.
 pub fn chmod<K: Keeper>(
     alloc: Global,
     k: &mut K,
@@ -66,7 +66,7 @@ pub fn chmod<K: Keeper>(
     store(alloc, k, place.inode, &node)
 }
 
-/// Sets the owner and the group of what a path leads to.
+/// Sets the owner and the group of what a path leads to. POSIX.1-2017, fchownat.
 ///
 /// # Errors
 ///
@@ -94,7 +94,7 @@ pub fn chown<K: Keeper>(
     store(alloc, k, place.inode, &node)
 }
 
-/// Sets the time of the last modification of what a path leads to, in seconds.
+/// Sets the time of the last modification of what a path leads to, in seconds. POSIX.1-2017, utimensat.
 ///
 /// # Errors
 ///

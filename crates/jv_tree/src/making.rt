@@ -12,17 +12,14 @@ ghost use Rattle.jv_rows.specs.Walks.{ComesToEntry, HasNodeRow};
 ghost use Rattle.jv_tree.specs.Entering.{has_no_zero, new_pair, place_of, IsFreePlace, IsNewKind, new_row, enter, Grows, GetsEntry};
 
 use jv_model::{
-    Bytes, Counters, DIRECTORY_LENGTH, Edge, FULL_COUNT, Fault, MAX_PATH, Moment, Node, Path, ROOT,
-    RowFault, SPACE_UNIT, Sequence, Setting, TRASH_ROOT, TxFault, Who, copied,
+    Bytes, Counters, DIRECTORY_LENGTH, Edge, FULL_COUNT, FULL_MODE, Fault, MAX_PATH, Moment, Node,
+    Path, ROOT, RowFault, SPACE_UNIT, Sequence, Setting, TRASH_ROOT, TxFault, Who, copied,
 };
 use jv_outside::Keeper;
 use jv_rows::{
     Draft, EntryPlace, in_session, needed_counters, needed_setting, read_edge, walk_to_entry,
 };
 use std::alloc::Global;
-
-/// All may do all with a symlink: its target's bits decide.
-const SYMLINK_MODE: u16 = 0o777;
 
 // Whether a new entry may stand there: not in the trash, and not in the place of `.trash`.
 fn may_be_new(dir: u64, name: &[u8]) -> bool
@@ -31,12 +28,13 @@ fn may_be_new(dir: u64, name: &[u8]) -> bool
     dir < TRASH_ROOT && !(dir == ROOT && name == b".trash".as_slice())
 }
 
-/// Where a new entry may stand: not in the trash, and not where one is. No row changes.
+/// Where a new entry may stand: not in the trash, and not where one is. No row changes. POSIX.1-2017, 4.13 "Pathname
+/// Resolution".
 ///
 /// # Errors
 ///
-/// As of [`jv_rows::walk_to_entry`], NotPermitted in the trash and in the place of `.trash`, and AlreadyExists where an entry
-/// is. Bad for a malformed entry, Failed if the keeper failed, Memory.
+/// As of [`jv_rows::walk_to_entry`], NotPermitted in the trash and in the place of `.trash`, and AlreadyExists where an
+/// entry is. Bad for a malformed entry, Failed if the keeper failed, Memory.
 pub fn new_place<K: Keeper>(alloc: Global, k: &mut K, path: &Path) -> Result<EntryPlace, TxFault>
     ensures { ComesToEntry (K.seen k.old) (K.seen k.new) result (λ t. new_pair t path.now) }
 {
@@ -145,12 +143,13 @@ fn new_node(alloc: Global, kind: u8, mode: u16, now: Moment) -> Node
 }
 
 /// Makes an empty directory with these permission bits, at most [`jv_model::MAX_MODE`], and returns its inode.
+/// POSIX.1-2017, mkdirat.
 ///
 /// # Errors
 ///
-/// Stale where the session is gone, then as of [`new_place`], and NoSpace where a limit of the volume, the inodes or the link
-/// count of the directory leaves no room. Bad for a malformed setting or malformed counters, and without bytes where one of
-/// them is absent. Failed if the keeper failed. Memory.
+/// Stale where the session is gone, then as of [`new_place`], and NoSpace where a limit of the volume, the inodes or
+/// the link count of the directory leaves no room. Bad for a malformed setting or malformed counters, and without bytes
+/// where one of them is absent. Failed if the keeper failed. Memory. On error no row has changed.
 pub fn mkdir<K: Keeper>(
     alloc: Global,
     k: &mut K,
@@ -175,7 +174,8 @@ pub fn mkdir<K: Keeper>(
     enter(alloc, k, who.now, &mut place, &node)
 }
 
-/// Makes an empty file with these permission bits, at most [`jv_model::MAX_MODE`], and returns its inode.
+/// Makes an empty file with these permission bits, at most [`jv_model::MAX_MODE`], and returns its inode. POSIX.1-2017,
+/// openat with O_CREAT and O_EXCL.
 ///
 /// # Errors
 ///
@@ -205,7 +205,7 @@ pub fn create<K: Keeper>(
     )
 }
 
-/// Makes a symlink with a target, and returns its inode.
+/// Makes a symlink with a target, and returns its inode. POSIX.1-2017, symlinkat.
 ///
 /// # Errors
 ///
@@ -232,7 +232,8 @@ pub fn symlink<K: Keeper>(
     let node = Node {
         length: target.len() as u64,
         target: copied(alloc, target.as_slice())?,
-        ..new_node(alloc, 3, SYMLINK_MODE, who.now)
+        // All may do all with a symlink: its target's bits decide.
+        ..new_node(alloc, 3, FULL_MODE, who.now)
     };
     enter(alloc, k, who.now, &mut place, &node)
 }

@@ -7,6 +7,7 @@ ghost use Rattle.jv_tree.specs.Attributes.{kind_in, attr_in};
 ghost use Rattle.jv_tree.specs.Directories.{last_of, entries_within, all_within};
 ghost use Rattle.jv_rows.specs.Transactions.{IsFor, Looks, Transacts, Always};
 
+use jv_model::tables::TABLE_OF_EDGES;
 use jv_model::{
     Attr, Bytes, EntryList, Fault, FileKind, Gone, Node, Path, Row, RowKey, RowList, Sequence,
     Space, TxFault, Who,
@@ -15,7 +16,7 @@ use jv_outside::Keeper;
 use jv_rows::{Draft, in_session, needed_counters, needed_setting, scan_rows, walk_to};
 use std::alloc::{AllocError, Global};
 
-/// The inode of a path, whose last symlink isn't followed. No row changes.
+/// The inode of a path, whose last symlink isn't followed. No row changes. POSIX.1-2017, 4.13 "Pathname Resolution".
 ///
 /// # Errors
 ///
@@ -56,7 +57,8 @@ fn attr_of(inode: u64, node: &Node) -> Attr
     }
 }
 
-/// The attributes of what a path leads to, where a last symlink is followed or isn't. No row changes.
+/// The attributes of what a path leads to, where a last symlink is followed or isn't. No row changes. POSIX.1-2017,
+/// fstatat.
 ///
 /// # Errors
 ///
@@ -80,11 +82,12 @@ pub fn stat<K: Keeper>(
     Ok(attr_of(place.inode, &place.node))
 }
 
-/// The attributes of an open file, which may be gone. No row changes.
+/// The attributes of an open file, which may be gone. No row changes. POSIX.1-2017, fstat.
 ///
 /// # Errors
 ///
-/// Stale where the session is gone, or then the file. Bad for a malformed row of the file, Failed if the keeper failed. Memory.
+/// Stale where the session is gone, or then the file. Bad for a malformed row of the file, Failed if the keeper failed.
+/// Memory.
 pub fn fstat<K: Keeper>(alloc: Global, k: &mut K, who: &Who, inode: u64) -> Result<Attr, TxFault>
     ensures { (caller : Caller) → IsFor who.entry.now caller → caller.inode ≡ inode
         → Transacts Always (K.seen k.old) (K.seen k.new) result (λ attr. Described attr)
@@ -97,7 +100,8 @@ pub fn fstat<K: Keeper>(alloc: Global, k: &mut K, who: &Who, inode: u64) -> Resu
     }
 }
 
-/// The inode of a file to open for reading and writing: no directory, and behind a followed walk no symlink. No row changes.
+/// The inode of a file to open for reading and writing: no directory, and behind a followed walk no symlink. No row
+/// changes. POSIX.1-2017, openat.
 ///
 /// # Errors
 ///
@@ -159,12 +163,12 @@ fn entries_in<K: Keeper>(alloc: Global, k: &mut K, dir: u64) -> Result<EntryList
 {
     let mut entries = Sequence::new(alloc);
     let mut last = RowKey {
-        tab: 3,
+        tab: TABLE_OF_EDGES,
         a: dir,
         b: Sequence::new(alloc),
     };
     loop {
-        let page = scan_rows(alloc, k, 3, Some(&last), PAGE)?;
+        let page = scan_rows(alloc, k, TABLE_OF_EDGES, Some(&last), PAGE)?;
         let next = last_key(alloc, page.as_slice())?;
         // No list has 2^63 entries, so that the loop ends.
         let count = entries.len();
@@ -176,8 +180,8 @@ fn entries_in<K: Keeper>(alloc: Global, k: &mut K, dir: u64) -> Result<EntryList
     }
 }
 
-/// The entries of a directory in the order of their names' bytes; `.` and `..` aren't listed, nor
-/// `.trash` in the root. No row changes.
+/// The entries of a directory in the order of their names' bytes; `.` and `..` aren't listed, nor `.trash` in the root.
+/// No row changes. POSIX.1-2017, readdir.
 ///
 /// # Errors
 ///
@@ -200,7 +204,7 @@ pub fn readdir<K: Keeper>(
     }
 }
 
-/// The target of a symlink. No row changes.
+/// The target of a symlink. No row changes. POSIX.1-2017, readlinkat.
 ///
 /// # Errors
 ///
@@ -223,12 +227,13 @@ pub fn readlink<K: Keeper>(
     }
 }
 
-/// Used space and inodes, and the two limits as they were set. No row changes.
+/// Used space and inodes, and the two limits as they were set. No row changes. Space is in bytes. POSIX.1-2017,
+/// fstatvfs.
 ///
 /// # Errors
 ///
-/// Stale where the session is gone. Bad for a malformed setting or malformed counters, and without bytes where one of them is
-/// absent. Failed if the keeper failed. Memory.
+/// Stale where the session is gone. Bad for a malformed setting or malformed counters, and without bytes where one of
+/// them is absent. Failed if the keeper failed. Memory.
 pub fn statfs<K: Keeper>(alloc: Global, k: &mut K, who: &Who) -> Result<Space, TxFault>
     ensures { (caller : Caller) → IsFor who.entry.now caller
         → Transacts Always (K.seen k.old) (K.seen k.new)

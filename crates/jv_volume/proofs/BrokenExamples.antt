@@ -2,13 +2,14 @@
 use Rattle.std.specs.Prelude.{codes}
 use Rattle.std.proofs.Common.{◌≡◌, ℕ, zero, suc, List, [], ◌∷◌, get_or, refl, sym, ap, subst, ◌∙◌, arith}
 use Rattle.std.proofs.lemmas.Bool.{false≢true}
+use Rattle.jv_model.specs.declared.limits.TheConstants.{FULL_MODE}
 use Rattle.jv_model.specs.declared.setting.Setting.{Setting}
 use Rattle.jv_model.specs.FiniteMap.{map_of, empty_map, insert}
-use Rattle.jv_model.specs.tree.Tree.{Tree, Node, File, Directory, EntryKey, new_node, fresh_tree, root, trash_root, full_mode}
+use Rattle.jv_model.specs.tree.Tree.{Tree, Node, File, Directory, EntryKey, new_node, fresh_tree, root, trash_root}
 use Rattle.jv_model.specs.tree.Changes.{empty_content}
 use Rattle.jv_model.specs.tree.HourNames.{hour_name}
 use Rattle.jv_model.specs.tree.Trash.{hour_inode, trash_name}
-use Rattle.jv_model.proofs.TreeComputes.{maps_compute, names_compute}
+use Rattle.jv_model.proofs.TreeComputeLaws.{maps_compute, names_compute}
 use Rattle.jv_volume.specs.Shape.{Dir, Reaches, WholeShape, shape_of}
 
 -- a setting, of no meaning here
@@ -25,10 +26,10 @@ abbrev b : List ℕ
 b = codes "b"
 
 abbrev file : Node
-file = new_node (File empty_content) full_mode 0
+file = new_node (File empty_content) FULL_MODE 0
 
 abbrev directory : ℕ → Node
-directory parent = new_node (Directory parent) full_mode 0
+directory parent = new_node (Directory parent) FULL_MODE 0
 
 -- a tree with a root, a trash, and these nodes and entries
 abbrev tree : List (ℕ × Node) → List (EntryKey × ℕ) → Tree

@@ -5,6 +5,7 @@ use Rattle.std.proofs.lemmas.Bool.{cases_eq, cases_Bool, and_cases, and_parts, f
 use Rattle.jv_model.specs.FiniteMap.{Map, number_key, get, remove, sum_over}
 use Rattle.jv_model.specs.tree.Tree.{Tree, Node, root, trash_root, node_at, node_count, is_counted, used_inodes}
 use Rattle.jv_model.proofs.FiniteMapLaws.{share, sum-remove}
+use Rattle.jv_model.proofs.TestLaws.{at_most_one}
 use Rattle.jv_volume.specs.Shape.{Form, Dir, WholeShape, form_of, is_there, is_top, shape_of, Reaches}
 use Rattle.jv_volume.proofs.ClimbLaws.{Once, once_at, steps_within}
 use Rattle.jv_volume.proofs.MapLaws.{sum-nothing}
@@ -45,12 +46,8 @@ module _ (t : Tree) (w : WholeShape (shape_of t)) where
 
   -- no more inodes are counted than were given
   pub used_below : used_inodes t ≤ t.next_inode
-  used_below = sum-below node_count (λ k x. at_most (is_counted k)) t.next_inode t.nodes (λ k x is. below k x is (is_counted k) refl)
+  used_below = sum-below node_count (λ k x. at_most_one (is_counted k)) t.next_inode t.nodes (λ k x is. below k x is (is_counted k) refl)
     where
-      at_most : (b : Bool) → (if b then 1 else 0) ≤ 1
-      at_most true = omega arith
-      at_most false = omega arith
-
       below : (k : ℕ) (x : Node) → node_at t k ≡ Some x → (b : Bool) → is_counted k ≡ b → (k < t.next_inode) ⊎ (node_count k x ≡ 0)
       below k x is true counted = inl (w.below k (there_at k (ap is_some is)) (lt-ltb k trash_root (counted_low k counted)))
       below k x is false counted = inr (ap (λ b. if b then 1 else 0) counted)

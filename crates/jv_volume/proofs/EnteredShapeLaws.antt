@@ -2,8 +2,9 @@
 use Rattle.std.proofs.Common.{◌≡◌, ◌≢◌, ℕ, suc, ◌+◌, ◌≤◌, ◌<◌, true, false, inl, inr, List, None, Some, sym, ap, subst, ◌∙◌, arith}
 use Rattle.std.specs.Prelude.{IsTrue, nat_lt}
 use Rattle.std.proofs.lemmas.Bool.{or_parts, and_left, not-true, false≢true, le-ltb, leb-false, ltb-true, lt-ltb, cases_eq, false_from_ne_true}
+use Rattle.jv_model.specs.declared.limits.TheConstants.{FULL_COUNT}
 use Rattle.jv_model.specs.FiniteMap.{insert}
-use Rattle.jv_model.specs.tree.Tree.{Tree, Node, Content, File, Directory, Symlink, EntryKey, entry_key, root, trash_root, full_count, new_node, node_at, is_directory}
+use Rattle.jv_model.specs.tree.Tree.{Tree, Node, Content, File, Directory, Symlink, EntryKey, entry_key, root, trash_root, new_node, node_at, is_directory}
 use Rattle.jv_model.specs.tree.Changes.{put_node, with_node}
 use Rattle.jv_model.specs.tree.Making.{may_be_new, with_next}
 use Rattle.jv_model.proofs.TestLaws.{none_if}
@@ -26,7 +27,7 @@ pub record MayEnter (s : Shape) (place : EntryKey) (new : ℕ) (f : Form) (next 
   pub hours : IsTrue (nat_lt trash_root new) → IsTrue (is_hour new) × (f ≡ Dir trash_root)
   pub below : IsTrue (nat_lt new trash_root) → new < next
   pub grows : s.next_inode ≤ next
-  pub ends : next ≤ full_count
+  pub ends : next ≤ FULL_COUNT
 
 module _ (s : Shape) (place : EntryKey) (new : ℕ) (f : Form) (next : ℕ) (w : WholeShape s) (h : MayEnter s place new f next) where
   abbrev after : Shape
@@ -202,7 +203,7 @@ next_absent t w = none_if (node_at t t.next_inode) (false_from_ne_true _ (λ the
     absurd (omega (arith, less))))
 
 module _ (t : Tree) (now : ℕ) (place : EntryKey) (w : WholeShape (shape_of t)) (free : named (shape_of t) place ≡ None)
-    (within : is_directory t place.dir ≡ true) (may : may_be_new place ≡ true) (room : t.next_inode < full_count) where
+    (within : is_directory t place.dir ≡ true) (may : may_be_new place ≡ true) (room : t.next_inode < FULL_COUNT) where
   -- the next inode, of any kind that has this parent where it is a directory
   pub whole-with_next : (node : Node) → ((parent : ℕ) → form_of (Some node) ≡ Dir parent → parent ≡ place.dir)
       → WholeShape (shape_of (with_next t now place node))

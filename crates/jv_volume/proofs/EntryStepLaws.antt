@@ -10,13 +10,12 @@ use Rattle.jv_model.specs.declared.row.Row.TheVariants.{OfCounters, OfNode, OfEd
 use Rattle.jv_model.specs.FiniteMap.{number_key, get, insert, remove}
 use Rattle.jv_model.specs.rows.RowKeys.{row_key, row_cmp}
 use Rattle.jv_model.specs.rows.RowPlaces.{setting_key, counters_key, node_key, edge_key, session_key, sustained_key}
-use Rattle.jv_model.specs.tree.Tree.{Tree, EntryKey, entry_key, is_directory, link_count}
+use Rattle.jv_model.specs.tree.Tree.{Tree, EntryKey, entry_key, is_directory, link_count, naming}
 use Rattle.jv_model.specs.tree.Changes.{touched, put_node, put_entry, take_entry}
 use Rattle.jv_volume.specs.TypedRows.{Cell, Rows}
 use Rattle.jv_volume.specs.Views.{node_row_at}
 use Rattle.jv_volume.specs.TreeOf.{node_of, tree_of}
-use Rattle.jv_volume.specs.Shape.{naming}
-use Rattle.jv_volume.specs.Stored.{Stored, number_of_node}
+use Rattle.jv_volume.specs.Stored.{Stored, number_of_node, directory_touched}
 use Rattle.jv_volume.proofs.ShapeMapLaws.{naming_same, naming_apart, same_or_apart, get-inserted, get-insert_apart, get-removed, get-remove_apart}
 use Rattle.jv_volume.proofs.MapLaws.{alter-same}
 use Rattle.jv_volume.proofs.NodeRowLaws.{IsNodeRow, IsNodeRow-touched}
@@ -25,7 +24,6 @@ use Rattle.jv_volume.proofs.TreeOfLaws.{tree_of-put_node, tree_of-put_edge, tree
 use Rattle.jv_volume.proofs.ChangeLaws.{change_node-setting, change_node-next_inode, change_node-next_session, put_entry-there, take_entry-there}
 use Rattle.jv_volume.proofs.LinkLaws.{standing, standing_here, standing_apart, link_count-put_entry-leaf, link_count-put_entry-dir, link_count-take_entry-leaf, link_count-take_entry-dir, none_within}
 use Rattle.jv_volume.proofs.SumLaws.{used_space-put_entry, used_space-take_entry, used_inodes-put_entry, used_inodes-take_entry}
-use Rattle.jv_volume.proofs.MadeRowsLaws.{touched_row}
 use Rattle.jv_volume.proofs.StoredStepLaws.{NodeGoes, NodeKept, NodePut, EdgeGoes, EdgeKept, EdgePut, EdgeGone, CellKept, stored-goes, number-put_entry, number-take_entry, row_number, put_kept, drop_kept, node_apart, node_here}
 
 -- what an entry adds to the link count of its directory, and to that of its inode, by the inode's kind
@@ -98,7 +96,7 @@ module _ (bytes : ℕ → ℕ → ℕ) (rows : Rows) (now : ℕ) (at : EntryKey)
   edge_cell = Ok (OfEdge edge)
 
   abbrev dir_more : Cell
-  dir_more = Ok (OfNode (touched_row now (dir.nlink + to_dir row) dir))
+  dir_more = Ok (OfNode (directory_touched now (dir.nlink + to_dir row) dir))
 
   abbrev row_more : NodeRow
   row_more = record row { nlink = row.nlink + to_inode row }
@@ -119,7 +117,7 @@ module _ (bytes : ℕ → ℕ → ℕ) (rows : Rows) (now : ℕ) (at : EntryKey)
   }
   by_entry =
       tree_of-put_node bytes e2 inode row_more
-      ∙ ap (λ (x : Tree). put_node x inode (node_of (bytes inode) row)) (tree_of-put_node bytes e1 at.dir (touched_row now (dir.nlink + to_dir row) dir)
+      ∙ ap (λ (x : Tree). put_node x inode (node_of (bytes inode) row)) (tree_of-put_node bytes e1 at.dir (directory_touched now (dir.nlink + to_dir row) dir)
       ∙ ap (λ (x : Tree). put_node x at.dir (touched now (node_of (bytes at.dir) dir))) (tree_of-put_edge bytes rows at.dir at.name edge))
 
   still_node : get (insert t.nodes at.dir (touched now (node_of (bytes at.dir) dir))) inode ≡ Some (node_of (bytes inode) row)
@@ -145,10 +143,10 @@ module _ (bytes : ℕ → ℕ → ℕ) (rows : Rows) (now : ℕ) (at : EntryKey)
         (subst (λ l. IsNodeRow l (bytes inode) row_more) (sym (put_share free inode ∙ (λ i. sym inode_is.links i + share_inode i)))
         (ap (λ (r : NodeRow). record r { nlink = row.nlink + to_inode row }) inode_is.row_is)))
     | inr other ↦ elim (cases_eq k at.dir) [
-      | inl same ↦ NodePut (touched_row now (dir.nlink + to_dir row) dir) (node_apart e2 inode (Ok (OfNode row_more)) k other
+      | inl same ↦ NodePut (directory_touched now (dir.nlink + to_dir row) dir) (node_apart e2 inode (Ok (OfNode row_more)) k other
           ∙ node_here e1 at.dir dir_more k same)
-          (subst (λ i. IsNodeRow (link_count with_it i) (bytes i) (touched_row now (dir.nlink + to_dir row) dir)) (sym same)
-          (subst (λ l. IsNodeRow l (bytes at.dir) (touched_row now (dir.nlink + to_dir row) dir)) (sym (put_share free at.dir
+          (subst (λ i. IsNodeRow (link_count with_it i) (bytes i) (directory_touched now (dir.nlink + to_dir row) dir)) (sym same)
+          (subst (λ l. IsNodeRow l (bytes at.dir) (directory_touched now (dir.nlink + to_dir row) dir)) (sym (put_share free at.dir
           ∙ (λ i. sym at_is.links i + share_dir i)))
           (IsNodeRow-touched (bytes at.dir) dir now (link_count t at.dir) (dir.nlink + to_dir row) at_is.row_is)))
       | inr aside ↦ NodeKept (node_apart e2 inode (Ok (OfNode row_more)) k other ∙ node_apart e1 at.dir dir_more k aside
@@ -195,7 +193,7 @@ module _ (bytes : ℕ → ℕ → ℕ) (rows : Rows) (now : ℕ) (at : EntryKey)
   without_it = take_entry t now at
 
   abbrev dir_less : Cell
-  dir_less = Ok (OfNode (touched_row now (dir.nlink - to_dir row) dir))
+  dir_less = Ok (OfNode (directory_touched now (dir.nlink - to_dir row) dir))
 
   abbrev row_less : NodeRow
   row_less = record row { nlink = row.nlink - to_inode row }
@@ -216,7 +214,7 @@ module _ (bytes : ℕ → ℕ → ℕ) (rows : Rows) (now : ℕ) (at : EntryKey)
   }
   by_no_entry =
       tree_of-put_node bytes l2 inode row_less
-      ∙ ap (λ (x : Tree). put_node x inode (node_of (bytes inode) row)) (tree_of-put_node bytes l1 at.dir (touched_row now (dir.nlink - to_dir row) dir)
+      ∙ ap (λ (x : Tree). put_node x inode (node_of (bytes inode) row)) (tree_of-put_node bytes l1 at.dir (directory_touched now (dir.nlink - to_dir row) dir)
       ∙ ap (λ (x : Tree). put_node x at.dir (touched now (node_of (bytes at.dir) dir))) (tree_of-drop_edge bytes rows at.dir at.name))
 
   pub tree_of-entry_out : tree_of bytes rows_without_entry ≡ take_entry t now at
@@ -242,10 +240,10 @@ module _ (bytes : ℕ → ℕ → ℕ) (rows : Rows) (now : ℕ) (at : EntryKey)
         (subst (λ l. IsNodeRow l (bytes inode) row_less) (sym (links_less named inode row.nlink (to_inode row) inode_is.links share_inode))
         (ap (λ (r : NodeRow). record r { nlink = row.nlink - to_inode row }) inode_is.row_is)))
     | inr other ↦ elim (cases_eq k at.dir) [
-      | inl same ↦ NodePut (touched_row now (dir.nlink - to_dir row) dir) (node_apart l2 inode (Ok (OfNode row_less)) k other
+      | inl same ↦ NodePut (directory_touched now (dir.nlink - to_dir row) dir) (node_apart l2 inode (Ok (OfNode row_less)) k other
           ∙ node_here l1 at.dir dir_less k same)
-          (subst (λ i. IsNodeRow (link_count without_it i) (bytes i) (touched_row now (dir.nlink - to_dir row) dir)) (sym same)
-          (subst (λ l. IsNodeRow l (bytes at.dir) (touched_row now (dir.nlink - to_dir row) dir))
+          (subst (λ i. IsNodeRow (link_count without_it i) (bytes i) (directory_touched now (dir.nlink - to_dir row) dir)) (sym same)
+          (subst (λ l. IsNodeRow l (bytes at.dir) (directory_touched now (dir.nlink - to_dir row) dir))
           (sym (links_less named at.dir dir.nlink (to_dir row) at_is.links share_dir))
           (IsNodeRow-touched (bytes at.dir) dir now (link_count t at.dir) (dir.nlink - to_dir row) at_is.row_is)))
       | inr aside ↦ NodeKept (node_apart l2 inode (Ok (OfNode row_less)) k other ∙ node_apart l1 at.dir dir_less k aside

@@ -13,7 +13,7 @@ use Rattle.jv_volume.specs.Views.{row_in, records_in, lists_of, node_row_at, dro
 use Rattle.jv_volume.specs.TreeOf.{counters_of}
 use Rattle.jv_volume.specs.Slices.{place_in, HasLists, OfFile, OfDropped, WholeFiles}
 use Rattle.jv_volume.specs.Whole.{Quiet}
-use Rattle.jv_volume.proofs.QuietLaws.{quiet-lists_of}
+use Rattle.jv_volume.proofs.QuietLaws.{lists_of-stay}
 
 -- a list without records shows no slice anywhere
 pub nothing_shows : (p : ℕ) → stored_place [] p ≡ Zero
@@ -57,7 +57,7 @@ nothing_shown lists position none = ap (λ l. stored_place l (position % WINDOW)
 
 module _ (rows after : Rows) (quiet : Quiet rows after) (w : WholeFiles rows) (g : FilesGo rows after) where
   same_lists : (inode : ℕ) → lists_of after inode ≡ lists_of rows inode
-  same_lists inode = λ i window. quiet-lists_of rows after quiet inode window i
+  same_lists inode = λ i window. lists_of-stay rows after quiet.apart inode window i
 
   small_after : (inode : ℕ) (node : NodeRow) → FileIs rows inode node → node.length ≤ FILE_END
   small_after inode node (AsBefore was there file same) = subst (λ n. n ≤ FILE_END) (sym same) (w.small inode was there file)

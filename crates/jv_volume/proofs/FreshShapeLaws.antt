@@ -2,9 +2,10 @@
 use Rattle.std.proofs.Common.{◌≡◌, ◌≢◌, ℕ, zero, ◌<◌, true, ◌⊎◌, inl, inr, None, Some, is_some, sym, ap, ◌∙◌, arith}
 use Rattle.std.specs.Prelude.{IsTrue, nat_lt}
 use Rattle.std.proofs.lemmas.Bool.{false≢true, ltb-true, cases_eq}
+use Rattle.jv_model.specs.declared.limits.TheConstants.{FULL_MODE}
 use Rattle.jv_model.specs.declared.setting.Setting.{Setting}
 use Rattle.jv_model.specs.FiniteMap.{Map, number_key, empty_map, get, insert}
-use Rattle.jv_model.specs.tree.Tree.{Node, Directory, EntryKey, entry_key, pair_key, fresh_tree, new_node, full_mode, root, trash_root}
+use Rattle.jv_model.specs.tree.Tree.{Node, Directory, EntryKey, entry_key, pair_key, fresh_tree, new_node, root, trash_root}
 use Rattle.jv_model.proofs.FiniteMapLaws.{get-empty_map}
 use Rattle.jv_volume.specs.Shape.{Absent, Dir, Shape, form_of, is_there, is_dir, shape_of, named, keeps, is_top, WholeShape}
 use Rattle.jv_volume.proofs.ShapeMapLaws.{get-inserted, get-insert_apart}
@@ -19,7 +20,7 @@ module _ (setting : Setting) (now : ℕ) where
   fresh = shape_of (fresh_tree setting now)
 
   abbrev first : Map number_key Node
-  first = insert empty_map root (new_node (Directory root) full_mode now)
+  first = insert empty_map root (new_node (Directory root) FULL_MODE now)
 
   trash_is : fresh.form trash_root ≡ Dir root
   trash_is = ap form_of (get-inserted number_key first trash_root _)

@@ -4,7 +4,8 @@ use Rattle.std.specs.Option.{option_map}
 use Rattle.std.specs.List.{AllByRecursion}
 use Rattle.std.proofs.lemmas.Option.{none-some, same_Some}
 use Rattle.std.proofs.lemmas.Bool.{cond-true, cond-false, eq-eqb, ne_eqb, cases_eq}
-use Rattle.jv_model.specs.declared.limits.TheConstants.{DIRECTORY_LENGTH}
+use Rattle.jv_model.specs.declared.tables.TheConstants.{TABLE_OF_LISTS}
+use Rattle.jv_model.specs.declared.limits.TheConstants.{DIRECTORY_LENGTH, FULL_MODE, READ_ONLY_MODE}
 use Rattle.jv_model.specs.declared.row.RowKey.{RowKey}
 use Rattle.jv_model.specs.declared.row.Counters.{Counters}
 use Rattle.jv_model.specs.declared.row.Node.{Node as NodeRow}
@@ -13,9 +14,9 @@ use Rattle.jv_model.specs.declared.setting.Setting.{Setting}
 use Rattle.jv_model.specs.declared.slice.Rec.{Rec}
 use Rattle.jv_model.specs.FiniteMap.{number_key, empty_map, get, insert, map_of}
 use Rattle.jv_model.specs.rows.RowPlaces.{setting_key, counters_key, node_key, edge_key, session_key, sustained_key, slice_key, dropped_key, dead_key}
-use Rattle.jv_model.specs.tree.Tree.{Tree, entry_key, pair_key, root, trash_root, full_mode, read_only_mode, fresh_tree, node_at, link_count}
+use Rattle.jv_model.specs.tree.Tree.{Tree, entry_key, pair_key, root, trash_root, fresh_tree, node_at, link_count}
 use Rattle.jv_model.proofs.FiniteMapLaws.{get-empty_map}
-use Rattle.jv_model.proofs.TreeComputes.{maps_compute}
+use Rattle.jv_model.proofs.TreeComputeLaws.{maps_compute}
 use Rattle.jv_model.specs.blocks.Slices.{IsRecord}
 use Rattle.jv_volume.specs.TypedRows.{Cell, Rows}
 use Rattle.jv_volume.specs.Views.{row_in, node_in, records_in, slice_in, dropped_in, dead_in, node_row_at, slice_row_at, dropped_at, dead_at}
@@ -52,8 +53,8 @@ abbrev first_entries : Setting → ℕ → List (RowKey × Cell)
 first_entries setting at =
     (setting_key, Ok (OfSetting setting))
     ∷ (counters_key, Ok (OfCounters first_counters))
-    ∷ (node_key root, Ok (OfNode (first_directory full_mode at)))
-    ∷ (node_key trash_root, Ok (OfNode (first_directory read_only_mode at)))
+    ∷ (node_key root, Ok (OfNode (first_directory FULL_MODE at)))
+    ∷ (node_key trash_root, Ok (OfNode (first_directory READ_ONLY_MODE at)))
     ∷ []
 
 -- the same as a map
@@ -125,9 +126,9 @@ module _ (setting : Setting) (at : ℕ) where
   -- no list, no slice
 
   no_list : (key : RowKey) → listed key (get rows key) ≡ []
-  no_list key = elim (cases_eq key.tab 4) [
-    | inl e ↦ cond-true _ _ _ (eq-eqb key.tab 4 e) ∙ ap (λ o. records_in (row_in o)) (none_at 4 key (first_entries setting at) e tt)
-    | inr apart ↦ cond-false _ _ _ (ne_eqb key.tab 4 apart)
+  no_list key = elim (cases_eq key.tab TABLE_OF_LISTS) [
+    | inl e ↦ cond-true _ _ _ (eq-eqb key.tab TABLE_OF_LISTS e) ∙ ap (λ o. records_in (row_in o)) (none_at 4 key (first_entries setting at) e tt)
+    | inr apart ↦ cond-false _ _ _ (ne_eqb key.tab TABLE_OF_LISTS apart)
   ]
 
   lists_have : (P : Rec → Type 0) → ListsHave P rows
@@ -168,11 +169,11 @@ module _ (setting : Setting) (at : ℕ) where
 
   root_kind : (node : NodeRow) → node_row_at rows root ≡ Some node → node.kind ≡ 2
   unfolding maps_compute
-  root_kind node is = ap (λ (n : NodeRow). n.kind) (sym (same_Some (first_directory full_mode at) node is))
+  root_kind node is = ap (λ (n : NodeRow). n.kind) (sym (same_Some (first_directory FULL_MODE at) node is))
 
   trash_kind : (node : NodeRow) → node_row_at rows trash_root ≡ Some node → node.kind ≡ 2
   unfolding maps_compute
-  trash_kind node is = ap (λ (n : NodeRow). n.kind) (sym (same_Some (first_directory read_only_mode at) node is))
+  trash_kind node is = ap (λ (n : NodeRow). n.kind) (sym (same_Some (first_directory READ_ONLY_MODE at) node is))
 
   kind_is : (inode : ℕ) (node : NodeRow) → node_row_at rows inode ≡ Some node → node.kind ≡ 2
   kind_is inode node is = elim (cases_eq inode root) [

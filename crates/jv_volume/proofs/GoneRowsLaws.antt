@@ -21,7 +21,7 @@ use Rattle.jv_volume.specs.TypedRows.{Cell, Rows}
 use Rattle.jv_volume.specs.Views.{row_in, edge_in, counters_at, node_row_at}
 use Rattle.jv_volume.specs.TreeOf.{node_of, tree_of}
 use Rattle.jv_volume.specs.Shape.{form_of, is_dir}
-use Rattle.jv_volume.specs.Stored.{Stored, number_of_node, counters_row}
+use Rattle.jv_volume.specs.Stored.{Stored, number_of_node, counters_row, directory_touched}
 use Rattle.jv_volume.proofs.ShapeMapLaws.{same_or_apart, get-inserted, get-insert_apart, get-removed, get-remove_apart}
 use Rattle.jv_volume.proofs.MapLaws.{alter-swap}
 use Rattle.jv_volume.proofs.NodeRowLaws.{IsNodeRow, IsNodeRow-touched}
@@ -32,14 +32,13 @@ use Rattle.jv_volume.proofs.TreeOfLaws.{get-entries, tree_of-put_node, tree_of-d
 use Rattle.jv_volume.proofs.ChangeLaws.{take_entry-there}
 use Rattle.jv_volume.proofs.LinkLaws.{standing, standing_here, standing_apart, dirs-shape, link_count-without_leaf, link_count-without_dir, none_within}
 use Rattle.jv_volume.proofs.SumLaws.{used_space-removed, used_inodes-removed}
-use Rattle.jv_volume.proofs.MadeRowsLaws.{touched_row}
 
 abbrev pub shrunk : ℕ → ℕ → Counters → Counters
 shrunk space count c = record c { used_space = c.used_space - space; used_inodes = c.used_inodes - count }
 
 abbrev pub gone_rows : Rows → ℕ → EntryKey → ℕ → NodeRow → ℕ → Counters → ℕ → ℕ → Rows
 gone_rows rows now place inode dir links c space count =
-    insert (insert (remove (remove rows (node_key inode)) (edge_key place.dir place.name)) (node_key place.dir) (Ok (OfNode (touched_row now links dir))))
+    insert (insert (remove (remove rows (node_key inode)) (edge_key place.dir place.name)) (node_key place.dir) (Ok (OfNode (directory_touched now links dir))))
     counters_key (Ok (OfCounters (shrunk space count c)))
 
 -- the premises on the rows that go
@@ -84,7 +83,7 @@ module _ (bytes : ℕ → ℕ → ℕ) (rows : Rows) (now : ℕ) (place : EntryK
   r2 = remove r1 (edge_key place.dir place.name)
 
   abbrev dir_row : Cell
-  dir_row = Ok (OfNode (touched_row now links dir))
+  dir_row = Ok (OfNode (directory_touched now links dir))
 
   abbrev r3 : Rows
   r3 = insert r2 (node_key place.dir) dir_row
@@ -101,7 +100,7 @@ module _ (bytes : ℕ → ℕ → ℕ) (rows : Rows) (now : ℕ) (place : EntryK
   by_rows =
       tree_of-put_counters bytes r3 (shrunk space count c)
       ∙ ap (λ (u : Tree). record u { next_inode = c.inode; next_session = c.session })
-      (tree_of-put_node bytes r2 place.dir (touched_row now links dir)
+      (tree_of-put_node bytes r2 place.dir (directory_touched now links dir)
       ∙ ap (λ (u : Tree). put_node u place.dir touched_dir)
       (tree_of-drop_edge bytes r1 place.dir place.name
       ∙ ap (λ (u : Tree). record u { entries = remove u.entries place }) (tree_of-drop_node bytes rows inode)))
@@ -158,9 +157,9 @@ module _ (bytes : ℕ → ℕ → ℕ) (rows : Rows) (now : ℕ) (place : EntryK
   dir_cell cell e =
       let put : get after (node_key place.dir) ≡ Some dir_row = last_put (node_key place.dir) refl ∙ get-inserted row_key r2 (node_key place.dir) dir_row in
       record {
-        row = touched_row now links dir;
+        row = directory_touched now links dir;
         is = cc;
-        row_is = subst (λ l. IsNodeRow l (bytes place.dir) (touched_row now links dir)) (sym dir_links)
+        row_is = subst (λ l. IsNodeRow l (bytes place.dir) (directory_touched now links dir)) (sym dir_links)
             (IsNodeRow-touched (bytes place.dir) dir now (link_count t place.dir) links dir_is.row_is);
       }
 

@@ -2,24 +2,26 @@
 use Rattle.std.proofs.Common.{◌≡◌, ℕ, ◌≤◌, Bool, true, false, not, ◌&&◌, ◌==◌, inl, inr, List, Option, None, Some}
 use Rattle.std.proofs.Common.{is_some, Result, Ok, Err, refl, sym, ap, subst, ◌∙◌, arith}
 use Rattle.std.specs.Prelude.{IsTrue}
-use Rattle.std.specs.List.{list_any}
 use Rattle.std.proofs.lemmas.Bool.{false≢true, and_parts, not-true, false_from_ne_true}
+use Rattle.jv_model.specs.declared.limits.TheConstants.{FULL_COUNT}
 use Rattle.jv_model.specs.declared.op.Op.{Op}
 use Rattle.jv_model.specs.declared.op.Op.TheVariants as op
 use Rattle.jv_model.specs.declared.fault.Fault.{Fault}
 use Rattle.jv_model.specs.FiniteMap.{get}
 use Rattle.jv_model.specs.tree.Attempt.{◌>>=◌}
-use Rattle.jv_model.specs.tree.Tree.{Tree, Node, File, Directory, Symlink, Content, full_count, node_at, content_of}
+use Rattle.jv_model.specs.tree.Tree.{Tree, Node, File, Directory, Symlink, Content, node_at, content_of}
 use Rattle.jv_model.specs.tree.Tree.{content_at, is_sustained}
 use Rattle.jv_model.specs.tree.Changes.{touched, with_content, overwritten, resized, copied_over}
 use Rattle.jv_model.specs.tree.Caller.{Caller, Outcome, outcome}
-use Rattle.jv_model.specs.tree.FileBytes.{committed, truncated, copied, truncate, copy}
+use Rattle.jv_model.specs.tree.FileBytes.{committed, truncated, copied, truncate, copy, copied_between}
 use Rattle.jv_model.specs.tree.TreeAct.{tree_act}
+use Rattle.jv_model.specs.Lists.{is_among}
+use Rattle.jv_model.specs.client.OpForms.{changes_bytes, takes_entries}
 use Rattle.jv_volume.specs.Shape.{Regular, Shape, WholeShape, form_of, is_there, shape_of}
-use Rattle.jv_volume.specs.Holding.{IsHoldable, HasBytes, Kept, New as NewFile, Stays, changes_bytes, takes_entries}
+use Rattle.jv_volume.specs.Holding.{IsHoldable, HasBytes, Kept, New as NewFile, Stays}
 use Rattle.jv_volume.proofs.ShapeMapLaws.{pair_of, is_there-form, form-content}
 use Rattle.jv_volume.proofs.ChangeLaws.{change_node-setting}
-use Rattle.jv_volume.proofs.SameShapeLaws.{between, shape-committed, shape-truncated, shape-copied}
+use Rattle.jv_volume.proofs.SameShapeLaws.{shape-committed, shape-truncated, shape-copied}
 use Rattle.jv_volume.proofs.KeptFilesLaws.{KeepsFiles, NodeKept, Gone, Same, New, keeps-none}
 use Rattle.jv_volume.proofs.KeptOperationLaws.{none_more, those_held, keeps-create, keeps-mkdir, keeps-symlink}
 use Rattle.jv_volume.proofs.KeptOperationLaws.{keeps-link, keeps-chmod, keeps-chown, keeps-utimes, keeps-rmdir}
@@ -84,7 +86,7 @@ kept_by _ who = none_more
 
 -- the trees in which inodes of hours lie past those that are given to new nodes
 abbrev IsLow : Tree → Type 0
-IsLow t = t.next_inode ≤ full_count
+IsLow t = t.next_inode ≤ FULL_COUNT
 
 module _ (t : Tree) (who : Caller) where
   same : (more : ℕ → Bool) (after : Tree) → after ≡ t → KeepsFiles (IsLow t) more t after
@@ -174,14 +176,14 @@ module _ (t : Tree) where
   alike-copied now source from target to len =
       record { shape = shape-copied t now source from target to len; setting = by_test (len == 0) }
     where
-      by_contents : (a b : Option Content) → (between t now a from target b to len).setting ≡ t.setting
+      by_contents : (a b : Option Content) → (copied_between t now a from target b to len).setting ≡ t.setting
       by_contents None b = refl
       by_contents (Some content) None = refl
       by_contents (Some content) (Some other) = setting-with_content now target (copied_over content from other to len)
 
       by_test : (b : Bool) → (elim b as (λ _. Tree) [
         | true ↦ t
-        | false ↦ between t now (content_at t source) from target (content_at t target) to len
+        | false ↦ copied_between t now (content_at t source) from target (content_at t target) to len
       ]).setting ≡ t.setting
       by_test true = refl
       by_test false = by_contents (content_at t source) (content_at t target)
@@ -273,7 +275,7 @@ module _ (t : Tree) (who : Caller) where
     | Changes _ alike ↦ λ h. sustains_alike (tree_act t who o).tree inode alike h
   ])
 
-  kept_held : (o : Op) (inode : ℕ) → IsTrue (kept_by o who inode) → IsTrue (list_any (λ h. h == inode) who.held)
+  kept_held : (o : Op) (inode : ℕ) → IsTrue (kept_by o who inode) → IsTrue (is_among inode who.held)
   kept_held (op.Unlink path) inode h = h
   kept_held (op.Rename path to how) inode h = h
   kept_held o inode h = absurd (false≢true h)
@@ -281,7 +283,7 @@ module _ (t : Tree) (who : Caller) where
   -- and only one that the caller has open
   pub sustains_held : (o : Op) (inode : ℕ)
       → (is_sustained (tree_act t who o).tree who.sid inode && not (is_sustained t who.sid inode)) ≡ true
-      → IsTrue (list_any (λ h. h == inode) who.held)
+      → IsTrue (is_among inode who.held)
   sustains_held o inode = elim (by_bytes t who o) [
     | Leaves leaves ↦ λ h. kept_held o inode
         (sustains_more (IsLow t) (kept_by o who) (tree_act t who o).tree inode (keeps-tree_act t who o leaves) h)

@@ -2,9 +2,9 @@
 use Rattle.std.proofs.Common.{◌≡◌, ◌≢◌, ℕ, ◌/◌, ◌≤◌, ◌<◌, true, Option, None, Some, refl, sym, ap, subst, ◌∙◌, arith}
 use Rattle.std.specs.Prelude.{IsTrue}
 use Rattle.std.proofs.lemmas.Bool.{and_parts, false≢true, lt-ltb, ltb-true}
-use Rattle.jv_model.specs.declared.limits.TheConstants.{LAST_MOMENT}
+use Rattle.jv_model.specs.declared.limits.TheConstants.{LAST_MOMENT, READ_ONLY_MODE}
 use Rattle.jv_model.specs.declared.lifetimes.TheConstants.{HOUR}
-use Rattle.jv_model.specs.tree.Tree.{Tree, Node, Directory, EntryKey, entry_key, new_node, read_only_mode, trash_root, node_at}
+use Rattle.jv_model.specs.tree.Tree.{Tree, Node, Directory, EntryKey, entry_key, new_node, trash_root, node_at}
 use Rattle.jv_model.specs.tree.Changes.{with_node}
 use Rattle.jv_model.specs.tree.HourNames.{hour_name}
 use Rattle.jv_model.specs.tree.Trash.{hour_inode, hour_place, with_hour}
@@ -62,11 +62,11 @@ pub data WithHour (s : Shape) (hour : ℕ) (after : Shape) : Type 0 where
 
 hour_by : (t : Tree) (now hour : ℕ) (o : Option Node) → node_at t (hour_inode hour) ≡ o
     → WithHour (shape_of t) hour (shape_of (elim o as (λ _. Tree) [
-      | None ↦ with_node t now (hour_place hour) (hour_inode hour) (new_node (Directory trash_root) read_only_mode now)
+      | None ↦ with_node t now (hour_place hour) (hour_inode hour) (new_node (Directory trash_root) READ_ONLY_MODE now)
       | Some node ↦ t
     ]))
 hour_by t now hour None e = Comes (ap form_of e)
-    (shape-with_node t now (hour_place hour) (hour_inode hour) (new_node (Directory trash_root) read_only_mode now))
+    (shape-with_node t now (hour_place hour) (hour_inode hour) (new_node (Directory trash_root) READ_ONLY_MODE now))
 hour_by t now hour (Some node) e = Was (ap (λ o. is_there (form_of o)) e ∙ is_there-form (Some node)) refl
 
 -- the shape after `with_hour`

@@ -2,8 +2,8 @@
 use Rattle.std.proofs.Common.{◌≡◌, ℕ, ◌+◌, ◌≤◌, Bool, true, false, cond, not, ◌&&◌, ◌==◌, inl, inr, List, Option, None}
 use Rattle.std.proofs.Common.{Some, is_some, Result, Ok, Err, refl, sym, ap, subst, ◌∙◌, arith}
 use Rattle.std.specs.Prelude.{IsTrue, nat_lt}
-use Rattle.std.specs.List.{list_any}
 use Rattle.std.proofs.lemmas.Bool.{false≢true, cond_both}
+use Rattle.jv_model.specs.declared.limits.TheConstants.{FULL_MODE, READ_ONLY_MODE, FULL_COUNT}
 use Rattle.jv_model.specs.declared.lifetimes.TheConstants.{FIRST_HOUR}
 use Rattle.jv_model.specs.declared.basics.How.{How}
 use Rattle.jv_model.specs.declared.basics.How.TheVariants.{Plain, NoReplace, Exchange}
@@ -12,7 +12,7 @@ use Rattle.jv_model.specs.declared.fault.Fault.TheVariants.{NotFound, AlreadyExi
 use Rattle.jv_model.specs.FiniteMap.{Map, get, insert, remove}
 use Rattle.jv_model.specs.tree.Attempt.{◌>>=◌, require, some_or}
 use Rattle.jv_model.specs.tree.Tree.{Tree, Node, File, Directory, Symlink, Content, EntryKey, SustainedFile}
-use Rattle.jv_model.specs.tree.Tree.{SessionEntry, pair_key, new_node, full_mode, read_only_mode, full_count}
+use Rattle.jv_model.specs.tree.Tree.{SessionEntry, pair_key, new_node}
 use Rattle.jv_model.specs.tree.Tree.{trash_root, in_trash, node_at, content_of, is_directory, entry_count, is_sustained}
 use Rattle.jv_model.specs.tree.Changes.{empty_content, touched, status_changed, put_node, drop_node, change_node}
 use Rattle.jv_model.specs.tree.Changes.{put_entry, take_entry, with_node}
@@ -28,6 +28,7 @@ use Rattle.jv_model.specs.tree.Renaming.{replacing, exchanging, unless_same, ren
 use Rattle.jv_model.specs.tree.Sessions.{with_session, kept_alive, without_session, released, mount, beat, umount}
 use Rattle.jv_model.specs.tree.Sessions.{release}
 use Rattle.jv_model.proofs.FiniteMapLaws.{get-retain_keys}
+use Rattle.jv_model.specs.Lists.{is_among}
 use Rattle.jv_volume.proofs.ShapeMapLaws.{same_or_apart, pair_of, get-insert_apart, get-removed, get-remove_apart}
 use Rattle.jv_volume.proofs.ChangeLaws.{change_node-next_inode, change_node-sustained}
 use Rattle.jv_volume.proofs.WalkShapeLaws.{was_some}
@@ -43,7 +44,7 @@ none_more inode = false
 
 -- those that a caller has open
 abbrev pub those_held : Caller → ℕ → Bool
-those_held who inode = list_any (λ held. held == inode) who.held
+those_held who inode = is_among inode who.held
 
 -- new nodes
 
@@ -68,12 +69,12 @@ held_where_sustained t who place inode =
     let Says = λ (fate : Fate). fate ≡ Sustained → IsTrue (those_held who inode) in
     cond_both (nat_lt 1 (entry_count t inode)) _ _ Says (λ several e. absurd (cc)) (λ few.
     cond_both (nat_lt 0 t.setting.trash_days && not (in_trash place.dir)) _ _ Says (λ days e. absurd (cc)) (λ stays.
-    cond_both (list_any (λ held. held == inode) who.held) _ _ Says (λ used e. used) (λ closed e. absurd (cc))))
+    cond_both (is_among inode who.held) _ _ Says (λ used e. used) (λ closed e. absurd (cc))))
 
 -- the inodes of hours lie past those that are given to new nodes
-high_hour : (hour : ℕ) → full_count ≤ hour_inode hour
+high_hour : (hour : ℕ) → FULL_COUNT ≤ hour_inode hour
 high_hour hour =
-    cond_both (hour == 0) FIRST_HOUR (trash_root + hour) (λ inode. full_count ≤ inode) (λ e. omega arith)
+    cond_both (hour == 0) FIRST_HOUR (trash_root + hour) (λ inode. FULL_COUNT ≤ inode) (λ e. omega arith)
     (λ e. omega arith)
 
 module _ {low : Type 0} {more : ℕ → Bool} where
@@ -90,25 +91,25 @@ module _ {low : Type 0} {more : ℕ → Bool} where
       refl refl)
 
   -- the directory of an hour
-  keeps-with_hour : (t : Tree) (now hour : ℕ) → (low → t.next_inode ≤ full_count)
+  keeps-with_hour : (t : Tree) (now hour : ℕ) → (low → t.next_inode ≤ FULL_COUNT)
       → KeepsFiles low more t (with_hour t now hour)
   unfolding with_hour
   keeps-with_hour t now hour is_low = by_node (node_at t (hour_inode hour))
     where
       by_node : (o : Option Node) → KeepsFiles low more t (elim o as (λ _. Tree) [
         | None ↦ with_node t now (hour_place hour) (hour_inode hour)
-            (new_node (Directory trash_root) read_only_mode now)
+            (new_node (Directory trash_root) READ_ONLY_MODE now)
         | Some node ↦ t
       ])
       by_node None =
           let high = high_hour hour in
-          keeps-with_node t now (hour_place hour) (hour_inode hour) (new_node (Directory trash_root) read_only_mode now)
+          keeps-with_node t now (hour_place hour) (hour_inode hour) (new_node (Directory trash_root) READ_ONLY_MODE now)
           (λ l. let next = is_low l in omega (arith, next, high))
           (λ content is. absurd (cc))
       by_node (Some node) = keeps-none t
 
   -- an inode in the trash
-  pub keeps-trashed : (t : Tree) (now : ℕ) (place : EntryKey) (inode : ℕ) → (low → t.next_inode ≤ full_count)
+  pub keeps-trashed : (t : Tree) (now : ℕ) (place : EntryKey) (inode : ℕ) → (low → t.next_inode ≤ FULL_COUNT)
       → KeepsFiles low more t (trashed t now place inode)
   keeps-trashed t now place inode is_low =
       let made = with_hour t now (hour_at now) in
@@ -119,7 +120,7 @@ module _ {low : Type 0} {more : ℕ → Bool} where
       (keeps-status_changed entered now inode))
 
   -- an entry of a file or a symlink gone, whatever becomes of the inode
-  keeps-with_fate : (t : Tree) (who : Caller) (place : EntryKey) (inode : ℕ) → (low → t.next_inode ≤ full_count)
+  keeps-with_fate : (t : Tree) (who : Caller) (place : EntryKey) (inode : ℕ) → (low → t.next_inode ≤ FULL_COUNT)
       → (fate : Fate)
       → (fate ≡ Sustained → IsTrue (more inode)) → KeepsFiles low more t (with_fate fate t who place inode)
   keeps-with_fate t who place inode is_low Linked may = keeps-status_changed t who.now inode
@@ -242,7 +243,7 @@ module _ {low : Type 0} {more : ℕ → Bool} (t : Tree) (who : Caller) where
   pub keeps-symlink : (target path : List ℕ) → Keeps low more t (symlink t who target path)
   unfolding symlink
   keeps-symlink target path =
-      let node = new_node (Symlink target) full_mode who.now in
+      let node = new_node (Symlink target) FULL_MODE who.now in
       let new : (place : EntryKey) (after : Tree) → entered t who.now place node ≡ Ok after
       → KeepsFiles low more t after =
       λ place after h. keeps-entered place node after (λ content is. absurd (cc)) h in
@@ -310,7 +311,7 @@ module _ {low : Type 0} {more : ℕ → Bool} (t : Tree) (who : Caller) where
 
 -- the operations that may take a file's last entry: what the caller has open is kept
 
-module _ {low : Type 0} (t : Tree) (who : Caller) (is_low : low → t.next_inode ≤ full_count) where
+module _ {low : Type 0} (t : Tree) (who : Caller) (is_low : low → t.next_inode ≤ FULL_COUNT) where
   keeps-remove_entry : (place : EntryKey) (inode : ℕ)
       → KeepsFiles low (those_held who) t (remove_entry t who place inode)
   unfolding remove_entry

@@ -4,13 +4,13 @@ use Rattle.std.specs.Prelude.{◌==◌, is_some, if◌then◌else◌}
 use Rattle.std.specs.Option.{option_map}
 use Rattle.std.proofs.lemmas.Bool.{cases_eq, false≢true}
 use Rattle.jv_model.specs.FiniteMap.{number_key, get, insert, remove, sum_over}
-use Rattle.jv_model.specs.tree.Tree.{Tree, Node, Kind, File, Directory, Symlink, EntryKey, entry_key, root, trash_root, node_at, is_directory, link_count, parent_of}
+use Rattle.jv_model.specs.tree.Tree.{Tree, Node, Kind, File, Directory, Symlink, EntryKey, entry_key, root, trash_root, node_at, is_directory, link_count, parent_of, naming, name_count}
 use Rattle.jv_model.specs.tree.Changes.{put_node, drop_node, change_node, put_entry, take_entry, with_node}
 use Rattle.jv_model.specs.tree.Renaming.{kind_under, moved_node, move_in, moved}
-use Rattle.jv_volume.specs.Shape.{Regular, Link, Dir, Shape, form_of, is_there, is_dir, naming, WholeShape, shape_of}
+use Rattle.jv_volume.specs.Shape.{Regular, Link, Dir, Shape, form_of, is_there, is_dir, WholeShape, shape_of}
 use Rattle.jv_volume.proofs.ChangeLaws.{change_node-entries, change_node-here, change_node-apart}
 use Rattle.jv_volume.proofs.MapLaws.{sum-new, sum-over, sum-gone, sum-nothing, sum-agree}
-use Rattle.jv_volume.proofs.ShapeMapLaws.{naming_same, naming_apart, was_kept, get-inserted, get-insert_apart, get-remove_apart, Entries, count_of, count-insert, count-remove, count_none, shape-put_entry, shape-take_entry, is_dir-form}
+use Rattle.jv_volume.proofs.ShapeMapLaws.{naming_same, naming_apart, was_kept, get-inserted, get-insert_apart, get-remove_apart, Entries, count-insert, count-remove, count_none, shape-put_entry, shape-take_entry, is_dir-form}
 -- a tree's directories are its shape's
 pub use Rattle.jv_volume.proofs.ShapeMapLaws.{is_directory-form as dirs-shape}
 pub use Rattle.jv_volume.proofs.EnteredShapeLaws.{next_absent}
@@ -21,7 +21,7 @@ within_of dirs dir at inode = (if at.dir == dir && dirs inode then 1 else 0)
 
 -- the link count by which inodes are directories, and by entries
 abbrev pub links_in : (ℕ → Bool) → Entries → ℕ → ℕ
-links_in dirs m inode = (if dirs inode then 2 + sum_over (within_of dirs inode) m else count_of m inode)
+links_in dirs m inode = (if dirs inode then 2 + sum_over (within_of dirs inode) m else name_count m inode)
 
 abbrev pub dirs_of : Shape → ℕ → Bool
 dirs_of s inode = is_dir (s.form inode)
@@ -46,8 +46,8 @@ link_share dirs at inode j = (if dirs j then within_of dirs j at inode else if i
 
 module _ (dirs : ℕ → Bool) (m : Entries) (at : EntryKey) (inode j : ℕ) where
   insert_by : (b : Bool) → get m at ≡ None
-      → cond b (2 + sum_over (within_of dirs j) (insert m at inode)) (count_of (insert m at inode) j)
-      ≡ cond b (2 + sum_over (within_of dirs j) m) (count_of m j) + cond b (within_of dirs j at inode) (if inode == j then 1 else 0)
+      → cond b (2 + sum_over (within_of dirs j) (insert m at inode)) (name_count (insert m at inode) j)
+      ≡ cond b (2 + sum_over (within_of dirs j) m) (name_count m j) + cond b (within_of dirs j at inode) (if inode == j then 1 else 0)
   insert_by true free = let all = sum-new entry_key (within_of dirs j) m at inode free in omega (arith, all)
   insert_by false free = count-insert m at inode j free
 
@@ -56,9 +56,9 @@ module _ (dirs : ℕ → Bool) (m : Entries) (at : EntryKey) (inode j : ℕ) whe
   links-insert free = insert_by (dirs j) free
 
   over_by : (b : Bool) (old : ℕ) → get m at ≡ Some old
-      → cond b (2 + sum_over (within_of dirs j) (insert m at inode)) (count_of (insert m at inode) j) + cond b (within_of dirs j at old)
+      → cond b (2 + sum_over (within_of dirs j) (insert m at inode)) (name_count (insert m at inode) j) + cond b (within_of dirs j at old)
       (if old == j then 1 else 0)
-      ≡ cond b (2 + sum_over (within_of dirs j) m) (count_of m j) + cond b (within_of dirs j at inode) (if inode == j then 1 else 0)
+      ≡ cond b (2 + sum_over (within_of dirs j) m) (name_count m j) + cond b (within_of dirs j at inode) (if inode == j then 1 else 0)
   over_by true old there = let all = sum-over entry_key (within_of dirs j) m at old inode there in omega (arith, all)
   over_by false old there = sum-over entry_key (naming j) m at old inode there
 
@@ -68,8 +68,8 @@ module _ (dirs : ℕ → Bool) (m : Entries) (at : EntryKey) (inode j : ℕ) whe
   links-over old there = over_by (dirs j) old there
 
   remove_by : (b : Bool) → get m at ≡ Some inode
-      → cond b (2 + sum_over (within_of dirs j) (remove m at)) (count_of (remove m at) j) + cond b (within_of dirs j at inode) (if inode == j then 1 else 0)
-      ≡ cond b (2 + sum_over (within_of dirs j) m) (count_of m j)
+      → cond b (2 + sum_over (within_of dirs j) (remove m at)) (name_count (remove m at) j) + cond b (within_of dirs j at inode) (if inode == j then 1 else 0)
+      ≡ cond b (2 + sum_over (within_of dirs j) m) (name_count m j)
   remove_by true there = let all = sum-gone entry_key (within_of dirs j) m at inode there in omega (arith, all)
   remove_by false there = count-remove m at inode j there
 
@@ -82,15 +82,15 @@ pub links-agree : (dirs after : ℕ → Bool) (m : Entries) (j : ℕ) → after 
     → ((at : EntryKey) (inode : ℕ) → get m at ≡ Some inode → after inode ≡ dirs inode)
     → links_in after m j ≡ links_in dirs m j
 links-agree dirs after m j here same =
-    ap (λ b. if b then 2 + sum_over (within_of after j) m else count_of m j) here
-    ∙ ap (λ n. if dirs j then 2 + n else count_of m j)
+    ap (λ b. if b then 2 + sum_over (within_of after j) m else name_count m j) here
+    ∙ ap (λ n. if dirs j then 2 + n else name_count m j)
     (sum-agree entry_key (within_of after j) (within_of dirs j) m (λ at inode e. ap (λ b. if at.dir == j && b then 1 else 0) (same at inode e)))
 
 -- the link count of an inode that no entry names, and that has no entries
 pub links-alone : (dirs : ℕ → Bool) (m : Entries) (j : ℕ) → ((at : EntryKey) (inode : ℕ) → get m at ≡ Some inode → (inode ≢ j) × (at.dir ≢ j))
     → links_in dirs m j ≡ (if dirs j then 2 else 0)
 links-alone dirs m j apart =
-    let none : count_of m j ≡ 0 = count_none m j (λ at e. (apart at j e).0 refl) in
+    let none : name_count m j ≡ 0 = count_none m j (λ at e. (apart at j e).0 refl) in
     let empty : sum_over (within_of dirs j) m ≡ 0 =
     sum-nothing entry_key (within_of dirs j) m (λ at inode e. ap (λ b. if b && dirs inode then 1 else 0) (ne_eqb at.dir j (apart at inode e).1)) in
     λ i. if dirs j then 2 + empty i else none i
@@ -369,7 +369,7 @@ module _ (t : Tree) (now : ℕ) (from : EntryKey) (inode : ℕ) (to : EntryKey) 
       ∙ link_count-put_entry-leaf (take_entry t now from) now to inode j still_vacant (is_directory-take_entry t now from inode ∙ leaf)
       ∙ link_count-take_entry-leaf t now from inode j there leaf
 
-  -- a directory that moves takes one from the parent that it had, and gives one to the parent that it gets
+  -- a directory that moves is one less for the parent that it had, and one more for the parent that it gets
   pub link_count-moved_dir : is_directory t inode ≡ true → is_directory t from.dir ≡ true → is_directory t to.dir ≡ true
       → link_count (moved t now from inode to) j + standing j from ≡ link_count t j + standing j to
   link_count-moved_dir is before after =

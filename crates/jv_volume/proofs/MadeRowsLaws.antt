@@ -20,7 +20,7 @@ use Rattle.jv_volume.specs.TypedRows.{Cell, Rows}
 use Rattle.jv_volume.specs.Views.{row_in, edge_in, counters_at, node_row_at}
 use Rattle.jv_volume.specs.TreeOf.{node_of, tree_of}
 use Rattle.jv_volume.specs.Shape.{WholeShape, shape_of, form_of, is_dir}
-use Rattle.jv_volume.specs.Stored.{Stored, number_of_node, counters_row}
+use Rattle.jv_volume.specs.Stored.{Stored, number_of_node, counters_row, directory_touched}
 use Rattle.jv_model.proofs.FiniteMapLaws.{get-insert}
 use Rattle.jv_volume.proofs.ShapeMapLaws.{same_or_apart, get-inserted, get-insert_apart}
 use Rattle.jv_volume.proofs.NodeRowLaws.{IsNodeRow, IsNodeRow-touched}
@@ -32,10 +32,7 @@ use Rattle.jv_volume.proofs.ChangeLaws.{with_node-there}
 use Rattle.jv_volume.proofs.LinkLaws.{next_low, standing, standing_here, standing_apart, IsFree, free_inode, next_absent, link_count-new_leaf, link_count-beside_leaf, link_count-new_dir, link_count-beside_dir, none_within}
 use Rattle.jv_volume.proofs.SumLaws.{counted, node_space-counted, node_count-counted, used_space-with_next, used_inodes-with_next}
 
--- the directory's row after an entry came, and the counters after a node came
-abbrev pub touched_row : ℕ → ℕ → NodeRow → NodeRow
-touched_row now links row = record row { mtime = now; ctime = now; nlink = links }
-
+-- the counters after a node came
 abbrev pub grown : ℕ → Counters → Counters
 grown space c = record c { inode = c.inode + 1; used_space = c.used_space + space; used_inodes = c.used_inodes + 1 }
 
@@ -43,7 +40,7 @@ abbrev pub made_rows : Rows → ℕ → EntryKey → NodeRow → NodeRow → ℕ
 made_rows rows now place row dir links c space =
     insert (insert (insert (insert rows (node_key c.inode) (Ok (OfNode row))) (edge_key place.dir place.name)
     (Ok (OfEdge (record { kind = row.kind; inode = c.inode }))))
-    (node_key place.dir) (Ok (OfNode (touched_row now links dir)))) counters_key (Ok (OfCounters (grown space c)))
+    (node_key place.dir) (Ok (OfNode (directory_touched now links dir)))) counters_key (Ok (OfCounters (grown space c)))
 
 module _ (bytes : ℕ → ℕ → ℕ) (rows : Rows) (now : ℕ) (place : EntryKey) (row dir : NodeRow) (links : ℕ) (c : Counters) (space : ℕ)
     (s : Stored rows (tree_of bytes rows)) (shape : WholeShape (shape_of (tree_of bytes rows)))
@@ -85,7 +82,7 @@ module _ (bytes : ℕ → ℕ → ℕ) (rows : Rows) (now : ℕ) (place : EntryK
   rows_2 = insert rows_1 (edge_key place.dir place.name) (Ok (OfEdge edge))
 
   abbrev rows_3 : Rows
-  rows_3 = insert rows_2 (node_key place.dir) (Ok (OfNode (touched_row now links dir)))
+  rows_3 = insert rows_2 (node_key place.dir) (Ok (OfNode (directory_touched now links dir)))
 
   abbrev made_tree : ℕ → ℕ → Tree
   made_tree inode session = record t {
@@ -99,7 +96,7 @@ module _ (bytes : ℕ → ℕ → ℕ) (rows : Rows) (now : ℕ) (place : EntryK
   by_rows =
       tree_of-put_counters bytes rows_3 (grown space c)
       ∙ ap (λ (u : Tree). record u { next_inode = c.inode + 1; next_session = c.session })
-      (tree_of-put_node bytes rows_2 place.dir (touched_row now links dir)
+      (tree_of-put_node bytes rows_2 place.dir (directory_touched now links dir)
       ∙ ap (λ (u : Tree). put_node u place.dir touched_dir)
       (tree_of-put_edge bytes rows_1 place.dir place.name edge
       ∙ ap (λ (u : Tree). record u { entries = insert u.entries place c.inode }) (tree_of-put_node bytes rows c.inode row)))
@@ -196,7 +193,7 @@ module _ (bytes : ℕ → ℕ → ℕ) (rows : Rows) (now : ℕ) (place : EntryK
   r2 = insert r1 (edge_key place.dir place.name) (Ok (OfEdge (record { kind = row.kind; inode = c.inode })))
 
   abbrev r3 : Rows
-  r3 = insert r2 (node_key place.dir) (Ok (OfNode (touched_row now links dir)))
+  r3 = insert r2 (node_key place.dir) (Ok (OfNode (directory_touched now links dir)))
 
   before_stored : AreStored bytes rows
   before_stored = are_stored bytes rows s
@@ -206,18 +203,18 @@ module _ (bytes : ℕ → ℕ → ℕ) (rows : Rows) (now : ℕ) (place : EntryK
 
   node_beside : (inode : ℕ) → inode ≢ place.dir → get done_rows (node_key inode) ≡ get r1 (node_key inode)
   node_beside inode aside =
-      last_put (node_key inode) refl ∙ get-insert_apart row_key r2 (node_key place.dir) (Ok (OfNode (touched_row now links dir))) (node_key inode)
+      last_put (node_key inode) refl ∙ get-insert_apart row_key r2 (node_key place.dir) (Ok (OfNode (directory_touched now links dir))) (node_key inode)
       (λ same. aside (ap (λ (q : RowKey). q.a) same))
       ∙ get-insert r1 (edge_key place.dir place.name) (Ok (OfEdge (record { kind = row.kind; inode = c.inode }))) (node_key inode)
 
   dir_cell : (cell : Cell) → get done_rows (node_key place.dir) ≡ Some cell → IsNodeCell (link_count (tree_of bytes done_rows) place.dir) (bytes place.dir) cell
   dir_cell cell e =
-      let put : get done_rows (node_key place.dir) ≡ Some (Ok (OfNode (touched_row now links dir))) =
-      last_put (node_key place.dir) refl ∙ get-inserted row_key r2 (node_key place.dir) (Ok (OfNode (touched_row now links dir))) in
+      let put : get done_rows (node_key place.dir) ≡ Some (Ok (OfNode (directory_touched now links dir))) =
+      last_put (node_key place.dir) refl ∙ get-inserted row_key r2 (node_key place.dir) (Ok (OfNode (directory_touched now links dir))) in
       record {
-        row = touched_row now links dir;
+        row = directory_touched now links dir;
         is = cc;
-        row_is = subst (λ l. IsNodeRow l (bytes place.dir) (touched_row now links dir)) (sym dir_links)
+        row_is = subst (λ l. IsNodeRow l (bytes place.dir) (directory_touched now links dir)) (sym dir_links)
             (IsNodeRow-touched (bytes place.dir) dir now (link_count before_it place.dir) links dir_found.row_is);
       }
 
@@ -269,7 +266,7 @@ module _ (bytes : ℕ → ℕ → ℕ) (rows : Rows) (now : ℕ) (place : EntryK
   number_after inode n e = ap (λ (x : Tree). number_of_node (node_at x inode)) is_put ∙ e
 
   edge_put : (at : EntryKey) → get done_rows (edge_key at.dir at.name) ≡ get r2 (edge_key at.dir at.name)
-  edge_put at = last_put (edge_key at.dir at.name) refl ∙ get-insert r2 (node_key place.dir) (Ok (OfNode (touched_row now links dir))) (edge_key at.dir at.name)
+  edge_put at = last_put (edge_key at.dir at.name) refl ∙ get-insert r2 (node_key place.dir) (Ok (OfNode (directory_touched now links dir))) (edge_key at.dir at.name)
 
   edge_after : (at : EntryKey) (cell : Cell) → get done_rows (edge_key at.dir at.name) ≡ Some cell → IsEdgeCell (tree_of bytes done_rows) cell
   edge_after at cell e = elim (same_or_apart entry_key at place) [
@@ -302,7 +299,7 @@ module _ (bytes : ℕ → ℕ → ℕ) (rows : Rows) (now : ℕ) (place : EntryK
       → eq_by_cmp row_cmp q (edge_key place.dir place.name) ≡ false
       → eq_by_cmp row_cmp q (node_key c.inode) ≡ false → get done_rows q ≡ get rows q
   kept q a b d e =
-      last_put q a ∙ put_kept r2 (node_key place.dir) (Ok (OfNode (touched_row now links dir))) q b
+      last_put q a ∙ put_kept r2 (node_key place.dir) (Ok (OfNode (directory_touched now links dir))) q b
       ∙ put_kept r1 (edge_key place.dir place.name) (Ok (OfEdge (record { kind = row.kind; inode = c.inode }))) q d
       ∙ put_kept rows (node_key c.inode) (Ok (OfNode row)) q e
 

@@ -2,7 +2,7 @@
 use Rattle.std.proofs.Common.{◌≡◌, ℕ, ◌≤◌, ◌<◌, true, None, Some, Ok, refl, sym, ap, subst, ◌∙◌, arith}
 use Rattle.std.specs.Prelude.{IsTrue}
 use Rattle.std.specs.Option.{option_map}
-use Rattle.jv_model.specs.declared.limits.TheConstants.{FILE_END}
+use Rattle.jv_model.specs.declared.limits.TheConstants.{FILE_END, FULL_COUNT}
 use Rattle.jv_model.specs.declared.row.RowKey.{RowKey}
 use Rattle.jv_model.specs.declared.row.Row.{Row}
 use Rattle.jv_model.specs.declared.row.Counters.{Counters}
@@ -11,21 +11,21 @@ use Rattle.jv_model.specs.declared.row.Row.TheVariants.{OfCounters, OfNode, OfEd
 use Rattle.jv_model.specs.FiniteMap.{insert}
 use Rattle.jv_model.specs.rows.RowKeys.{row_key}
 use Rattle.jv_model.specs.rows.RowPlaces.{counters_key, node_key, edge_key}
-use Rattle.jv_model.specs.tree.Tree.{Tree, EntryKey, full_count, node_at, link_count}
+use Rattle.jv_model.specs.tree.Tree.{Tree, EntryKey, node_at, link_count}
 use Rattle.jv_model.specs.tree.Making.{may_be_new, with_next}
 use Rattle.jv_model.proofs.FiniteMapLaws.{get-insert}
 use Rattle.jv_volume.specs.TypedRows.{Cell, Rows, is_entry_name, is_key, is_typed}
 use Rattle.jv_volume.specs.Views.{row_in, counters_in, counters_at, node_in, node_row_at}
 use Rattle.jv_volume.specs.TreeOf.{node_of, or_no_counters, counters_of, tree_of}
 use Rattle.jv_volume.specs.Shape.{Dir, WholeShape, form_of, shape_of}
-use Rattle.jv_volume.specs.Stored.{Stored, node_row}
+use Rattle.jv_volume.specs.Stored.{Stored, node_row, directory_touched}
 use Rattle.jv_volume.specs.Slices.{WholeFiles}
 use Rattle.jv_volume.specs.Whole.{IsRowAt, Whole, Quiet, no_bytes}
 use Rattle.jv_volume.proofs.EnteredShapeLaws.{whole-with_next}
 use Rattle.jv_volume.proofs.FilesLaws.{fresh_lists}
 use Rattle.jv_volume.proofs.FileStepLaws.{files-other, files-same_length, files-new_node, files-put_counters}
 use Rattle.jv_volume.proofs.LinkLaws.{next_absent}
-use Rattle.jv_volume.proofs.MadeRowsLaws.{touched_row, grown, made_rows, IsMade, tree_of-made, stored-made}
+use Rattle.jv_volume.proofs.MadeRowsLaws.{grown, made_rows, IsMade, tree_of-made, stored-made}
 use Rattle.jv_volume.proofs.QuietLaws.{quiet-alter, quiet-put_counters, quiet-slices, quiet-then}
 use Rattle.jv_volume.proofs.SeenLaws.{AreRows, rows-alter}
 use Rattle.jv_volume.proofs.ShapeMapLaws.{get-insert_apart}
@@ -35,7 +35,7 @@ use Rattle.jv_volume.proofs.StoredLaws.{same_shape, found_counters, stored-again
 pub record MayBeMade (place : EntryKey) (row : NodeRow) (byte : ℕ → ℕ) (c : Counters) : Type 0 where
   pub may : may_be_new place ≡ true
   pub name : IsTrue (is_entry_name place.name)
-  pub room : c.inode < full_count
+  pub room : c.inode < FULL_COUNT
   pub small : row.length ≤ FILE_END
   pub parent : (parent : ℕ) → form_of (Some (node_of byte row)) ≡ Dir parent → parent ≡ place.dir
 
@@ -59,7 +59,7 @@ module _ (bytes : ℕ → ℕ → ℕ) (rows : Rows) (now : ℕ) (place : EntryK
   edge_cell = Ok (OfEdge (record { kind = row.kind; inode = c.inode }))
 
   abbrev dir_cell : Cell
-  dir_cell = Ok (OfNode (touched_row now links dir))
+  dir_cell = Ok (OfNode (directory_touched now links dir))
 
   abbrev r1 : Rows
   r1 = insert rows (node_key c.inode) new_cell
@@ -113,7 +113,7 @@ module _ (bytes : ℕ → ℕ → ℕ) (rows : Rows) (now : ℕ) (place : EntryK
         let all_1 : AreRows r1 = rows-alter rows (node_key c.inode) (Some new_cell) whole.cells (row_at_key (node_key c.inode) (OfNode row) refl) in
         let all_2 : AreRows r2 = rows-alter r1 (edge_key place.dir place.name) (Some edge_cell) all_1
         (row_at_key (edge_key place.dir place.name) (OfEdge (record { kind = row.kind; inode = c.inode })) may.name) in
-        let all_3 : AreRows r3 = rows-alter r2 (node_key place.dir) (Some dir_cell) all_2 (row_at_key (node_key place.dir) (OfNode (touched_row now links dir)) refl) in
+        let all_3 : AreRows r3 = rows-alter r2 (node_key place.dir) (Some dir_cell) all_2 (row_at_key (node_key place.dir) (OfNode (directory_touched now links dir)) refl) in
         rows-alter r3 counters_key (Some (Ok (OfCounters (grown space c)))) all_3 (row_at_key counters_key (OfCounters (grown space c)) refl)
 
     files_made : WholeFiles after
@@ -121,12 +121,12 @@ module _ (bytes : ℕ → ℕ → ℕ) (rows : Rows) (now : ℕ) (place : EntryK
         let high : (counters_of rows).inode ≤ c.inode = subst (λ n. n ≤ c.inode) (sym (ap (λ o. (or_no_counters o).inode) counters)) (omega arith) in
         let files_1 : WholeFiles r1 = files-new_node rows c.inode row whole.files none_new high may.small (λ window. fresh_lists rows c.inode window whole.files none_new high) in
         let files_2 : WholeFiles r2 = files-other r1 (edge_key place.dir place.name) (Some edge_cell) files_1 refl refl refl refl in
-        let files_3 : WholeFiles r3 = files-same_length r2 place.dir dir (touched_row now links dir) files_2 dir_2 refl refl in
+        let files_3 : WholeFiles r3 = files-same_length r2 place.dir dir (directory_touched now links dir) files_2 dir_2 refl refl in
         files-put_counters r3 c (grown space c) files_3 counters_3 refl (omega arith)
 
     shape_made : WholeShape (shape_of (with_next t now place (node_of (bytes c.inode) row)))
     shape_made =
-        whole-with_next t now place shape made.free made.within may.may (subst (λ n. n < full_count) (sym next_is) may.room) (node_of (bytes c.inode) row) may.parent
+        whole-with_next t now place shape made.free made.within may.may (subst (λ n. n < FULL_COUNT) (sym next_is) may.room) (node_of (bytes c.inode) row) may.parent
 
     -- the rows after a creation are whole
     pub whole-made : Whole after

@@ -1,29 +1,15 @@
 -- Finite maps: entries by key, and what a map of changed values answers.
 use Rattle.std.proofs.Common.{◌≡◌, ◌≢◌, ℕ, ◌+◌, Bool, true, false, cond, T, ◌&&◌, List, [], ◌∷◌, map, Option, None, Some, option_map, refl, sym, ap, subst, ◌∙◌, arith}
-use Rattle.std.specs.declared.cmp.Ordering.{Ordering}
-use Rattle.std.specs.declared.cmp.Ordering.TheVariants.{Less, Equal, Greater}
-use Rattle.std.specs.Ordering.{eq_by_cmp, is_eq, is_lt}
+use Rattle.std.specs.Ordering.{eq_by_cmp, is_lt}
 use Rattle.std.specs.FinMap.Entries.{find, below_all, is_sorted}
 use Rattle.jv_model.specs.FiniteMap.{KeyOrder, Map, get, insert, remove, alter, sum_over, total_over}
 use Rattle.jv_model.proofs.FiniteMapLaws.{share, get-alter, same_maps, sum-insert, sum-remove}
-use Rattle.jv_model.proofs.TestLaws.{first_of_both, second_of_both}
 use Rattle.jv_volume.proofs.ShapeMapLaws.{tied_here, tied_same}
 pub use Rattle.jv_volume.proofs.ShapeMapLaws.{get-alter-here, get-alter-apart}
-
-less_ties_not : (o : Ordering) → T (is_lt o) → is_eq o ≡ false
-less_ties_not Less p = refl
-less_ties_not Equal p = absurd p
-less_ties_not Greater p = absurd p
 
 -- keys that are the same tie
 pub key_ties : {K : Type 0} (order : KeyOrder K) (x y : K) → x ≡ y → eq_by_cmp order.cmp x y ≡ true
 key_ties order x y e = subst (λ z. eq_by_cmp order.cmp x z ≡ true) e (tied_here order x)
-
--- a key below all others isn't among them
-pub find-below_all : {K X : Type 0} (order : KeyOrder K) (k : K) (es : List (K × X)) → T (below_all order.cmp k es) → find order.cmp k es ≡ None
-find-below_all order k [] h = refl
-find-below_all order k (e ∷ es) h =
-    ap (λ b. cond b (Some e.1) (find order.cmp k es)) (less_ties_not _ (first_of_both _ _ h)) ∙ find-below_all order k es (second_of_both _ _ h)
 
 module _ {K X Y : Type 0} (order : KeyOrder K) (f : K → X → Y) where
   find-map_at : (q : K) (e : K × X) (es : List (K × X)) (b : Bool) → eq_by_cmp order.cmp q e.0 ≡ b

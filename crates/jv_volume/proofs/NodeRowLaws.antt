@@ -3,9 +3,9 @@ use Rattle.std.proofs.Common.{◌≡◌, ℕ, Bool, true, false, refl, sym, ap, 
 use Rattle.std.specs.Prelude.{◌==◌, if◌then◌else◌}
 use Rattle.jv_model.specs.declared.row.Node.{Node as NodeRow}
 use Rattle.jv_model.specs.tree.Tree.{File, Directory, Symlink, new_node}
-use Rattle.jv_model.specs.tree.Changes.{empty_content}
+use Rattle.jv_model.specs.tree.Changes.{empty_content, content_of}
 use Rattle.jv_model.specs.tree.Renaming.{kind_under, moved_node}
-use Rattle.jv_volume.specs.TreeOf.{content_of, node_of}
+use Rattle.jv_volume.specs.TreeOf.{node_of}
 use Rattle.jv_volume.specs.Stored.{node_row}
 
 -- A row that is written as rows of nodes are: what its kind doesn't have is empty.

@@ -13,20 +13,20 @@ use Rattle.jv_model.specs.declared.op.Reply.TheVariants.{FileOpened}
 use Rattle.jv_model.specs.FiniteMap.{number_key}
 use Rattle.jv_model.specs.tree.Attempt.{◌>>=◌, require}
 use Rattle.jv_model.specs.tree.Tree.{Tree, Node, File, Directory, Symlink, EntryKey, root, trash_root, new_node}
-use Rattle.jv_model.specs.tree.Tree.{node_at, parent_of, target_at, is_directory}
+use Rattle.jv_model.specs.tree.Tree.{node_at, parent_of, target_at, is_directory, target_in}
 use Rattle.jv_model.specs.tree.Changes.{empty_content, put_node}
 use Rattle.jv_model.specs.tree.Caller.{Caller, Outcome, outcome, in_session}
 use Rattle.jv_model.specs.tree.Walk.{is_absolute, names_of, stepped, walk_names, walk, inode_of}
 use Rattle.jv_model.specs.tree.Making.{with_next, entered, create}
 use Rattle.jv_model.specs.tree.Reading.{file_inode, open_file}
 use Rattle.jv_model.specs.tree.TreeAct.{tree_act}
+use Rattle.jv_model.specs.client.OpForms.{opens_file}
 use Rattle.jv_volume.specs.Shape.{Regular, Shape, WholeShape, form_of, is_there, is_dir, shape_of}
-use Rattle.jv_volume.specs.Holding.{IsHoldable, opens_file}
+use Rattle.jv_volume.specs.Holding.{IsHoldable}
 use Rattle.jv_volume.proofs.ShapeMapLaws.{get-inserted, shape-put_entry, is_directory-form}
 use Rattle.jv_volume.proofs.WalkShapeLaws.{went_on, required, same_Ok, onwards, root_directory, path_named}
 use Rattle.jv_volume.proofs.OperationShapeLaws.{is_entered}
 use Rattle.jv_volume.proofs.ReplyLaws.{opens_none}
-use Rattle.jv_volume.proofs.StoredLaws.{target_in}
 
 -- where a followed walk leads
 

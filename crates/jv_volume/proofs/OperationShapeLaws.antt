@@ -2,14 +2,14 @@
 use Rattle.std.proofs.Common.{◌≡◌, ℕ, ◌+◌, ◌-◌, min, ◌≤◌, ◌<◌, Bool, false, not, ◌&&◌, ◌||◌, ◌==◌, List, length, Some, Result, Ok, Err, refl, subst}
 use Rattle.std.specs.Prelude.{nat_lt, nat_le}
 use Rattle.std.proofs.lemmas.Bool.{ltb-true, not-true, or_parts}
-use Rattle.jv_model.specs.declared.limits.TheConstants.{FILE_END, MAX_PATH}
+use Rattle.jv_model.specs.declared.limits.TheConstants.{FILE_END, MAX_PATH, FULL_MODE, FULL_COUNT}
 use Rattle.jv_model.specs.declared.fault.Fault.{Fault}
 use Rattle.jv_model.specs.declared.fault.Fault.TheVariants.{FileTooLarge, Invalid, NameTooLong, NoSpace, NotFound, NotPermitted, Stale}
 use Rattle.jv_model.specs.declared.fault.Gone.TheVariants.{Session}
 use Rattle.jv_model.specs.declared.op.Reply.TheVariants.{Done, Found, FileOpened, Count, SessionMade}
 use Rattle.jv_model.specs.FiniteMap.{get}
 use Rattle.jv_model.specs.tree.Attempt.{◌>>=◌, require, some_or}
-use Rattle.jv_model.specs.tree.Tree.{Tree, Node, Content, File, Directory, Symlink, EntryKey, new_node, full_mode, full_count, in_trash, node_at, is_directory, fits, links_fit}
+use Rattle.jv_model.specs.tree.Tree.{Tree, Node, Content, File, Directory, Symlink, EntryKey, new_node, in_trash, node_at, is_directory, fits, links_fit}
 use Rattle.jv_model.specs.tree.Changes.{empty_content, status_changed, put_node}
 use Rattle.jv_model.specs.tree.Caller.{Caller, Outcome, outcome, answered, done, in_session}
 use Rattle.jv_model.specs.tree.Walk.{inode_of, unfollowed_inode_of}
@@ -38,13 +38,13 @@ whole_answer given d e w = subst (λ (o : Outcome). WholeShape (shape_of o.tree)
 
 -- a new node that the limits of a volume allow
 pub record IsEntered (t : Tree) (now : ℕ) (place : EntryKey) (node : Node) (after : Tree) : Type 0 where
-  pub room : t.next_inode < full_count
+  pub room : t.next_inode < FULL_COUNT
   pub is : with_next t now place node ≡ after
 
 pub is_entered : (t : Tree) (now : ℕ) (place : EntryKey) (node : Node) (after : Tree) → entered t now place node ≡ Ok after → IsEntered t now place node after
 is_entered t now place node after h =
     let fits_in = λ (u : Unit {0}). require (fits t (with_next t now place node)) NoSpace >>= (λ _. Ok (with_next t now place node)) in
-    let room = went_on (require (nat_lt t.next_inode full_count) NoSpace) fits_in after h in
+    let room = went_on (require (nat_lt t.next_inode FULL_COUNT) NoSpace) fits_in after h in
     let fit = went_on (require (fits t (with_next t now place node)) NoSpace) (λ _. Ok (with_next t now place node)) after room.2 in
     record { room = ltb-true _ _ (required _ NoSpace room.0 room.1); is = same_Ok _ after fit.2 }
 
@@ -88,7 +88,7 @@ module _ (t : Tree) (who : Caller) (w : WholeShape (shape_of t)) where
   pub whole-symlink : (target path : List ℕ) → WholeShape (shape_of (outcome t (symlink t who target path)).tree)
   unfolding symlink
   whole-symlink target path = whole_outcome t (symlink t who target path) w (λ d h.
-      let node = new_node (Symlink target) full_mode who.now in
+      let node = new_node (Symlink target) FULL_MODE who.now in
       let said = λ (after : Tree). answered after (Found t.next_inode) in
       let placed = new_place t path >>= (λ place. entered t who.now place node >>= said) in
       let inside = went_on (in_session t who) (λ _. require (nat_le (length target) MAX_PATH) NameTooLong >>= (λ _. placed)) d h in
@@ -187,7 +187,7 @@ module _ (t : Tree) (who : Caller) (w : WholeShape (shape_of t)) where
   pub whole-mount : 1 ≤ t.next_session → WholeShape (shape_of (outcome t (mount t who)).tree)
   unfolding mount
   whole-mount first = whole_outcome t (mount t who) w (λ d h.
-      let room = went_on (require (nat_lt t.next_session full_count) NoSpace) (λ _. answered (with_session t who) (SessionMade t.next_session)) d h in
+      let room = went_on (require (nat_lt t.next_session FULL_COUNT) NoSpace) (λ _. answered (with_session t who) (SessionMade t.next_session)) d h in
       whole_answer _ d room.2 (whole-with_session t who w first (ltb-true _ _ (required _ NoSpace room.0 room.1))))
 
   -- a session that shows a sign of life

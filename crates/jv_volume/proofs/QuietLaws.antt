@@ -4,6 +4,7 @@ use Rattle.std.specs.Prelude.{◌==◌, ◌||◌, nat_lt, IsTrue, if◌then◌el
 use Rattle.std.specs.List.{AllByRecursion}
 use Rattle.std.specs.Ordering.{eq_by_cmp}
 use Rattle.std.specs.FinMap.Entries.{where_key}
+use Rattle.jv_model.specs.declared.tables.TheConstants.{TABLE_OF_LISTS, TABLE_OF_SLICES, TABLE_OF_DEAD}
 use Rattle.jv_model.specs.declared.limits.TheConstants.{FULL_COUNT}
 use Rattle.jv_model.specs.declared.row.RowKey.{RowKey}
 use Rattle.jv_model.specs.declared.row.Counters.{Counters}
@@ -12,11 +13,12 @@ use Rattle.jv_model.specs.FiniteMap.{KeyOrder, Map, get, insert, alter, retain_k
 use Rattle.jv_model.specs.rows.RowKeys.{row_key, row_cmp}
 use Rattle.jv_model.specs.rows.RowPlaces.{counters_key, list_key, slice_key, dead_key}
 use Rattle.jv_model.proofs.FiniteMapLaws.{get-alter, get-retain_keys, same_maps}
+use Rattle.jv_model.specs.declared.slice.Rec.{Rec}
 use Rattle.jv_volume.specs.TypedRows.{Cell, Rows}
 use Rattle.jv_volume.specs.Views.{row_in, counters_in, counters_at, records_in, lists_of, slice_in, slice_row_at, dead_in, dead_at}
 use Rattle.jv_volume.specs.TreeOf.{or_no_counters}
 use Rattle.jv_volume.specs.Slices.{listed, records_naming, named_by, count_in, WholeSlices}
-use Rattle.jv_volume.specs.Whole.{is_of_slices, Quiet}
+use Rattle.jv_volume.specs.Whole.{is_of_slices, Quiet, SlicesStay}
 use Rattle.jv_volume.proofs.MapLaws.{get-alter-here}
 use Rattle.jv_volume.proofs.ShapeMapLaws.{tied_apart}
 
@@ -68,66 +70,69 @@ module _ {K X : Type 0} (order : KeyOrder K) (f : K → X → ℕ) (test : K →
 -- ---- what quiet changes keep
 
 abbrev is_list_key : RowKey → Bool
-is_list_key key = key.tab == 4
-
-naming_nothing : (id : ℕ) (key : RowKey) (cell : Cell) → is_list_key key ≡ false → records_naming id (listed key (Some cell)) ≡ 0
-naming_nothing id key cell other = ap (λ b. records_naming id (if b then records_in (row_in (Some cell)) else [])) other
+is_list_key key = key.tab == TABLE_OF_LISTS
 
 of_lists : (key : RowKey) → is_list_key key ≡ true → IsTrue (is_of_slices key.tab)
-of_lists key is = ap (λ b. b || (key.tab == 5) || (key.tab == 9)) is
+of_lists key is = ap (λ b. b || (key.tab == TABLE_OF_SLICES) || (key.tab == TABLE_OF_DEAD)) is
 
-module _ (rows after : Rows) (q : Quiet rows after) where
-  quiet-cell : (key : RowKey) → IsTrue (is_of_slices key.tab) → get after key ≡ get rows key
-  quiet-cell key is = q.apart key is
-
+module _ (rows after : Rows) (stay : SlicesStay rows after) where
   kept_lists : retain_keys is_list_key after ≡ retain_keys is_list_key rows
   kept_lists = same_maps (retain_keys is_list_key after) (retain_keys is_list_key rows) (λ key.
       get-retain_keys after is_list_key key ∙ by_table key (is_list_key key) refl ∙ sym (get-retain_keys rows is_list_key key))
     where
       by_table : (key : RowKey) (b : Bool) → is_list_key key ≡ b → cond b (get after key) None ≡ cond b (get rows key) None
-      by_table key true e = q.apart key (of_lists key e)
+      by_table key true e = stay key (of_lists key e)
       by_table key false e = refl
 
-  pub quiet-named_by : (id : ℕ) → named_by after id ≡ named_by rows id
+  -- a sum over lists stays
+  pub sum-stay : (f : List Rec → ℕ) → f [] ≡ 0 → sum_over (λ key cell. f (listed key (Some cell))) after ≡ sum_over (λ key cell. f (listed key (Some cell))) rows
+  sum-stay f none =
+      sym (sum-retain_keys row_key (λ key cell. f (listed key (Some cell))) is_list_key nothing after)
+      ∙ ap (sum_over (λ key cell. f (listed key (Some cell)))) kept_lists
+      ∙ sum-retain_keys row_key (λ key cell. f (listed key (Some cell))) is_list_key nothing rows
+    where
+      nothing : (key : RowKey) (cell : Cell) → is_list_key key ≡ false → f (listed key (Some cell)) ≡ 0
+      nothing key cell other = ap (λ b. f (if b then records_in (row_in (Some cell)) else [])) other ∙ none
+
+  pub named_by-stay : (id : ℕ) → named_by after id ≡ named_by rows id
   unfolding named_by
-  quiet-named_by id =
-      sym (sum-retain_keys row_key (λ key cell. records_naming id (listed key (Some cell))) is_list_key (naming_nothing id) after)
-      ∙ ap (sum_over (λ key cell. records_naming id (listed key (Some cell)))) kept_lists
-      ∙ sum-retain_keys row_key (λ key cell. records_naming id (listed key (Some cell))) is_list_key (naming_nothing id) rows
+  named_by-stay id = sum-stay (records_naming id) refl
 
-  pub quiet-lists_of : (inode window : ℕ) → lists_of after inode window ≡ lists_of rows inode window
+  pub slice_row-stay : (id : ℕ) → slice_row_at after id ≡ slice_row_at rows id
+  slice_row-stay id = ap (λ c. slice_in (row_in c)) (stay (slice_key id) refl)
+
+  pub dead-stay : (id : ℕ) → dead_at after id ≡ dead_at rows id
+  dead-stay id = ap (λ c. dead_in (row_in c)) (stay (dead_key id) refl)
+
+  -- what lists show stays
+  pub lists_of-stay : (inode window : ℕ) → lists_of after inode window ≡ lists_of rows inode window
   unfolding lists_of
-  quiet-lists_of inode window = ap (λ c. if nat_lt window (2 ^ 32) then records_in (row_in c) else []) (q.apart (list_key inode window) refl)
+  lists_of-stay inode window = ap (λ c. if nat_lt window (2 ^ 32) then records_in (row_in c) else []) (stay (list_key inode window) refl)
 
-  pub quiet-slice_row_at : (id : ℕ) → slice_row_at after id ≡ slice_row_at rows id
-  quiet-slice_row_at id = ap (λ c. slice_in (row_in c)) (q.apart (slice_key id) refl)
-
-  pub quiet-dead_at : (id : ℕ) → dead_at after id ≡ dead_at rows id
-  quiet-dead_at id = ap (λ c. dead_in (row_in c)) (q.apart (dead_key id) refl)
-
-  quiet-listed : (key : RowKey) → listed key (get after key) ≡ listed key (get rows key)
-  quiet-listed key = by_table (is_list_key key) refl
+  listed-stay : (key : RowKey) → listed key (get after key) ≡ listed key (get rows key)
+  listed-stay key = by_table (is_list_key key) refl
     where
       by_table : (b : Bool) → is_list_key key ≡ b → (if b then records_in (row_in (get after key)) else [])
           ≡ (if b then records_in (row_in (get rows key)) else [])
-      by_table true e = ap (λ c. records_in (row_in c)) (q.apart key (of_lists key e))
+      by_table true e = ap (λ c. records_in (row_in c)) (stay key (of_lists key e))
       by_table false e = refl
 
+module _ (rows after : Rows) (q : Quiet rows after) where
   -- slices stay whole
   pub quiet-slices : WholeSlices rows → WholeSlices after
   quiet-slices w = record {
     sizes = w.sizes;
-    records = λ key. subst (AllByRecursion _) (sym (quiet-listed key)) (w.records key);
-    sized = λ key. subst (AllByRecursion _) (sym (quiet-listed key)) (w.sized key);
-    slice_size = λ id slice there. w.slice_size id slice (sym (quiet-slice_row_at id) ∙ there);
-    exact = λ id low. ap count_in (quiet-slice_row_at id) ∙ w.exact id low ∙ sym (quiet-named_by id);
-    dead_size = λ id dead there. w.dead_size id dead (sym (quiet-dead_at id) ∙ there);
-    apart = λ id there. quiet-slice_row_at id ∙ w.apart id (λ none. there (quiet-dead_at id ∙ none));
+    records = λ key. subst (AllByRecursion _) (sym (listed-stay rows after q.apart key)) (w.records key);
+    sized = λ key. subst (AllByRecursion _) (sym (listed-stay rows after q.apart key)) (w.sized key);
+    slice_size = λ id slice there. w.slice_size id slice (sym (slice_row-stay rows after q.apart id) ∙ there);
+    exact = λ id low. ap count_in (slice_row-stay rows after q.apart id) ∙ w.exact id low ∙ sym (named_by-stay rows after q.apart id);
+    dead_size = λ id dead there. w.dead_size id dead (sym (dead-stay rows after q.apart id) ∙ there);
+    apart = λ id there. slice_row-stay rows after q.apart id ∙ w.apart id (λ none. there (dead-stay rows after q.apart id ∙ none));
     below = λ id low. let old = w.below id (subst (λ n. n ≤ id) q.next low) in record {
-      unnamed = quiet-named_by id ∙ old.unnamed;
-      no_row = quiet-slice_row_at id ∙ old.no_row;
-      not_dead = quiet-dead_at id ∙ old.not_dead;
+      unnamed = named_by-stay rows after q.apart id ∙ old.unnamed;
+      no_row = slice_row-stay rows after q.apart id ∙ old.no_row;
+      not_dead = dead-stay rows after q.apart id ∙ old.not_dead;
     };
-    none = quiet-slice_row_at 0 ∙ w.none;
+    none = slice_row-stay rows after q.apart 0 ∙ w.none;
     slices_end = subst (λ n. n ≤ FULL_COUNT) (sym q.next) w.slices_end;
   }

@@ -1,7 +1,6 @@
 -- A tree stays whole without an entry: an empty directory's, a file's or a symlink's, and what a cleaning purges.
 use Rattle.std.proofs.Common.{◌≡◌, ◌≢◌, ℕ, ◌≤◌, true, false, not, ◌&&◌, ◌==◌, List, Option, None, Some, is_some, refl, sym, ap, subst, ◌∙◌, arith}
 use Rattle.std.specs.Prelude.{IsTrue, nat_lt}
-use Rattle.std.specs.List.{list_any}
 use Rattle.std.specs.Option.{option_map}
 use Rattle.std.proofs.lemmas.Bool.{false≢true, cond_both, and_parts, ltb-true, ltb-false, eq-eqb, eqb-true, not-true}
 use Rattle.std.proofs.lemmas.Option.{same_Some, none-some}
@@ -16,6 +15,7 @@ use Rattle.jv_model.proofs.FiniteMapLaws.{IsFound, first_where-found}
 use Rattle.jv_volume.specs.Shape.{Absent, Regular, Dir, Shape, WholeShape, is_there, is_dir, shape_of, named, names, is_hour}
 use Rattle.jv_volume.proofs.ShapeMapLaws.{first_where-none, only_one, counted_once, with_form, with_form-apart, with_forms, with_entries, parent_of_dir, is_dir-form, shape-drop_node, shape-take_entry, shape-change_node_same}
 use Rattle.jv_model.proofs.TestLaws.{none_if}
+use Rattle.jv_model.specs.Lists.{is_among}
 use Rattle.jv_volume.proofs.ShapeLossLaws.{Without, without_only, without_inode, whole-without_inode, whole-without_entry, sustained_shape, whole-sustained}
 use Rattle.jv_volume.proofs.TrashLaws.{whole-trashed, without-trashed}
 
@@ -82,7 +82,7 @@ without-remove_directory t now place inode =
 
 -- what a client has open of a tree's inodes are files
 abbrev pub HoldsFiles : Shape → List ℕ → Type 0
-HoldsFiles s held = (inode : ℕ) → IsTrue (list_any (λ h. h == inode) held) → IsTrue (is_there (s.form inode)) → s.form inode ≡ Regular
+HoldsFiles s held = (inode : ℕ) → IsTrue (is_among inode held) → IsTrue (is_there (s.form inode)) → s.form inode ≡ Regular
 
 -- An entry of a file or a symlink that a caller may remove: the caller's session is there, what it has open are files,
 -- and the clock has the moment.
@@ -145,7 +145,7 @@ module _ (t : Tree) (who : Caller) (place : EntryKey) (inode : ℕ) (whole : Who
       let kept = whole-trashed t who.now place inode whole may.clock may.is may.leaf one outside in
       (kept, without-trashed t who.now place inode whole may.clock may.is may.leaf one outside)
 
-  fate_sustained : names s inode ≡ 1 → list_any (λ held. held == inode) who.held ≡ true → Survives Sustained
+  fate_sustained : names s inode ≡ 1 → is_among inode who.held ≡ true → Survives Sustained
   fate_sustained one used =
       let file : s.form inode ≡ Regular = may.held inode used (whole.entry place inode may.is).there in
       survives_as Sustained (sustained_shape s place who.sid inode) shape-sustained
@@ -159,7 +159,7 @@ module _ (t : Tree) (who : Caller) (place : EntryKey) (inode : ℕ) (whole : Who
   survives : Survives (fate_of t who place inode)
   survives = cond_both (nat_lt 1 (entry_count t inode)) _ _ Survives fate_linked (λ few.
       cond_both (nat_lt 0 t.setting.trash_days && not (in_trash place.dir)) _ _ Survives (fate_trashed (one_entry t place inode may.is few)) (λ keeps_none.
-      cond_both (list_any (λ held. held == inode) who.held) _ _ Survives (fate_sustained (one_entry t place inode may.is few)) (λ closed. fate_dropped (one_entry t place inode may.is few))))
+      cond_both (is_among inode who.held) _ _ Survives (fate_sustained (one_entry t place inode may.is few)) (λ closed. fate_dropped (one_entry t place inode may.is few))))
 
   -- a tree stays whole without an entry of a file or a symlink
   pub whole-remove_entry : WholeShape (shape_of (remove_entry t who place inode))

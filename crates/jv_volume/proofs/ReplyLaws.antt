@@ -3,6 +3,7 @@ use Rattle.std.proofs.Common.{◌≡◌, ℕ, ◌≤◌, Bool, true, false, ◌=
 use Rattle.std.proofs.Common.{Some, Result, Ok, Err, refl, sym, ap, subst, ◌∙◌}
 use Rattle.std.specs.Prelude.{IsTrue, zero, suc, nat_lt}
 use Rattle.std.proofs.lemmas.Bool.{cond_both, eqb-true, eq-eqb, false≢true}
+use Rattle.jv_model.specs.declared.limits.TheConstants.{FULL_COUNT}
 use Rattle.jv_model.specs.declared.basics.How.{How}
 use Rattle.jv_model.specs.declared.basics.How.TheVariants.{Plain, NoReplace, Exchange}
 use Rattle.jv_model.specs.declared.fault.Fault.{Fault}
@@ -16,7 +17,7 @@ use Rattle.jv_model.specs.declared.op.Reply.{Reply}
 use Rattle.jv_model.specs.declared.op.Reply.TheVariants.{Refused, SessionMade, FileOpened}
 use Rattle.jv_model.specs.FiniteMap.{get}
 use Rattle.jv_model.specs.tree.Attempt.{◌>>=◌, require, some_or}
-use Rattle.jv_model.specs.tree.Tree.{Tree, Node, EntryKey, root, trash_root, full_count}
+use Rattle.jv_model.specs.tree.Tree.{Tree, Node, EntryKey, root, trash_root}
 use Rattle.jv_model.specs.tree.Caller.{Caller, Outcome, outcome, answered, done, in_session}
 use Rattle.jv_model.specs.tree.Walk.{is_absolute, names_of, is_dot, is_dot_dot, is_trash, named_from, stepped, way_on}
 use Rattle.jv_model.specs.tree.Walk.{walk_names, walk, inode_by, entry_of}
@@ -28,7 +29,8 @@ use Rattle.jv_model.specs.tree.Renaming.{renamed, replacing, exchanging, unless_
 use Rattle.jv_model.specs.tree.Sessions.{with_session, mount, beat, umount, release}
 use Rattle.jv_model.specs.tree.FileBytes.{truncate, copy_bytes, copy}
 use Rattle.jv_model.specs.tree.TreeAct.{tree_act}
-use Rattle.jv_volume.specs.Holding.{is_mount_op, opens_file, is_device_or_memory}
+use Rattle.jv_model.specs.journal.Steps.{is_device_or_memory}
+use Rattle.jv_model.specs.client.OpForms.{is_mount_op, opens_file}
 use Rattle.jv_volume.proofs.WalkShapeLaws.{onwards}
 
 -- The refusals of operations on the tree. One by a session that is gone is by the caller's.
@@ -388,7 +390,7 @@ module _ (t : Tree) (who : Caller) where
   pub session_number : (writeback : Bool) (sid : ℕ) → 1 ≤ t.next_session
       → (tree_act t who (op.Mount writeback)).reply ≡ SessionMade sid → 1 ≤ sid
   unfolding mount
-  session_number writeback sid first = by_test (nat_lt t.next_session full_count)
+  session_number writeback sid first = by_test (nat_lt t.next_session FULL_COUNT)
     where
       said : Result Outcome Fault
       said = answered (with_session t who) (SessionMade t.next_session)

@@ -6,7 +6,7 @@ use Rattle.jv_model.specs.declared.limits.TheConstants.{FULL_COUNT, SPACE_UNIT}
 use Rattle.jv_model.specs.declared.fault.Fault.TheVariants.{NoSpace}
 use Rattle.jv_model.specs.declared.row.Counters.{Counters}
 use Rattle.jv_model.specs.tree.Attempt.{◌>>=◌, require}
-use Rattle.jv_model.specs.tree.Tree.{Tree, Node, EntryKey, full_count, kind_space, space_limit, inode_limit, sum_fits, used_space, used_inodes}
+use Rattle.jv_model.specs.tree.Tree.{Tree, Node, EntryKey, kind_space, space_limit, inode_limit, sum_fits, used_space, used_inodes}
 use Rattle.jv_model.specs.tree.Making.{with_next, entered}
 use Rattle.jv_volume.specs.Shape.{WholeShape, shape_of}
 use Rattle.jv_volume.proofs.LinkLaws.{next_absent, next_low}
@@ -50,10 +50,10 @@ module _ (t : Tree) (now : ℕ) (place : EntryKey) (node : Node) (c : Counters) 
       sum_fits-grown (inode_limit t.setting) (used_inodes t) (used_inodes after) (omega (arith, was, is)) b
       (ap (λ n. nat_le n (inode_limit t.setting)) is ∙ lt_is_le c.used_inodes (inode_limit t.setting) b e)
 
-  numbers_left : nat_lt t.next_inode full_count ≡ nat_lt c.inode FULL_COUNT
-  numbers_left = ap (λ n. nat_lt n full_count) has.next_inode
+  numbers_left : nat_lt t.next_inode FULL_COUNT ≡ nat_lt c.inode FULL_COUNT
+  numbers_left = ap (λ n. nat_lt n FULL_COUNT) has.next_inode
 
-  by_tests : (a b d : Bool) → nat_lt t.next_inode full_count ≡ a → sum_fits (space_limit t.setting) (used_space t) (used_space after) ≡ b
+  by_tests : (a b d : Bool) → nat_lt t.next_inode FULL_COUNT ≡ a → sum_fits (space_limit t.setting) (used_space t) (used_space after) ≡ b
       → sum_fits (inode_limit t.setting) (used_inodes t) (used_inodes after) ≡ d
       → entered t now place node ≡ (require a NoSpace >>= (λ _. require (b && d) NoSpace >>= (λ _. Ok after)))
   by_tests a b d p q r = λ i. require (p i) NoSpace >>= (λ _. require (q i && r i) NoSpace >>= (λ _. Ok after))

@@ -5,7 +5,7 @@ use Rattle.jv_model.specs.FiniteMap.{number_key, get, insert}
 use Rattle.jv_model.specs.tree.Tree.{Tree, Node, Content, SessionEntry, node_at, content_of, content_at}
 use Rattle.jv_model.specs.tree.Changes.{status_changed, put_node, with_content, change_node, overwritten, resized, copied_over}
 use Rattle.jv_model.specs.tree.Caller.{Caller}
-use Rattle.jv_model.specs.tree.FileBytes.{committed, truncated, copied}
+use Rattle.jv_model.specs.tree.FileBytes.{committed, truncated, copied, copied_between}
 use Rattle.jv_model.specs.tree.Sessions.{kept_alive}
 use Rattle.jv_volume.specs.Shape.{Shape, WholeShape, form_of, shape_of}
 use Rattle.jv_volume.proofs.ShapeMapLaws.{same_or_apart, get-inserted, get-insert_apart, with_form, with_form-same, with_forms, shape-put_node_same, shape-change_node, shape-change_node_same, form-content, kind_form, form-kind}
@@ -65,13 +65,8 @@ shape-truncated t now inode len = elim (content_at t inode) as (λ o. content_at
   | Some content ↦ λ e. shape-with_content t now inode content (resized content len) e
 ] refl
 
--- a copy between what is at two inodes
-abbrev pub between : Tree → ℕ → Option Content → ℕ → ℕ → Option Content → ℕ → ℕ → Tree
-between t now (Some source) from target (Some content) to len = with_content t now target (copied_over source from content to len)
-between t now _ from target _ to len = t
-
 between_same : (t : Tree) (now : ℕ) (source : Option Content) (from target : ℕ) (content : Option Content) (to len : ℕ) → content_at t target ≡ content
-    → shape_of (between t now source from target content to len) ≡ shape_of t
+    → shape_of (copied_between t now source from target content to len) ≡ shape_of t
 between_same t now None from target content to len e = refl
 between_same t now (Some source) from target None to len e = refl
 between_same t now (Some source) from target (Some content) to len e = shape-with_content t now target content (copied_over source from content to len) e
@@ -82,7 +77,7 @@ unless false t after same = same
 
 -- bytes of one file put into another
 pub shape-copied : (t : Tree) (now source from target to len : ℕ) → shape_of (copied t now source from target to len) ≡ shape_of t
-shape-copied t now source from target to len = unless (len == 0) t (between t now (content_at t source) from target (content_at t target) to len)
+shape-copied t now source from target to len = unless (len == 0) t (copied_between t now (content_at t source) from target (content_at t target) to len)
     (between_same t now (content_at t source) from target (content_at t target) to len refl)
 
 -- sessions

@@ -7,12 +7,12 @@ use Rattle.jv_model.specs.declared.row.RowKey.{RowKey}
 use Rattle.jv_model.specs.declared.row.Row.{Row}
 use Rattle.jv_model.specs.FiniteMap.{KeyOrder, get, alter}
 use Rattle.jv_model.specs.rows.RowKeys.{row_key, row_cmp}
-use Rattle.jv_model.proofs.FiniteMapLaws.{get-alter, get-map_of, same_maps}
+use Rattle.jv_model.proofs.FiniteMapLaws.{get-alter, get-map_of, same_maps, find-below_all}
 use Rattle.jv_model.proofs.TestLaws.{first_of_both, second_of_both}
 use Rattle.jv_volume.specs.TypedRows.{Cell, Rows}
 use Rattle.jv_volume.specs.Views.{row_in, row_at}
 use Rattle.jv_volume.specs.TreeOf.{entry_selected, entries_selected, selected}
-use Rattle.jv_volume.proofs.MapLaws.{key_ties, get-alter-here, find-below_all, get-alter-apart}
+use Rattle.jv_volume.proofs.MapLaws.{key_ties, get-alter-here, get-alter-apart}
 use Rattle.jv_volume.proofs.ShapeMapLaws.{tied_here, tied_same, tied_apart}
 
 -- A table: which rows are of it, by which keys, and where the row of a key stands, where it can stand.

@@ -4,7 +4,7 @@ use Rattle.std.proofs.lemmas.Option.{same_Some}
 use Rattle.std.specs.declared.cmp.Ordering.{Ordering}
 use Rattle.std.specs.declared.cmp.Ordering.TheVariants.{Less}
 use Rattle.std.specs.Ordering.{is_lt}
-use Rattle.std.specs.FinMap.Entries.{put, by_order, below_all, is_sorted}
+use Rattle.std.specs.FinMap.Entries.{put, below_all, is_sorted}
 use Rattle.jv_model.specs.declared.row.RowKey.{RowKey}
 use Rattle.jv_model.specs.declared.row.Row.{Row}
 use Rattle.jv_model.specs.FiniteMap.{KeyOrder, first_passing, first_where, insert, map_of}
@@ -12,6 +12,7 @@ use Rattle.jv_model.specs.rows.RowKeys.{row_cmp}
 use Rattle.jv_model.specs.rows.RowPlaces.{edge_key}
 use Rattle.jv_model.specs.tree.Tree.{entry_key}
 use Rattle.jv_model.proofs.TestLaws.{first_of_both, second_of_both, less_is}
+use Rattle.jv_model.proofs.FiniteMapLaws.{put_first}
 use Rattle.jv_volume.specs.TypedRows.{Cell, Rows}
 use Rattle.jv_volume.specs.Views.{row_in}
 use Rattle.jv_volume.specs.TreeOf.{entry_selected, entries_selected, selected, entry_of_key}
@@ -46,11 +47,6 @@ module _ {K X : Type 0} (order : KeyOrder K) (key_of : RowKey → Option K) (val
       below_entry q k is e.0 e.1 (entries_selected key_of value_of es) (less_is (row_cmp q e.0) (first_of_both _ _ below))
       (below_selected q k is es (second_of_both _ _ below)) (key_of e.0) refl
 
-  put_first : (k : K) (x : X) (es : List (K × X)) → T (below_all order.cmp k es) → put order.cmp k x es ≡ (k, x) ∷ es
-  put_first k x [] below = refl
-  put_first k x (e ∷ es) below =
-      ap (λ o. by_order o ((k, x) ∷ e ∷ es) ((e.0, x) ∷ es) (e ∷ put order.cmp k x es)) (less_is (order.cmp k e.0) (first_of_both _ _ below))
-
   map_list : List (K × X) → List (K × X)
   map_list es = (map_of {order = order} es).list
 
@@ -63,7 +59,7 @@ module _ {K X : Type 0} (order : KeyOrder K) (key_of : RowKey → Option K) (val
       elim (value_of k (row_in (Some e.1))) as (λ x. map_list (elim x [ None ↦ others | Some x ↦ (k, x) ∷ others ])
       ≡ elim x [ None ↦ others | Some x ↦ (k, x) ∷ others ]) [
         | None ↦ rest
-        | Some x ↦ ap (put order.cmp k x) rest ∙ put_first k x others (below k refl)
+        | Some x ↦ ap (put order.cmp k x) rest ∙ put_first order k x others (below k refl)
       ]
 
   listed : (es : List (RowKey × Cell)) → T (is_sorted row_cmp es) → map_list (entries_selected key_of value_of es) ≡ entries_selected key_of value_of es

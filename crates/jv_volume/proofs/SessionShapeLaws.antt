@@ -2,8 +2,9 @@
 use Rattle.std.proofs.Common.{◌≡◌, ◌≢◌, ℕ, ◌+◌, ◌≤◌, ◌<◌, Bool, true, false, cond, not, ◌==◌, if◌then◌else◌, ◌⊎◌, inl, inr, Option, None, Some, is_some, refl, sym, ap, subst, ◌∙◌, arith}
 use Rattle.std.specs.Prelude.{IsTrue, nat_lt}
 use Rattle.std.proofs.lemmas.Bool.{cond-true, cond-false, false≢true, eq-eqb, ne_eqb, eqb-true, eqb-false, cases_eq, false_from_ne_true, not_from_true, not_from_false}
+use Rattle.jv_model.specs.declared.limits.TheConstants.{FULL_COUNT}
 use Rattle.jv_model.specs.FiniteMap.{Map, number_key, get, remove, retain_keys}
-use Rattle.jv_model.specs.tree.Tree.{Tree, Node, EntryKey, SustainedFile, SessionEntry, pair_key, root, trash_root, full_count, node_at, is_sustained}
+use Rattle.jv_model.specs.tree.Tree.{Tree, Node, EntryKey, SustainedFile, SessionEntry, pair_key, root, trash_root, node_at, is_sustained}
 use Rattle.jv_model.specs.tree.Changes.{drop_node}
 use Rattle.jv_model.specs.tree.Caller.{Caller}
 use Rattle.jv_model.specs.tree.Sessions.{with_session, kept_alive, without_session, released}
@@ -14,7 +15,7 @@ use Rattle.jv_volume.proofs.SameShapeLaws.{whole_as, shape-kept_alive}
 
 -- a session that comes
 
-module _ (s : Shape) (present : ℕ → Bool) (w : WholeShape s) (first : 1 ≤ s.next_session) (room : s.next_session < full_count)
+module _ (s : Shape) (present : ℕ → Bool) (w : WholeShape s) (first : 1 ≤ s.next_session) (room : s.next_session < FULL_COUNT)
     (stays : (sid : ℕ) → IsTrue (s.in_session sid) → IsTrue (present sid))
     (comes : (sid : ℕ) → IsTrue (present sid) → (sid ≡ s.next_session) ⊎ IsTrue (s.in_session sid)) where
   sessions_after : (sid : ℕ) → IsTrue (present sid) → (1 ≤ sid) × (sid < s.next_session + 1)
@@ -48,7 +49,7 @@ module _ (s : Shape) (present : ℕ → Bool) (w : WholeShape s) (first : 1 ≤ 
   }
 
 -- The model's `mount`. The next session is 1 or more: the shape doesn't say so where no session is there.
-pub whole-with_session : (t : Tree) (who : Caller) → WholeShape (shape_of t) → 1 ≤ t.next_session → t.next_session < full_count
+pub whole-with_session : (t : Tree) (who : Caller) → WholeShape (shape_of t) → 1 ≤ t.next_session → t.next_session < FULL_COUNT
     → WholeShape (shape_of (with_session t who))
 whole-with_session t who w first room =
     let added = (with_session t who).sessions in

@@ -8,10 +8,10 @@ use Rattle.std.specs.FinMap.Entries.{find}
 use Rattle.std.proofs.lemmas.Option.{same_Some}
 use Rattle.std.proofs.lemmas.Bool.{or_from, cases_Bool, cond-true, cond-false, false_from_ne_true, false≢true, eq-eqb, ne_eqb, eqb-true, cases_eq}
 use Rattle.jv_model.specs.FiniteMap.{KeyOrder, Map, number_key, get, insert, remove, alter, first_passing, first_where, sum_over, total_over}
-use Rattle.jv_model.specs.tree.Tree.{Tree, Node, Kind, File, Directory, Symlink, Content, EntryKey, SustainedFile, entry_key, root, trash_root, node_at, is_directory, content_of, parent_of}
+use Rattle.jv_model.specs.tree.Tree.{Tree, Node, Kind, File, Directory, Symlink, Content, EntryKey, SustainedFile, entry_key, root, trash_root, node_at, is_directory, content_of, parent_of, naming, name_count}
 use Rattle.jv_model.specs.tree.Changes.{touched, put_node, drop_node, set_node, change_node, touch, put_entry, take_entry}
 use Rattle.jv_model.proofs.FiniteMapLaws.{share, sum-insert, sum-remove, IsFound, first_where-found, get-alter}
-use Rattle.jv_volume.specs.Shape.{Form, Absent, Regular, Link, Dir, Shape, form_of, is_there, is_dir, shape_of, naming, names, is_top, is_hour, Reaches, Names}
+use Rattle.jv_volume.specs.Shape.{Form, Absent, Regular, Link, Dir, Shape, form_of, is_there, is_dir, shape_of, names, is_top, is_hour, Reaches, Names}
 
 -- keys of finite maps
 
@@ -115,10 +115,6 @@ pair_of sid inode = record { sid = sid; inode = inode }
 abbrev pub Entries : Type 0
 Entries = Map entry_key ℕ
 
--- how many of them name an inode
-abbrev pub count_of : Entries → ℕ → ℕ
-count_of m inode = sum_over (naming inode) m
-
 -- an entry of the inode counts
 pub naming_same : (inode : ℕ) (at : EntryKey) → naming inode at inode ≡ 1
 naming_same inode at = cond-true _ _ _ (eq-eqb inode inode refl)
@@ -128,48 +124,48 @@ pub naming_apart : (inode : ℕ) (at : EntryKey) (other : ℕ) → other ≢ ino
 naming_apart inode at other apart = cond-false _ _ _ (ne_eqb other inode apart)
 
 -- after an entry in a free place
-pub count-insert : (m : Entries) (at : EntryKey) (i inode : ℕ) → get m at ≡ None → count_of (insert m at i) inode ≡ count_of m inode + naming inode at i
+pub count-insert : (m : Entries) (at : EntryKey) (i inode : ℕ) → get m at ≡ None → name_count (insert m at i) inode ≡ name_count m inode + naming inode at i
 count-insert m at i inode free =
     let all = sum-insert entry_key (naming inode) m at i in
     let nothing : share (naming inode) at (get m at) ≡ 0 = ap (share (naming inode) at) free in
     omega (arith, all, nothing)
 
 -- an entry of the inode more
-pub count-insert_same : (m : Entries) (at : EntryKey) (inode : ℕ) → get m at ≡ None → count_of (insert m at inode) inode ≡ count_of m inode + 1
-count-insert_same m at inode free = count-insert m at inode inode free ∙ ap (λ n. count_of m inode + n) (naming_same inode at)
+pub count-insert_same : (m : Entries) (at : EntryKey) (inode : ℕ) → get m at ≡ None → name_count (insert m at inode) inode ≡ name_count m inode + 1
+count-insert_same m at inode free = count-insert m at inode inode free ∙ ap (λ n. name_count m inode + n) (naming_same inode at)
 
 -- an entry of another inode more
-pub count-insert_apart : (m : Entries) (at : EntryKey) (i inode : ℕ) → get m at ≡ None → i ≢ inode → count_of (insert m at i) inode ≡ count_of m inode
+pub count-insert_apart : (m : Entries) (at : EntryKey) (i inode : ℕ) → get m at ≡ None → i ≢ inode → name_count (insert m at i) inode ≡ name_count m inode
 count-insert_apart m at i inode free apart =
     let all = count-insert m at i inode free in
     let nothing = naming_apart inode at i apart in
     omega (arith, all, nothing)
 
 -- after an entry that was there is gone
-pub count-remove : (m : Entries) (at : EntryKey) (i inode : ℕ) → get m at ≡ Some i → count_of (remove m at) inode + naming inode at i ≡ count_of m inode
-count-remove m at i inode there = ap (λ o. count_of (remove m at) inode + share (naming inode) at o) (sym there) ∙ sum-remove entry_key (naming inode) m at
+pub count-remove : (m : Entries) (at : EntryKey) (i inode : ℕ) → get m at ≡ Some i → name_count (remove m at) inode + naming inode at i ≡ name_count m inode
+count-remove m at i inode there = ap (λ o. name_count (remove m at) inode + share (naming inode) at o) (sym there) ∙ sum-remove entry_key (naming inode) m at
 
 -- an entry of the inode less
-pub count-remove_same : (m : Entries) (at : EntryKey) (inode : ℕ) → get m at ≡ Some inode → count_of (remove m at) inode + 1 ≡ count_of m inode
-count-remove_same m at inode there = ap (λ n. count_of (remove m at) inode + n) (sym (naming_same inode at)) ∙ count-remove m at inode inode there
+pub count-remove_same : (m : Entries) (at : EntryKey) (inode : ℕ) → get m at ≡ Some inode → name_count (remove m at) inode + 1 ≡ name_count m inode
+count-remove_same m at inode there = ap (λ n. name_count (remove m at) inode + n) (sym (naming_same inode at)) ∙ count-remove m at inode inode there
 
 -- an entry of another inode less
-pub count-remove_apart : (m : Entries) (at : EntryKey) (i inode : ℕ) → get m at ≡ Some i → i ≢ inode → count_of (remove m at) inode ≡ count_of m inode
+pub count-remove_apart : (m : Entries) (at : EntryKey) (i inode : ℕ) → get m at ≡ Some i → i ≢ inode → name_count (remove m at) inode ≡ name_count m inode
 count-remove_apart m at i inode there apart =
     let all = count-remove m at i inode there in
     let nothing = naming_apart inode at i apart in
     omega (arith, all, nothing)
 
 -- an inode that an entry names has one at least
-pub counted_once : (m : Entries) (at : EntryKey) (inode : ℕ) → get m at ≡ Some inode → 1 ≤ count_of m inode
+pub counted_once : (m : Entries) (at : EntryKey) (inode : ℕ) → get m at ≡ Some inode → 1 ≤ name_count m inode
 counted_once m at inode there = let all = count-remove_same m at inode there in omega (arith, all)
 
 -- no entry names an inode that has none
-pub uncounted : (m : Entries) (at : EntryKey) (inode : ℕ) → count_of m inode ≡ 0 → get m at ≢ Some inode
+pub uncounted : (m : Entries) (at : EntryKey) (inode : ℕ) → name_count m inode ≡ 0 → get m at ≢ Some inode
 uncounted m at inode none there = let one = counted_once m at inode there in absurd (omega (arith, one, none))
 
 -- the only entry of an inode
-pub only_one : (m : Entries) (at other : EntryKey) (inode : ℕ) → count_of m inode ≡ 1 → get m at ≡ Some inode → get m other ≡ Some inode → other ≡ at
+pub only_one : (m : Entries) (at other : EntryKey) (inode : ℕ) → name_count m inode ≡ 1 → get m at ≡ Some inode → get m other ≡ Some inode → other ≡ at
 only_one m at other inode one there also = elim (same_or_apart entry_key other at) [
   | inl same ↦ same
   | inr apart ↦
@@ -191,7 +187,7 @@ total_none : (inode : ℕ) (es : List (EntryKey × ℕ)) → first_passing (λ a
 total_none inode [] h = refl
 total_none inode (e ∷ es) h = total_none_at inode e es (e.1 == inode) refl (total_none inode es) h
 
-none_counted : (m : Entries) (inode : ℕ) → first_where (λ at i. i == inode) m ≡ None → count_of m inode ≡ 0
+none_counted : (m : Entries) (inode : ℕ) → first_where (λ at i. i == inode) m ≡ None → name_count m inode ≡ 0
 unfolding first_where sum_over
 none_counted m inode h = total_none inode m.list h
 
@@ -200,18 +196,18 @@ pub record IsNamed (m : Entries) (inode : ℕ) : Type 0 where
   pub at : EntryKey
   pub is : get m at ≡ Some inode
 
-named_by_found : (m : Entries) (inode : ℕ) (o : Option (EntryKey × ℕ)) → first_where (λ at i. i == inode) m ≡ o → (count_of m inode ≡ 0) ⊎ IsNamed m inode
+named_by_found : (m : Entries) (inode : ℕ) (o : Option (EntryKey × ℕ)) → first_where (λ at i. i == inode) m ≡ o → (name_count m inode ≡ 0) ⊎ IsNamed m inode
 named_by_found m inode None h = inl (none_counted m inode h)
 named_by_found m inode (Some found) h =
     let f : IsFound (λ at i. i == inode) m found.0 found.1 = first_where-found entry_key (λ at i. i == inode) m found h in
     inr (record { at = found.0; is = f.there ∙ ap Some (eqb-true found.1 inode f.passes) })
 
 -- an inode has no entry, or this one
-pub count_cases : (m : Entries) (inode : ℕ) → (count_of m inode ≡ 0) ⊎ IsNamed m inode
+pub count_cases : (m : Entries) (inode : ℕ) → (name_count m inode ≡ 0) ⊎ IsNamed m inode
 count_cases m inode = named_by_found m inode (first_where (λ at i. i == inode) m) refl
 
 -- an inode that no entry names has none
-pub count_none : (m : Entries) (inode : ℕ) → ((at : EntryKey) → get m at ≢ Some inode) → count_of m inode ≡ 0
+pub count_none : (m : Entries) (inode : ℕ) → ((at : EntryKey) → get m at ≢ Some inode) → name_count m inode ≡ 0
 count_none m inode none = elim (count_cases m inode) [
   | inl e ↦ e
   | inr one ↦ absurd (none one.at one.is)
@@ -219,9 +215,9 @@ count_none m inode none = elim (count_cases m inode) [
 
 -- an inode with only one entry has one
 pub count_one : (m : Entries) (at : EntryKey) (inode : ℕ) → get m at ≡ Some inode → ((other : EntryKey) → get m other ≡ Some inode → other ≡ at)
-    → count_of m inode ≡ 1
+    → name_count m inode ≡ 1
 count_one m at inode there only =
-    let rest : count_of (remove m at) inode ≡ 0 = count_none (remove m at) inode (λ other h.
+    let rest : name_count (remove m at) inode ≡ 0 = count_none (remove m at) inode (λ other h.
     let kept : (other ≢ at) × (get m other ≡ Some inode) = was_kept entry_key m at other inode h in
     kept.0 (only other kept.1)) in
     let all = count-remove_same m at inode there in

@@ -12,10 +12,11 @@ use Rattle.jv_model.specs.declared.setting.Setting.{Setting}
 use Rattle.jv_model.specs.declared.row.Row.TheVariants.{OfSetting, OfCounters, OfNode, OfEdge, OfSession, OfSustained}
 use Rattle.jv_model.specs.FiniteMap.{Map, number_key, get, sum_over}
 use Rattle.jv_model.specs.rows.RowPlaces.{node_key, edge_key, session_key, sustained_key}
-use Rattle.jv_model.specs.tree.Tree.{Tree, Node, Kind, File, Directory, Symlink, EntryKey, entry_key, SessionEntry, node_at, node_space, node_count, used_space, used_inodes, link_count, parent_of, parent_at, target_at, content_of as content_in, content_at, is_directory, is_sustained}
+use Rattle.jv_model.specs.tree.Tree.{Tree, Node, Kind, File, Directory, Symlink, EntryKey, entry_key, SessionEntry, node_at, node_space, node_count, used_space, used_inodes, link_count, parent_of, parent_at, target_at, content_of as content_in, content_at, is_directory, is_sustained, target_in}
+use Rattle.jv_model.specs.tree.Changes.{content_of}
 use Rattle.jv_volume.specs.TypedRows.{Cell, Rows}
 use Rattle.jv_volume.specs.Views.{row_in, setting_in, setting_at, counters_in, counters_at, node_in, node_row_at, edge_in, edge_at, session_in, session_at, sustained_in, sustained_at}
-use Rattle.jv_volume.specs.TreeOf.{node_of, content_of, session_of, tree_of}
+use Rattle.jv_volume.specs.TreeOf.{node_of, session_of, tree_of}
 use Rattle.jv_volume.specs.Shape.{form_of, shape_of, WholeShape}
 use Rattle.jv_volume.specs.Stored.{Stored, kind_number, node_row, number_of_node, edge_row, session_row, counters_row}
 use Rattle.jv_volume.specs.Whole.{Whole, no_bytes}
@@ -255,10 +256,6 @@ module _ (rows : Rows) (t : Tree) (s : Stored rows t) where
       ∙ ap kept_cell (sym (stored_sustained sid inode less))
 
 -- ---- what was read
-
-abbrev pub target_in : Option Node → Option (List ℕ)
-target_in None = None
-target_in (Some node) = elim node.kind [ File content ↦ None | Directory parent ↦ None | Symlink target ↦ Some target ]
 
 -- The kind of a node of a row, by the row's number.
 pub record HasKind (node : Option Node) (row : NodeRow) (byte : ℕ → ℕ) : Type 0 where

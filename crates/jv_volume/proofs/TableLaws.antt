@@ -1,16 +1,16 @@
 -- The tables that a tree is made of: which keys their rows have.
 use Rattle.std.proofs.Common.{◌≡◌, ℕ, ◌<◌, ◌^◌, true, cond, ◌&&◌, List, [], get_or, Option, None, Some, refl, sym, ap, subst, ◌∙◌, arith, lt-ltb, ltb-true, eqb-true, eq-eqb}
 use Rattle.std.proofs.lemmas.Option.{cond_some}
-use Rattle.std.specs.Prelude.{◌==◌, nat_lt, if◌then◌else◌}
+use Rattle.std.specs.Prelude.{◌==◌, nat_lt, if◌then◌else◌, bytes_eq}
 use Rattle.std.specs.Int.{w64, from_be_bytes}
 use Rattle.std.specs.Cmp.Lexicographic.{bytes_decides}
 use Rattle.std.proofs.lemmas.Bool.{and_parts}
 use Rattle.std.proofs.lemmas.Nat.{from_be_bytes-to_be_bytes_8}
+use Rattle.jv_model.specs.declared.tables.TheConstants.{TABLE_OF_EDGES, TABLE_OF_SUSTAINED}
 use Rattle.jv_model.specs.declared.row.RowKey.{RowKey}
 use Rattle.jv_model.specs.rows.RowFields.{long}
 use Rattle.jv_model.specs.rows.RowPlaces.{edge_key, sustained_key}
 use Rattle.jv_model.specs.tree.Tree.{EntryKey, SustainedFile}
-use Rattle.jv_model.specs.tree.Walk.{is_text}
 use Rattle.jv_model.proofs.TestLaws.{nil_is}
 use Rattle.jv_model.specs.Lists.{is_nil}
 use Rattle.jv_volume.specs.TreeOf.{number_of, entry_of_key, pair_of_key}
@@ -47,9 +47,9 @@ entry_place at = Some (edge_key at.dir at.name)
 
 entry_there : (q : RowKey) (at : EntryKey) → entry_of_key q ≡ Some at → entry_place at ≡ Some q
 entry_there q at e =
-    let is = cond_some (q.tab == 3) (record { dir = q.a; name = q.b }) at e in
+    let is = cond_some (q.tab == TABLE_OF_EDGES) (record { dir = q.a; name = q.b }) at e in
     ap (λ (place : EntryKey). Some (edge_key place.dir place.name)) (sym is.1)
-    ∙ ap (λ key. Some key) (same_key_parts q 3 q.a q.b (sym (eqb-true q.tab 3 is.0)) refl refl)
+    ∙ ap (λ key. Some key) (same_key_parts q TABLE_OF_EDGES q.a q.b (sym (eqb-true q.tab TABLE_OF_EDGES is.0)) refl refl)
 
 pub entry_table : IsTable entry_of_key entry_place
 entry_table = record {
@@ -75,23 +75,23 @@ pair_place pair = (if nat_lt pair.inode (2 ^ 64) then Some (sustained_key pair.s
 module _ (spelled : ℕ → List ℕ) (read : List ℕ → ℕ) (limit : ℕ) (below : (n : ℕ) → read (spelled n) < limit) (again : (n : ℕ) → n < limit
     → read (spelled n) ≡ n) where
   abbrev pair_by : RowKey → Option SustainedFile
-  pair_by key = (if key.tab == 7 && is_text (spelled (read key.b)) key.b then Some (record { sid = key.a; inode = read key.b }) else None)
+  pair_by key = (if key.tab == TABLE_OF_SUSTAINED && bytes_eq (spelled (read key.b)) key.b then Some (record { sid = key.a; inode = read key.b }) else None)
 
   abbrev key_by : ℕ → ℕ → RowKey
-  key_by sid inode = record { tab = 7; a = sid; b = spelled inode }
+  key_by sid inode = record { tab = TABLE_OF_SUSTAINED; a = sid; b = spelled inode }
 
   abbrev place_by : SustainedFile → Option RowKey
   place_by pair = (if nat_lt pair.inode limit then Some (key_by pair.sid pair.inode) else None)
 
   pair_there : (q : RowKey) (pair : SustainedFile) → pair_by q ≡ Some pair → place_by pair ≡ Some q
   pair_there q pair e =
-      let is = cond_some (q.tab == 7 && is_text (spelled (read q.b)) q.b) (record { sid = q.a; inode = read q.b }) pair e in
-      let parts = and_parts (q.tab == 7) (is_text (spelled (read q.b)) q.b) is.0 in
+      let is = cond_some (q.tab == TABLE_OF_SUSTAINED && bytes_eq (spelled (read q.b)) q.b) (record { sid = q.a; inode = read q.b }) pair e in
+      let parts = and_parts (q.tab == TABLE_OF_SUSTAINED) (bytes_eq (spelled (read q.b)) q.b) is.0 in
       let same : spelled (read q.b) ≡ q.b = (bytes_decides (spelled (read q.b)) q.b).0 parts.1 in
       let less : read q.b < limit = subst (λ b. read b < limit) same (below (read q.b)) in
       ap place_by (sym is.1)
       ∙ ap (λ b. cond b (Some (key_by q.a (read q.b))) None) (lt-ltb (read q.b) limit less)
-      ∙ ap (λ key. Some key) (same_key_parts q 7 q.a (spelled (read q.b)) (sym (eqb-true q.tab 7 parts.0)) refl same)
+      ∙ ap (λ key. Some key) (same_key_parts q TABLE_OF_SUSTAINED q.a (spelled (read q.b)) (sym (eqb-true q.tab TABLE_OF_SUSTAINED parts.0)) refl same)
 
   pair_here : (sid inode : ℕ) → inode < limit → pair_by (key_by sid inode) ≡ Some (record { sid = sid; inode = inode })
   pair_here sid inode less =

@@ -4,6 +4,7 @@ use Rattle.std.specs.Prelude.{◌==◌, is_some, IsTrue, if◌then◌else◌}
 use Rattle.std.specs.Option.{option_map}
 use Rattle.std.specs.Ordering.{eq_by_cmp}
 use Rattle.std.proofs.lemmas.Bool.{le-ltb}
+use Rattle.jv_model.specs.declared.tables.TheConstants.{TABLE_OF_LISTS, TABLE_OF_SLICES, TABLE_OF_DROPPED, TABLE_OF_DEAD, TABLE_OF_NODES, TABLE_OF_SESSIONS}
 use Rattle.jv_model.specs.declared.row.RowKey.{RowKey}
 use Rattle.jv_model.specs.declared.row.Counters.{Counters}
 use Rattle.jv_model.specs.declared.row.Node.{Node as NodeRow}
@@ -38,7 +39,7 @@ pub node_at-tree_of : (bytes : ℕ → ℕ → ℕ) (rows : Rows) (inode : ℕ)
     → node_at (tree_of bytes rows) inode ≡ option_map (node_of (bytes inode)) (node_row_at rows inode)
 unfolding tree_of nodes_of
 node_at-tree_of bytes rows inode =
-    get-selected number_key (number_of 2) (number_place 2) (number_table 2) (λ i row. option_map (node_of (bytes i)) (node_in row)) (λ i. refl) rows inode
+    get-selected number_key (number_of TABLE_OF_NODES) (number_place TABLE_OF_NODES) (number_table TABLE_OF_NODES) (λ i row. option_map (node_of (bytes i)) (node_in row)) (λ i. refl) rows inode
 
 -- the inode that an entry names is that of its edge
 pub get-entries : (bytes : ℕ → ℕ → ℕ) (rows : Rows) (at : EntryKey)
@@ -50,7 +51,7 @@ get-entries bytes rows at =
 pub get-sessions : (bytes : ℕ → ℕ → ℕ) (rows : Rows) (sid : ℕ) → get (tree_of bytes rows).sessions sid ≡ option_map session_of (session_at rows sid)
 unfolding tree_of sessions_of
 get-sessions bytes rows sid =
-    get-selected number_key (number_of 6) (number_place 6) (number_table 6) (λ sid row. option_map session_of (session_in row)) (λ sid. refl) rows sid
+    get-selected number_key (number_of TABLE_OF_SESSIONS) (number_place TABLE_OF_SESSIONS) (number_table TABLE_OF_SESSIONS) (λ sid row. option_map session_of (session_in row)) (λ sid. refl) rows sid
 
 -- a pair is there by its row
 pub get-sustained : (bytes : ℕ → ℕ → ℕ) (rows : Rows) (sid inode : ℕ) → inode < 2 ^ 64
@@ -92,9 +93,9 @@ next_session-tree_of bytes rows = refl
 pub record IsUnseen (q : RowKey) : Type 0 where
   pub setting : eq_by_cmp row_cmp setting_key q ≡ false
   pub counters : eq_by_cmp row_cmp counters_key q ≡ false
-  pub node : number_of 2 q ≡ None
+  pub node : number_of TABLE_OF_NODES q ≡ None
   pub entry : entry_of_key q ≡ None
-  pub session : number_of 6 q ≡ None
+  pub session : number_of TABLE_OF_SESSIONS q ≡ None
   pub pair : pair_of_key q ≡ None
 
 module _ (rows : Rows) (q : RowKey) (cell : Option Cell) where
@@ -107,10 +108,10 @@ module _ (rows : Rows) (q : RowKey) (cell : Option Cell) where
   counters_kept : eq_by_cmp row_cmp counters_key q ≡ false → counters_of (alter rows q cell) ≡ counters_of rows
   counters_kept apart = ap (λ row. or_no_counters (counters_in row)) (row_kept counters_key apart)
 
-  nodes_kept : (bytes : ℕ → ℕ → ℕ) → number_of 2 q ≡ None → nodes_of bytes (alter rows q cell) ≡ nodes_of bytes rows
+  nodes_kept : (bytes : ℕ → ℕ → ℕ) → number_of TABLE_OF_NODES q ≡ None → nodes_of bytes (alter rows q cell) ≡ nodes_of bytes rows
   unfolding nodes_of
   nodes_kept bytes other =
-      selected-alter-other number_key (number_of 2) (number_place 2) (number_table 2) (λ i row. option_map (node_of (bytes i)) (node_in row))
+      selected-alter-other number_key (number_of TABLE_OF_NODES) (number_place TABLE_OF_NODES) (number_table TABLE_OF_NODES) (λ i row. option_map (node_of (bytes i)) (node_in row))
       (λ i. refl) rows q cell other
 
   entries_kept : entry_of_key q ≡ None → entries_of (alter rows q cell) ≡ entries_of rows
@@ -119,10 +120,10 @@ module _ (rows : Rows) (q : RowKey) (cell : Option Cell) where
       selected-alter-other entry_key entry_of_key entry_place entry_table (λ at row. option_map (λ edge. edge.inode) (edge_in row))
       (λ at. refl) rows q cell other
 
-  sessions_kept : number_of 6 q ≡ None → sessions_of (alter rows q cell) ≡ sessions_of rows
+  sessions_kept : number_of TABLE_OF_SESSIONS q ≡ None → sessions_of (alter rows q cell) ≡ sessions_of rows
   unfolding sessions_of
   sessions_kept other =
-      selected-alter-other number_key (number_of 6) (number_place 6) (number_table 6) (λ sid row. option_map session_of (session_in row))
+      selected-alter-other number_key (number_of TABLE_OF_SESSIONS) (number_place TABLE_OF_SESSIONS) (number_table TABLE_OF_SESSIONS) (λ sid row. option_map session_of (session_in row))
       (λ sid. refl) rows q cell other
 
   sustained_kept : pair_of_key q ≡ None → sustained_of (alter rows q cell) ≡ sustained_of rows
@@ -148,7 +149,7 @@ unseen_tab q tab is h = subst (λ (n : ℕ). IsUnseen (record { tab = n; a = q.a
 
 -- the tables of lists, slices, dropped files and dead slices
 abbrev pub is_unseen : ℕ → Bool
-is_unseen tab = (tab == 4) || ((tab == 5) || ((tab == 8) || (tab == 9)))
+is_unseen tab = (tab == TABLE_OF_LISTS) || ((tab == TABLE_OF_SLICES) || ((tab == TABLE_OF_DROPPED) || (tab == TABLE_OF_DEAD)))
 
 or_then : (a b : Bool) (P : Type 0) → (a || b) ≡ true → (a ≡ true → P) → (b ≡ true → P) → P
 or_then true b P e f g = f refl
@@ -191,7 +192,7 @@ pub tree_of-alter-node : (bytes : ℕ → ℕ → ℕ) (rows : Rows) (inode : �
 unfolding tree_of nodes_of
 tree_of-alter-node bytes rows inode cell =
     let q = node_key inode in
-    let nodes = selected-alter number_key (number_of 2) (number_place 2) (number_table 2) (λ i row. option_map (node_of (bytes i)) (node_in row))
+    let nodes = selected-alter number_key (number_of TABLE_OF_NODES) (number_place TABLE_OF_NODES) (number_table TABLE_OF_NODES) (λ i row. option_map (node_of (bytes i)) (node_in row))
     (λ i. refl) rows q cell inode refl in
     λ i. record {
       setting = setting_kept rows q cell refl i;
@@ -254,7 +255,7 @@ pub tree_of-alter-session : (bytes : ℕ → ℕ → ℕ) (rows : Rows) (sid : �
 unfolding tree_of sessions_of
 tree_of-alter-session bytes rows sid cell =
     let q = session_key sid in
-    let sessions = selected-alter number_key (number_of 6) (number_place 6) (number_table 6) (λ sid row. option_map session_of (session_in row))
+    let sessions = selected-alter number_key (number_of TABLE_OF_SESSIONS) (number_place TABLE_OF_SESSIONS) (number_table TABLE_OF_SESSIONS) (λ sid row. option_map session_of (session_in row))
     (λ sid. refl) rows q cell sid refl in
     λ i. record {
       setting = setting_kept rows q cell refl i;

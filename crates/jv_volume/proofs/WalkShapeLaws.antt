@@ -8,9 +8,10 @@ use Rattle.jv_model.specs.declared.fault.Fault.TheVariants.{NotFound, NotADirect
 use Rattle.jv_model.specs.FiniteMap.{get}
 use Rattle.jv_model.specs.tree.Attempt.{◌>>=◌, require, some_or}
 use Rattle.jv_model.specs.tree.Tree.{Tree, EntryKey, root, trash_root, node_at, parent_at, is_directory}
-use Rattle.jv_model.specs.tree.Walk.{is_absolute, names_of, is_dot, is_dot_dot, is_trash, named_from, stepped, way_on, walk_names, walk, inode_by, last_name, all_but_last, entry_of}
+use Rattle.jv_model.specs.tree.Walk.{is_absolute, names_of, is_dot, is_dot_dot, is_trash, named_from, stepped, way_on, walk_names, walk, inode_by, all_but_last, entry_of}
 use Rattle.jv_model.specs.tree.Making.{may_be_new, new_place}
 use Rattle.jv_model.proofs.TestLaws.{none_if}
+use Rattle.jv_model.specs.Lists.{last_item}
 use Rattle.jv_volume.specs.Shape.{Dir, is_dir, shape_of, is_top, WholeShape}
 use Rattle.jv_volume.proofs.ShapeMapLaws.{IsNamed, form-parent, is_directory-form}
 use Rattle.jv_volume.proofs.ClimbLaws.{top_parent}
@@ -142,23 +143,23 @@ module _ (t : Tree) (w : WholeShape (shape_of t)) where
 -- the places of entries
 
 module _ (t : Tree) (path : List ℕ) where
-  abbrev of_length : List ℕ → ℕ → Result EntryKey Fault
+  abbrev pub of_length : List ℕ → ℕ → Result EntryKey Fault
   of_length name dir = require (nat_le (length name) MAX_NAME) NameTooLong >>= (λ _. Ok (record { dir = dir; name = name }))
 
-  abbrev of_dir : List ℕ → ℕ → Result EntryKey Fault
+  abbrev pub of_dir : List ℕ → ℕ → Result EntryKey Fault
   of_dir name dir = require (is_directory t dir) NotADirectory >>= (λ _. of_length name dir)
 
-  abbrev above : Result ℕ Fault
+  abbrev pub above : Result ℕ Fault
   above = walk MAX_SYMLINKS t true root (all_but_last (names_of path))
 
-  abbrev of_name : List ℕ → Result EntryKey Fault
+  abbrev pub of_name : List ℕ → Result EntryKey Fault
   of_name name = require (not (is_dot name || is_dot_dot name)) Invalid >>= (λ _. above >>= of_dir name)
 
   -- the entry of a path stands in a directory
   pub entry_within : (place : EntryKey) → entry_of t path ≡ Ok place → is_directory t place.dir ≡ true
   entry_within place h =
-      let short = went_on (require (nat_le (length path) MAX_PATH) NameTooLong) (λ _. some_or (last_name (names_of path)) Invalid >>= of_name) place h in
-      let name = went_on (some_or (last_name (names_of path)) Invalid) of_name place short.2 in
+      let short = went_on (require (nat_le (length path) MAX_PATH) NameTooLong) (λ _. some_or (last_item (names_of path)) Invalid >>= of_name) place h in
+      let name = went_on (some_or (last_item (names_of path)) Invalid) of_name place short.2 in
       let plain = went_on (require (not (is_dot name.0 || is_dot_dot name.0)) Invalid) (λ _. above >>= of_dir name.0) place name.2 in
       let dir = went_on above (of_dir name.0) place plain.2 in
       let within = went_on (require (is_directory t dir.0) NotADirectory) (λ _. of_length name.0 dir.0) place dir.2 in

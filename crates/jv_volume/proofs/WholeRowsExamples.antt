@@ -6,7 +6,7 @@ use Rattle.std.specs.Option.{option_map}
 use Rattle.std.specs.List.{AllByRecursion}
 use Rattle.std.proofs.lemmas.Option.{none-some, same_Some}
 use Rattle.std.proofs.lemmas.Bool.{and_right, cond-true, cond-false, eq-eqb, ne_eqb, cases_eq, cases_lt, le-ltb, lt-ltb}
-use Rattle.jv_model.specs.declared.limits.TheConstants.{WINDOW}
+use Rattle.jv_model.specs.declared.limits.TheConstants.{WINDOW, FULL_MODE, READ_ONLY_MODE}
 use Rattle.jv_model.specs.declared.row.RowKey.{RowKey}
 use Rattle.jv_model.specs.declared.row.Counters.{Counters}
 use Rattle.jv_model.specs.declared.row.Node.{Node as NodeRow}
@@ -18,13 +18,14 @@ use Rattle.jv_model.specs.FiniteMap.{number_key, empty_map, get, insert, map_of}
 use Rattle.jv_model.specs.rows.RowKeys.{row_key}
 use Rattle.jv_model.specs.rows.RowPlaces.{setting_key, counters_key, node_key, edge_key, list_key, slice_key, session_key, sustained_key, dropped_key, dead_key}
 use Rattle.jv_model.specs.blocks.Slices.{IsRecord, place_by, stored_place}
-use Rattle.jv_model.specs.tree.Tree.{Tree, File, Directory, EntryKey, entry_key, pair_key, new_node, fresh_tree, node_at, link_count, root, trash_root, full_mode, read_only_mode}
+use Rattle.jv_model.specs.tree.Tree.{Tree, File, Directory, EntryKey, entry_key, pair_key, new_node, fresh_tree, node_at, link_count, root, trash_root}
 use Rattle.jv_model.specs.tree.Making.{with_next}
 use Rattle.jv_model.proofs.FiniteMapLaws.{get-empty_map}
-use Rattle.jv_model.proofs.TreeComputes.{maps_compute}
+use Rattle.jv_model.proofs.TreeComputeLaws.{maps_compute}
+use Rattle.jv_model.specs.tree.Changes.{content_of}
 use Rattle.jv_volume.specs.TypedRows.{Cell, Rows}
 use Rattle.jv_volume.specs.Views.{row_in, node_in, records_in, slice_in, dropped_in, dead_in, lists_of, node_row_at, slice_row_at, dropped_at, dead_at}
-use Rattle.jv_volume.specs.TreeOf.{content_of, tree_of, selected, nodes_of, entries_of, sessions_of, sustained_of}
+use Rattle.jv_volume.specs.TreeOf.{tree_of, selected, nodes_of, entries_of, sessions_of, sustained_of}
 use Rattle.jv_volume.specs.Shape.{WholeShape, shape_of}
 use Rattle.jv_volume.specs.Stored.{Stored, node_row, edge_row, session_row, counters_row}
 use Rattle.jv_volume.specs.Slices.{count_in, listed, ListsHave, HasLists, OfFile, named_by, place_in, slice_count, next_slice, WholeSlices, WholeFiles}
@@ -48,13 +49,13 @@ volume counters top more = map_of (
     (setting_key, Ok (OfSetting plain))
     ∷ (counters_key, Ok (OfCounters counters))
     ∷ (node_key root, Ok (OfNode top))
-    ∷ (node_key trash_root, Ok (OfNode (first_directory read_only_mode 0)))
+    ∷ (node_key trash_root, Ok (OfNode (first_directory READ_ONLY_MODE 0)))
     ∷ more
     )
 
 -- its root
 abbrev pub top : NodeRow
-top = first_directory full_mode 0
+top = first_directory FULL_MODE 0
 
 -- the counters of a volume with one file of at most a unit of space, and one slice
 abbrev pub one_file : Counters
@@ -62,7 +63,7 @@ one_file = record { inode = 3; slice = 2; session = 1; used_space = 4096; used_i
 
 -- a file of a length
 abbrev pub file : ℕ → NodeRow
-file length = record { kind = 1; mode = full_mode; uid = 0; gid = 0; nlink = 1; mtime = 0; ctime = 0; length = length; parent = 0; target = [] }
+file length = record { kind = 1; mode = FULL_MODE; uid = 0; gid = 0; nlink = 1; mtime = 0; ctime = 0; length = length; parent = 0; target = [] }
 
 -- the file's name
 abbrev pub name : List ℕ
@@ -90,7 +91,7 @@ place = record { dir = root; name = name }
 
 -- its tree
 abbrev tree : Tree
-tree = with_next (fresh_tree plain 0) 0 place (new_node (File (content_of 10 (no_bytes 2))) full_mode 0)
+tree = with_next (fresh_tree plain 0) 0 place (new_node (File (content_of 10 (no_bytes 2))) FULL_MODE 0)
 
 tree_is : tree_of no_bytes rows ≡ tree
 unfolding rows_compute
@@ -98,7 +99,7 @@ tree_is = refl
 
 tree_whole : WholeShape (shape_of tree)
 unfolding maps_compute
-tree_whole = whole-with_next_file (fresh_tree plain 0) 0 place (whole-fresh_tree plain 0) refl refl refl (omega arith) (content_of 10 (no_bytes 2)) full_mode
+tree_whole = whole-with_next_file (fresh_tree plain 0) 0 place (whole-fresh_tree plain 0) refl refl refl (omega arith) (content_of 10 (no_bytes 2)) FULL_MODE
 
 number : {j k : RowKey} → j ≡ k → j.a ≡ k.a
 number e = ap (λ (k : RowKey). k.a) e
@@ -108,7 +109,7 @@ written =
     (setting_key, Ok (OfSetting plain))
     ∷ (counters_key, Ok (OfCounters one_file))
     ∷ (node_key root, Ok (OfNode top))
-    ∷ (node_key trash_root, Ok (OfNode (first_directory read_only_mode 0)))
+    ∷ (node_key trash_root, Ok (OfNode (first_directory READ_ONLY_MODE 0)))
     ∷ with_file 10 1
 
 all_rows : (key : RowKey) (cell : Cell) → get rows key ≡ Some cell → IsRowAt key cell
@@ -136,8 +137,8 @@ no_dead id = ap (λ o. dead_in (row_in o)) (none_at 9 (dead_key id) written refl
 
 -- the rows are those of the tree
 
-nodes_are : tree.nodes ≡ map_of ((trash_root, new_node (Directory root) read_only_mode 0) ∷ (2, new_node (File (content_of 10 (no_bytes 2))) full_mode 0) ∷
-    (root, new_node (Directory root) full_mode 0) ∷ [])
+nodes_are : tree.nodes ≡ map_of ((trash_root, new_node (Directory root) READ_ONLY_MODE 0) ∷ (2, new_node (File (content_of 10 (no_bytes 2))) FULL_MODE 0) ∷
+    (root, new_node (Directory root) FULL_MODE 0) ∷ [])
 unfolding maps_compute
 nodes_are = refl
 
@@ -331,7 +332,7 @@ root_at : node_row_at rows root ≡ Some top
 unfolding rows_compute
 root_at = refl
 
-trash_at : node_row_at rows trash_root ≡ Some (first_directory read_only_mode 0)
+trash_at : node_row_at rows trash_root ≡ Some (first_directory READ_ONLY_MODE 0)
 unfolding rows_compute
 trash_at = refl
 
@@ -345,7 +346,7 @@ only_file inode node is kind = elim (cases_eq inode 2) [
   | inr c ↦ elim (cases_eq inode root) [
     | inl e ↦ let two = ap (λ (n : NodeRow). n.kind) (kind_of top node inode root e root_at is) in absurd (omega (arith, two, kind))
     | inr a ↦ elim (cases_eq inode trash_root) [
-      | inl e ↦ let two = ap (λ (n : NodeRow). n.kind) (kind_of (first_directory read_only_mode 0) node inode trash_root e trash_at is) in absurd
+      | inl e ↦ let two = ap (λ (n : NodeRow). n.kind) (kind_of (first_directory READ_ONLY_MODE 0) node inode trash_root e trash_at is) in absurd
           (omega (arith, two, kind))
       | inr b ↦ absurd (none-some node (sym (ap (λ o. node_in (row_in o)) (no_node inode a b c)) ∙ is))
     ]

@@ -1,9 +1,5 @@
 -- What a client that has files open relies on while a tree changes.
-use Rattle.std.specs.Prelude.{◌≡◌, ℕ, ◌≤◌, ◌<◌, Bool, true, false, Some, IsTrue}
-use Rattle.jv_model.specs.declared.fault.Fault.{Fault}
-use Rattle.jv_model.specs.declared.fault.Fault.TheVariants.{DeviceFailed, NoMemory}
-use Rattle.jv_model.specs.declared.op.Op.{Op}
-use Rattle.jv_model.specs.declared.op.Op.TheVariants as op
+use Rattle.std.specs.Prelude.{◌≡◌, ℕ, ◌≤◌, ◌<◌, Some, IsTrue}
 use Rattle.jv_model.specs.tree.Tree.{Tree, Content, content_at}
 use Rattle.jv_model.specs.tree.Changes.{empty_content}
 use Rattle.jv_volume.specs.Shape.{Regular, is_there, shape_of}
@@ -23,32 +19,3 @@ pub record Stays (t after : Tree) : Type 0 where
   pub setting : after.setting ≡ t.setting
   pub next : t.next_inode ≤ after.next_inode
   pub holdable : (inode : ℕ) → IsHoldable t inode → IsHoldable after inode
-
--- the operations that change the bytes of a file
-abbrev pub changes_bytes : Op → Bool
-changes_bytes (op.Truncate handle len) = true
-changes_bytes (op.Copy source from target to len) = true
-changes_bytes _ = false
-
--- the operations that may take a file's last entry
-abbrev pub takes_entries : Op → Bool
-takes_entries (op.Unlink path) = true
-takes_entries (op.Rename path to how) = true
-takes_entries _ = false
-
--- the operation that makes a session
-abbrev pub is_mount_op : Op → Bool
-is_mount_op (op.Mount writeback) = true
-is_mount_op _ = false
-
--- the operations that open a file
-abbrev pub opens_file : Op → Bool
-opens_file (op.Create path mode) = true
-opens_file (op.Open path) = true
-opens_file _ = false
-
--- the refusals that come from devices and from memory, and not from the tree
-abbrev pub is_device_or_memory : Fault → Bool
-is_device_or_memory (DeviceFailed device) = true
-is_device_or_memory NoMemory = true
-is_device_or_memory _ = false

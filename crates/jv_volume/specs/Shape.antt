@@ -1,8 +1,9 @@
 -- What makes a tree whole. It sees no times, attributes or bytes, so it is a fact on the tree's shape alone.
-use Rattle.std.specs.Prelude.{◌≡◌, ℕ, zero, suc, ◌<◌, ◌≤◌, Bool, true, false, ◌&&◌, ◌||◌, ◌==◌, nat_le, nat_lt, if◌then◌else◌, List, is_some, Option, None, Some, IsTrue}
+use Rattle.std.specs.Prelude.{◌≡◌, ℕ, zero, suc, ◌<◌, ◌≤◌, Bool, true, false, ◌&&◌, ◌||◌, ◌==◌, nat_le, nat_lt, List, is_some, Option, None, Some, IsTrue}
+use Rattle.jv_model.specs.declared.limits.TheConstants.{FULL_COUNT}
 use Rattle.jv_model.specs.declared.lifetimes.TheConstants.{FIRST_HOUR}
-use Rattle.jv_model.specs.FiniteMap.{Map, get, sum_over}
-use Rattle.jv_model.specs.tree.Tree.{Tree, Node, File, Directory, Symlink, EntryKey, entry_key, pair_key, root, trash_root, full_count, node_at}
+use Rattle.jv_model.specs.FiniteMap.{Map, get}
+use Rattle.jv_model.specs.tree.Tree.{Tree, Node, File, Directory, Symlink, EntryKey, entry_key, pair_key, root, trash_root, node_at, name_count, has_pair}
 use Rattle.jv_model.specs.tree.HourNames.{hour_name}
 use Rattle.jv_model.specs.tree.Trash.{hour_of, trash_name}
 
@@ -51,14 +52,11 @@ abbrev pub named : Shape → EntryKey → Option ℕ
 named s at = get s.entries at
 
 abbrev pub keeps : Shape → ℕ → ℕ → Bool
-keeps s sid inode = is_some (get s.sustained (record { sid = sid; inode = inode }))
-
-abbrev pub naming : ℕ → EntryKey → ℕ → ℕ
-naming inode at i = (if i == inode then 1 else 0)
+keeps s sid inode = has_pair s.sustained sid inode
 
 -- how many entries name an inode
 abbrev pub names : Shape → ℕ → ℕ
-names s inode = sum_over (naming inode) s.entries
+names s inode = name_count s.entries inode
 
 -- the directories that no entry names
 abbrev pub is_top : ℕ → Bool
@@ -123,5 +121,5 @@ pub record WholeShape (s : Shape) : Type 0 where
   pub hours : (inode : ℕ) → IsTrue (is_there (s.form inode)) → IsTrue (nat_lt trash_root inode) → IsTrue (is_hour inode) × (s.form inode ≡ Dir trash_root)
   pub below : (inode : ℕ) → IsTrue (is_there (s.form inode)) → IsTrue (nat_lt inode trash_root) → inode < s.next_inode
   pub sessions : (sid : ℕ) → IsTrue (s.in_session sid) → (1 ≤ sid) × (sid < s.next_session)
-  pub inodes_end : s.next_inode ≤ full_count
-  pub sessions_end : s.next_session ≤ full_count
+  pub inodes_end : s.next_inode ≤ FULL_COUNT
+  pub sessions_end : s.next_session ≤ FULL_COUNT

@@ -1,6 +1,7 @@
 -- What makes lists, slices, and what is left of removed files whole.
 use Rattle.std.specs.Prelude.{◌≡◌, ◌≢◌, ℕ, ◌/◌, ◌%◌, ◌<◌, ◌≤◌, ◌==◌, if◌then◌else◌, List, [], count_by, Option, None, Some}
 use Rattle.std.specs.List.{AllByRecursion}
+use Rattle.jv_model.specs.declared.tables.TheConstants.{TABLE_OF_LISTS}
 use Rattle.jv_model.specs.declared.limits.TheConstants.{FILE_END, WINDOW, FULL_COUNT}
 use Rattle.jv_model.specs.declared.row.RowKey.{RowKey}
 use Rattle.jv_model.specs.declared.row.Node.{Node as NodeRow}
@@ -17,7 +18,7 @@ use Rattle.jv_volume.specs.TreeOf.{counters_of}
 
 -- the records of what stands at a key, none where that is no list
 abbrev pub listed : RowKey → Option Cell → List Rec
-listed key cell = (if key.tab == 4 then records_in (row_in cell) else [])
+listed key cell = (if key.tab == TABLE_OF_LISTS then records_in (row_in cell) else [])
 
 -- how many records name a slice
 abbrev pub records_naming : ℕ → List Rec → ℕ
@@ -75,5 +76,5 @@ pub record WholeFiles (rows : Rows) : Type 0 where
   pub small : (inode : ℕ) (node : NodeRow) → node_row_at rows inode ≡ Some node → node.kind ≡ 1 → node.length ≤ FILE_END
   pub past : (inode : ℕ) (node : NodeRow) → node_row_at rows inode ≡ Some node → node.kind ≡ 1
       → (position : ℕ) → node.length ≤ position → place_in (lists_of rows inode) position ≡ Zero
-  pub owned : (key : RowKey) → key.tab ≡ 4 → get rows key ≢ None → HasLists rows key.a
+  pub owned : (key : RowKey) → key.tab ≡ TABLE_OF_LISTS → get rows key ≢ None → HasLists rows key.a
   pub gone : (inode : ℕ) → dropped_at rows inode ≢ None → (node_row_at rows inode ≡ None) × (inode < (counters_of rows).inode)

@@ -46,6 +46,10 @@ node_row links node = record {
   target = target_of node.kind;
 }
 
+-- a directory whose entries changed at a moment, with its links since then
+abbrev pub directory_touched : ℕ → ℕ → NodeRow → NodeRow
+directory_touched now links row = record row { mtime = now; ctime = now; nlink = links }
+
 abbrev pub number_of_node : Option Node → ℕ
 number_of_node None = 0
 number_of_node (Some node) = kind_number node.kind

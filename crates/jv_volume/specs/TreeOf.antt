@@ -1,7 +1,8 @@
 -- The tree that rows have. The bytes of files come from elsewhere: a transaction on rows sees none.
-use Rattle.std.specs.Prelude.{ℕ, ◌&&◌, ◌==◌, nat_lt, if◌then◌else◌, List, [], ◌∷◌, Option, None, Some}
+use Rattle.std.specs.Prelude.{ℕ, ◌&&◌, ◌==◌, if◌then◌else◌, List, [], ◌∷◌, Option, None, Some, bytes_eq, unwrap_or}
 use Rattle.std.specs.Option.{option_map}
 use Rattle.std.specs.Int.{w64, from_be_bytes}
+use Rattle.jv_model.specs.declared.tables.TheConstants.{TABLE_OF_EDGES, TABLE_OF_SUSTAINED, TABLE_OF_NODES, TABLE_OF_SESSIONS}
 use Rattle.jv_model.specs.declared.row.RowKey.{RowKey}
 use Rattle.jv_model.specs.declared.row.Row.{Row}
 use Rattle.jv_model.specs.declared.row.Counters.{Counters}
@@ -10,9 +11,9 @@ use Rattle.jv_model.specs.declared.row.Session.{Session}
 use Rattle.jv_model.specs.declared.setting.Setting.{Setting}
 use Rattle.jv_model.specs.FiniteMap.{KeyOrder, Map, number_key, map_of}
 use Rattle.jv_model.specs.rows.RowFields.{long}
-use Rattle.jv_model.specs.tree.Tree.{Tree, Node, Content, Kind, File, Directory, Symlink, EntryKey, entry_key, SessionEntry, SustainedFile, pair_key}
-use Rattle.jv_model.specs.tree.Walk.{is_text}
+use Rattle.jv_model.specs.tree.Tree.{Tree, Node, Kind, File, Directory, Symlink, EntryKey, entry_key, SessionEntry, SustainedFile, pair_key}
 use Rattle.jv_model.specs.Lists.{is_nil}
+use Rattle.jv_model.specs.tree.Changes.{content_of}
 use Rattle.jv_volume.specs.TypedRows.{Cell, Rows}
 use Rattle.jv_volume.specs.Views.{row_in, setting_at, counters_at, node_in, edge_in, session_in, sustained_in}
 
@@ -33,16 +34,12 @@ abbrev pub number_of : ℕ → RowKey → Option ℕ
 number_of tab key = (if key.tab == tab && is_nil key.b then Some key.a else None)
 
 abbrev pub entry_of_key : RowKey → Option EntryKey
-entry_of_key key = (if key.tab == 3 then Some (record { dir = key.a; name = key.b }) else None)
+entry_of_key key = (if key.tab == TABLE_OF_EDGES then Some (record { dir = key.a; name = key.b }) else None)
 
 abbrev pub pair_of_key : RowKey → Option SustainedFile
-pair_of_key key = (if key.tab == 7 && is_text (long (from_be_bytes w64 key.b)) key.b then Some (record { sid = key.a; inode = from_be_bytes w64 key.b }) else None)
+pair_of_key key = (if key.tab == TABLE_OF_SUSTAINED && bytes_eq (long (from_be_bytes w64 key.b)) key.b then Some (record { sid = key.a; inode = from_be_bytes w64 key.b }) else None)
 
 -- nodes
-
--- a file's bytes, none from its length on
-abbrev pub content_of : ℕ → (ℕ → ℕ) → Content
-content_of length byte = record { length = length; byte = λ position. if nat_lt position length then byte position else 0 }
 
 abbrev pub kind_of : (ℕ → ℕ) → NodeRow → Kind
 kind_of byte row = (if row.kind == 1 then File (content_of row.length byte) else if row.kind == 2 then Directory row.parent else Symlink row.target)
@@ -51,7 +48,7 @@ abbrev pub node_of : (ℕ → ℕ) → NodeRow → Node
 node_of byte row = record { kind = kind_of byte row; mode = row.mode; uid = row.uid; gid = row.gid; mtime = row.mtime; ctime = row.ctime }
 
 unfoldable pub nodes_of : (ℕ → ℕ → ℕ) → Rows → Map number_key Node
-nodes_of bytes rows = selected (number_of 2) (λ inode row. option_map (node_of (bytes inode)) (node_in row)) rows
+nodes_of bytes rows = selected (number_of TABLE_OF_NODES) (λ inode row. option_map (node_of (bytes inode)) (node_in row)) rows
 
 unfoldable pub entries_of : Rows → Map entry_key ℕ
 entries_of rows = selected entry_of_key (λ at row. option_map (λ edge. edge.inode) (edge_in row)) rows
@@ -60,7 +57,7 @@ abbrev pub session_of : Session → SessionEntry
 session_of row = record { client = row.client; expiry = row.expiry }
 
 unfoldable pub sessions_of : Rows → Map number_key SessionEntry
-sessions_of rows = selected (number_of 6) (λ sid row. option_map session_of (session_in row)) rows
+sessions_of rows = selected (number_of TABLE_OF_SESSIONS) (λ sid row. option_map session_of (session_in row)) rows
 
 unfoldable pub sustained_of : Rows → Map pair_key (Unit {0})
 sustained_of rows = selected pair_of_key (λ pair row. if sustained_in row then Some tt else None) rows
@@ -71,15 +68,13 @@ abbrev pub no_setting : Setting
 no_setting = record { version = 0; block = 0; trash_days = 0; capacity = 0; inodes = 0; hash = 0; name = []; bucket = [] }
 
 abbrev pub or_no_setting : Option Setting → Setting
-or_no_setting None = no_setting
-or_no_setting (Some setting) = setting
+or_no_setting setting = unwrap_or setting no_setting
 
 abbrev pub no_counters : Counters
 no_counters = record { inode = 0; slice = 0; session = 0; used_space = 0; used_inodes = 0 }
 
 abbrev pub or_no_counters : Option Counters → Counters
-or_no_counters None = no_counters
-or_no_counters (Some counters) = counters
+or_no_counters counters = unwrap_or counters no_counters
 
 abbrev pub counters_of : Rows → Counters
 counters_of rows = or_no_counters (counters_at rows)

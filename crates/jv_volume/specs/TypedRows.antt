@@ -1,6 +1,7 @@
 -- Rows by their types: what stands at each key, read by the grammar of the key's table.
 use Rattle.std.specs.Prelude.{ℕ, Bool, true, false, ◌&&◌, ◌||◌, not, ◌==◌, nat_le, if◌then◌else◌, List, map, length, Result, Ok, Err, ok_or}
 use Rattle.std.specs.List.{list_all}
+use Rattle.jv_model.specs.declared.tables.TheConstants.{TABLE_OF_EDGES, TABLE_OF_LISTS, TABLE_OF_SUSTAINED, TABLE_OF_COUNTERS, TABLE_OF_DEAD}
 use Rattle.jv_model.specs.declared.limits.TheConstants.{MAX_NAME}
 use Rattle.jv_model.specs.declared.row.RowKey.{RowKey}
 use Rattle.jv_model.specs.declared.row.Row.{Row}
@@ -32,11 +33,11 @@ is_entry_name name = nat_le 1 (length name) && nat_le (length name) MAX_NAME && 
 
 -- which keys the rows of a table have: one alone, a number, a number and a name, or a number and a number of 32 or 64 bits
 abbrev pub is_key : RowKey → Bool
-is_key key = (if nat_le key.tab 1 then key.a == 0 && is_nil key.b
-    else if key.tab == 3 then is_entry_name key.b
-    else if key.tab == 4 then length key.b == 4
-    else if key.tab == 7 then length key.b == 8
-    else nat_le key.tab 9 && is_nil key.b)
+is_key key = (if nat_le key.tab TABLE_OF_COUNTERS then key.a == 0 && is_nil key.b
+    else if key.tab == TABLE_OF_EDGES then is_entry_name key.b
+    else if key.tab == TABLE_OF_LISTS then length key.b == 4
+    else if key.tab == TABLE_OF_SUSTAINED then length key.b == 8
+    else nat_le key.tab TABLE_OF_DEAD && is_nil key.b)
 
 -- whether what stands at a key is a row
 abbrev pub is_typed : Cell → Bool

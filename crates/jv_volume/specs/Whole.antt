@@ -1,5 +1,6 @@
 -- When a volume's rows are whole: they are those of their tree, which is whole, and so are lists, slices and files.
 use Rattle.std.specs.Prelude.{◌≡◌, ℕ, Bool, ◌||◌, ◌==◌, Some, IsTrue}
+use Rattle.jv_model.specs.declared.tables.TheConstants.{TABLE_OF_LISTS, TABLE_OF_SLICES, TABLE_OF_DEAD}
 use Rattle.jv_model.specs.declared.row.RowKey.{RowKey}
 use Rattle.jv_model.specs.FiniteMap.{get}
 use Rattle.jv_volume.specs.TypedRows.{Cell, Rows, is_key, is_typed}
@@ -26,9 +27,13 @@ pub record Whole (rows : Rows) : Type 0 where
 
 -- the tables of lists, slices and dead slices
 abbrev pub is_of_slices : ℕ → Bool
-is_of_slices tab = (tab == 4) || (tab == 5) || (tab == 9)
+is_of_slices tab = (tab == TABLE_OF_LISTS) || (tab == TABLE_OF_SLICES) || (tab == TABLE_OF_DEAD)
+
+-- lists, slices and dead slices stay as they are
+abbrev pub SlicesStay : Rows → Rows → Type 0
+SlicesStay rows after = (key : RowKey) → IsTrue (is_of_slices key.tab) → get after key ≡ get rows key
 
 -- What a transaction on metadata leaves alone: lists, slices, and the next slice.
 pub record Quiet (rows after : Rows) : Type 0 where
-  pub apart : (key : RowKey) → IsTrue (is_of_slices key.tab) → get after key ≡ get rows key
+  pub apart : SlicesStay rows after
   pub next : next_slice after ≡ next_slice rows

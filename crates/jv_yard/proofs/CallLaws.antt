@@ -1,8 +1,9 @@
 -- What a yard's calls keep, and what is read of one whose staged blocks are on its shelf.
 use Rattle.std.proofs.Common.{◌≡◌, ◌↔◌, ℕ, ◌≤◌, List, length, Option, None, Some, IsSome, is_some, true, false, refl, sym, ap, subst, ◌∙◌}
+use Rattle.jv_model.specs.declared.limits.TheConstants.{LAST_CLIENT}
 use Rattle.jv_model.specs.declared.setting.Setting.{Setting}
 use Rattle.jv_model.specs.declared.slice.BlockId.{BlockId}
-use Rattle.jv_model.specs.blocks.BlockNames.{IsBlock}
+use Rattle.jv_model.specs.blocks.BlockNames.{IsBlock, name_in}
 use Rattle.jv_model.proofs.TestLaws.{known_is}
 use Rattle.jv_outside.specs.declared.parcel.Parcel.{Parcel}
 use Rattle.jv_outside.specs.Holding.{Holding}
@@ -10,7 +11,6 @@ use Rattle.jv_outside.specs.Objects.{ObjectMap, bytes_at}
 use Rattle.jv_outside.specs.Blocks.{StagedMap, staged_at}
 use Rattle.jv_outside.specs.Parcels.{StandsFor}
 use Rattle.jv_yard.specs.BlockCalls.{IsBlockOf, IsBlockBy, IsBlockParcel, IsPut}
-use Rattle.jv_yard.specs.Contents.{name_in}
 use Rattle.jv_yard.specs.Staging.{staged_since}
 use Rattle.jv_yard.specs.Starting.{IsStarted}
 use Rattle.jv_yard.specs.YardValue.{YardValue, IsKept, NamesBlock}
@@ -52,8 +52,8 @@ module _ (yard : YardValue) (objects : ObjectMap) (blocks : StagedMap) (client :
       let some : is_some (staged_at client name blocks) ≡ true = there refl in
       ((λ none. let gone : is_some (staged_at client name blocks) ≡ false = ap is_some (sym found ∙ none) in absurd (cc)), (λ both. absurd (let h = both.0 in cc)))
 
-  -- nothing is read exactly where the block is in neither place
-  pub none_in_neither : IsKept yard → client ≤ 7 → IsBlockOf yard client name value → (value ≡ None) ↔ ((staged_since client name yard.staged ≡ None) × (bytes_at name objects ≡ None))
+  -- nothing is read if and only if the block is in neither place
+  pub none_in_neither : IsKept yard → client ≤ LAST_CLIENT → IsBlockOf yard client name value → (value ≡ None) ↔ ((staged_since client name yard.staged ≡ None) × (bytes_at name objects ≡ None))
   none_in_neither kept low read = none_by _ refl (λ is. kept.there blocks shelf client name low is) read
 
 -- a parcel that stands for a block and its bytes may be put

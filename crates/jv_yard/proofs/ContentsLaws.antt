@@ -7,7 +7,7 @@ use Rattle.std.specs.Option.{option_map}
 use Rattle.jv_model.specs.declared.limits.TheConstants.{MAX_BLOCKS}
 use Rattle.jv_model.specs.declared.setting.Setting.{Setting}
 use Rattle.jv_model.specs.declared.slice.BlockId.{BlockId}
-use Rattle.jv_model.specs.blocks.BlockNames.{IsBlock}
+use Rattle.jv_model.specs.blocks.BlockNames.{IsBlock, name_in}
 use Rattle.jv_model.specs.blocks.Slices.{is_same_block}
 use Rattle.jv_model.specs.FiniteMap.{text_key, get}
 use Rattle.jv_model.proofs.FiniteMapLaws.{get-insert}
@@ -20,7 +20,7 @@ use Rattle.jv_slices.specs.Laws.{HasWidths}
 use Rattle.jv_slices.proofs.NameLaws.{names_are_distinct}
 use Rattle.jv_slices.proofs.NeedLaws.{equal_if_same, same_self}
 use Rattle.jv_yard.specs.BlockCalls.{IsBlockOf, IsBlockBy, IsPut}
-use Rattle.jv_yard.specs.Contents.{is_block, name_in, blocks_in}
+use Rattle.jv_yard.specs.Contents.{is_block, blocks_in}
 use Rattle.jv_yard.specs.Staging.{staged_since}
 use Rattle.jv_yard.specs.YardValue.{YardValue}
 
@@ -34,8 +34,8 @@ is_block-passes size b h =
     let within = le-leb b.size size h.size in
     λ i. id i && range i && index i && some i && within i
 
-pub is_block-tells : (size : ℕ) (b : BlockId) → is_block size b ≡ true → IsBlock size b
-is_block-tells size b h =
+pub is_block-says : (size : ℕ) (b : BlockId) → is_block size b ≡ true → IsBlock size b
+is_block-says size b h =
     let last = and_parts _ _ h in
     let fourth = and_parts _ _ last.0 in
     let third = and_parts _ _ fourth.0 in
@@ -81,7 +81,7 @@ module _ (setting : Setting) (small : setting.block < 2 ^ 32) where
     other_by q true passed apart =
         ap (option_map (λ (object : List ℕ × ℕ). object.0)) (get-insert objects (name_in setting b) (bytes, at) (name_in setting q))
         ∙ ap (λ t. option_map (λ (object : List ℕ × ℕ). object.0) (cond t (Some (bytes, at)) (get objects (name_in setting q))))
-        (names-apart q b (is_block-tells setting.block q passed) is apart)
+        (names-apart q b (is_block-says setting.block q passed) is apart)
 
     -- and all others are as before
     pub put-other : (q : BlockId) → q ≢ b → blocks_in setting (with_object (name_in setting b) bytes at objects) q ≡ blocks_in setting objects q

@@ -2,6 +2,7 @@
 use Rattle.std.proofs.Common.{◌≡◌, ◌⊎◌, ℕ, ◌≤◌, ◌<◌, false, List, [], ◌++◌, Option, None, Some, IsSome, is_some, refl, sym, ap, subst, ◌∙◌, inl, inr, append_assoc, append-nil}
 use Rattle.std.specs.Option.{option_map}
 use Rattle.std.proofs.lemmas.List.Elements.{All-nil, All-append, Contains-append_left, Contains-append_right}
+use Rattle.jv_model.specs.declared.limits.TheConstants.{LAST_CLIENT}
 use Rattle.jv_model.specs.declared.setting.Setting.{Setting}
 use Rattle.jv_model.specs.FiniteMap.{get}
 use Rattle.jv_model.proofs.TestLaws.{some_of, some_same}
@@ -205,7 +206,7 @@ module _ (before after : YardValue) (objects : ObjectMap) (blocks : StagedMap) (
   staged_before client name is = let since = some_of _ is in ap is_some (later.staged client name since.0 since.1)
 
   there_later : ContentsLater (contents_of objects blocks before) after → IsKept before → (now : StagedMap) → after.shelf.content ≡ Some now
-      → (client : ℕ) (name : List ℕ) → client ≤ 7 → IsSome (staged_since client name after.staged) → IsSome (staged_at client name now)
+      → (client : ℕ) (name : List ℕ) → client ≤ LAST_CLIENT → IsSome (staged_since client name after.staged) → IsSome (staged_at client name now)
   there_later contents kept now known client name low is =
       let same = some_same contents.blocks now (sym contents.blocks_are ∙ known) in
       ap (λ (m : StagedMap). is_some (staged_at client name m)) (sym same)

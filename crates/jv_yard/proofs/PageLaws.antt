@@ -311,16 +311,16 @@ module _ (setting : Setting) (start before : Holding StagedMap) (client : ℕ) (
   -- a page that isn't the last one
   pub page-turned : (next : Option (List ℕ)) → next ≡ next_after names → (end : Bool) → is_some next ≡ not end → end ≡ false
       → IsFoundSoFar setting start.content client next after
-  page-turned None is true tells more = absurd (cc)
-  page-turned None is false tells more = absurd (cc)
-  page-turned (Some next) is end tells more = found-page setting start.content client last names found after page_is so_far adds next (sym is)
+  page-turned None is true says more = absurd (cc)
+  page-turned None is false says more = absurd (cc)
+  page-turned (Some next) is end says more = found-page setting start.content client last names found after page_is so_far adds next (sym is)
 
   -- the last page
   pub page-ended : (next : Option (List ℕ)) → next ≡ next_after names → (end : Bool) → is_some next ≡ not end → end ≡ true
       → IsFound setting start.content client after
-  page-ended None is end tells ended = found-all setting start.content client last names found after page_is so_far adds (sym is)
-  page-ended (Some next) is true tells ended = absurd (cc)
-  page-ended (Some next) is false tells ended = absurd (cc)
+  page-ended None is end says ended = found-all setting start.content client last names found after page_is so_far adds (sym is)
+  page-ended (Some next) is true says ended = absurd (cc)
+  page-ended (Some next) is false says ended = absurd (cc)
 
 -- ---- one client after another
 

@@ -30,7 +30,7 @@ count-empty = refl
 pub staged-no_client : (clients : List ClientStaging) (client : ℕ) (name : List ℕ) → slice_get clients client ≡ None → staged_since client name (by_client clients) ≡ None
 staged-no_client clients client name h = ap (λ found. get (unwrap_or found (empty_map {order = text_key})) name) h ∙ get-empty_map text_key name
 
--- a reader of names finds a block exactly where the name is one's
+-- a reader of names finds a block if and only if the name is one's
 pub named_exactly : (setting : Setting) (name : List ℕ) (found : Option BlockId) → ((block : BlockId) → (found ≡ Some block) ↔ IsBlockName setting block name) → IsTrue (is_some found) ↔ NamesBlock setting name
 named_exactly setting name None h =
     ((λ some. absurd (cc)), (λ named. let found : None ≡ Some named.block = (h named.block).1 named.is in absurd (cc)))

@@ -2,10 +2,10 @@
 use Rattle.std.specs.Prelude.{◌≡◌, ◌^◌, ℕ, ◌<◌, List, None, Some}
 use Rattle.jv_model.specs.declared.setting.Setting.{Setting}
 use Rattle.jv_model.specs.declared.slice.BlockId.{BlockId}
-use Rattle.jv_model.specs.blocks.BlockNames.{IsBlock}
+use Rattle.jv_model.specs.blocks.BlockNames.{IsBlock, name_in}
 use Rattle.jv_outside.specs.Objects.{ObjectMap, with_object}
 use Rattle.jv_contents.specs.Blocks.{Grows}
-use Rattle.jv_yard.specs.Contents.{blocks_in, name_in}
+use Rattle.jv_yard.specs.Contents.{blocks_in}
 use Rattle.jv_yard.specs.Later.{Later}
 use Rattle.jv_yard.specs.YardValue.{YardValue}
 

@@ -1,21 +1,26 @@
 -- What an error of a yard's call says.
 use Rattle.std.specs.Prelude.{◌≡◌}
+use Rattle.jv_model.specs.declared.fault.Device.TheVariants.{Depot as OfDepot, Shelf as OfShelf}
 use Rattle.jv_model.specs.declared.fault.Down.{Down}
 use Rattle.jv_model.specs.declared.fault.Down.TheVariants.{Failed, Memory}
+use Rattle.jv_model.specs.declared.fault.Fault.{Fault}
+use Rattle.jv_model.specs.declared.fault.Fault.TheVariants as fault
+use Rattle.jv_model.specs.declared.fault.Fault.TheVariants.{DeviceFailed}
 use Rattle.jv_outside.specs.Holding.{FailsToHold}
 use Rattle.jv_yard.specs.declared.faults.YardFault.{YardFault}
 use Rattle.jv_yard.specs.declared.faults.YardFault.TheVariants.{Depot, Shelf, Memory as NoMemory}
 use Rattle.jv_yard.specs.YardValue.{YardValue}
 
--- what an error of the depot is to the yard
-abbrev pub depot_fault_of : Down → YardFault
-depot_fault_of Failed = Depot
-depot_fault_of Memory = NoMemory
+-- what an error of a device is to the yard, by what it is where the device failed
+abbrev pub fault_by : YardFault → Down → YardFault
+fault_by failed Failed = failed
+fault_by failed Memory = NoMemory
 
--- and one of the shelf
-abbrev pub shelf_fault_of : Down → YardFault
-shelf_fault_of Failed = Shelf
-shelf_fault_of Memory = NoMemory
+-- what a yard's fault is to a client
+abbrev pub yard_fault : YardFault → Fault
+yard_fault Depot = DeviceFailed OfDepot
+yard_fault Shelf = DeviceFailed OfShelf
+yard_fault NoMemory = fault.NoMemory
 
 -- The named device failed and its count rose, or memory ran out. Nothing else has changed.
 abbrev pub Refuses : YardValue → YardValue → YardFault → Type 0

@@ -1,8 +1,9 @@
 -- What a yard begins with: the blocks that it finds staged on its shelf.
-use Rattle.std.specs.Prelude.{◌≡◌, ℕ, ◌≤◌, List, [], Option, Some, IfSome, IsSome, Result, Ok, Err}
+use Rattle.std.specs.Prelude.{◌≡◌, ℕ, ◌≤◌, ◌<◌, List, [], Option, Some, IfSome, IsSome, Result, Ok, Err}
+use Rattle.jv_model.specs.declared.limits.TheConstants.{LAST_CLIENT}
 use Rattle.jv_model.specs.declared.fault.Down.TheVariants.{Failed}
 use Rattle.jv_model.specs.declared.setting.Setting.{Setting}
-use Rattle.jv_model.specs.FiniteMap.{get}
+use Rattle.jv_model.specs.FiniteMap.{empty_map, get}
 use Rattle.jv_outside.specs.Holding.{Holding, FailsToHold}
 use Rattle.jv_outside.specs.Objects.{ObjectMap}
 use Rattle.jv_outside.specs.Blocks.{StagedMap, staged_at}
@@ -24,7 +25,8 @@ pub record IsStarted (setting : Setting) (depot : Holding ObjectMap) (shelf : Ho
   pub depot_same : yard.depot ≡ depot
   pub shelf_same : yard.shelf ≡ shelf
   pub setting_is : yard.setting ≡ setting
-  pub staged_are : (client : ℕ) → client ≤ 7 → IsFound setting shelf.content client (yard.staged client)
+  pub staged_are : (client : ℕ) → client ≤ LAST_CLIENT → IsFound setting shelf.content client (yard.staged client)
+  pub no_others : (client : ℕ) → LAST_CLIENT < client → yard.staged client ≡ empty_map
   pub last_is : yard.last ≡ 0
   pub log_is : yard.log ≡ []
 
@@ -41,5 +43,7 @@ FindsStaged setting before after client (Err fault) = ShelfRefuses before after 
 
 -- finding the staged blocks of each client, by the result
 abbrev pub FindsAll : Setting → Holding StagedMap → Holding StagedMap → Result (List ClientStaging) YardFault → Type 0
-FindsAll setting before after (Ok found) = (after ≡ before) × ((client : ℕ) → client ≤ 7 → IsFound setting before.content client (by_client found client))
+FindsAll setting before after (Ok found) = (after ≡ before)
+    × ((client : ℕ) → client ≤ LAST_CLIENT → IsFound setting before.content client (by_client found client))
+    × ((client : ℕ) → LAST_CLIENT < client → by_client found client ≡ empty_map)
 FindsAll setting before after (Err fault) = ShelfRefuses before after fault

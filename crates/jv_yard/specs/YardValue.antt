@@ -1,5 +1,6 @@
 -- What contracts see of a yard.
 use Rattle.std.specs.Prelude.{◌≡◌, ℕ, ◌≤◌, List, Some, IsSome}
+use Rattle.jv_model.specs.declared.limits.TheConstants.{LAST_CLIENT}
 use Rattle.jv_model.specs.declared.setting.Setting.{Setting}
 use Rattle.jv_model.specs.declared.slice.BlockId.{BlockId}
 use Rattle.jv_model.specs.blocks.BlockNames.{IsBlockName}
@@ -29,6 +30,6 @@ pub record NamesBlock (setting : Setting) (name : List ℕ) : Type 0 where
 
 -- each staged block of a client has the name of a block of the volume, and the client's shelf has it where the shelf is known
 pub record IsKept (yard : YardValue) : Type 0 where
-  pub names : (client : ℕ) (name : List ℕ) → client ≤ 7 → IsSome (staged_since client name yard.staged) → NamesBlock yard.setting name
-  pub there : (blocks : StagedMap) → yard.shelf.content ≡ Some blocks → (client : ℕ) (name : List ℕ) → client ≤ 7
+  pub names : (client : ℕ) (name : List ℕ) → client ≤ LAST_CLIENT → IsSome (staged_since client name yard.staged) → NamesBlock yard.setting name
+  pub there : (blocks : StagedMap) → yard.shelf.content ≡ Some blocks → (client : ℕ) (name : List ℕ) → client ≤ LAST_CLIENT
       → IsSome (staged_since client name yard.staged) → IsSome (staged_at client name blocks)

@@ -1,6 +1,6 @@
 //! Why a yard's call didn't do its work.
 ghost use Rattle.std.specs.Prelude.{◌≡◌};
-ghost use Rattle.jv_yard.specs.Refusals.{depot_fault_of, shelf_fault_of};
+ghost use Rattle.jv_yard.specs.Refusals.{fault_by};
 
 use jv_model::Down;
 use std::alloc::AllocError;
@@ -30,22 +30,12 @@ impl From<AllocError> for YardFault {
     }
 }
 
-/// What an error of the depot is to the yard.
-pub(crate) fn depot_fault(down: Down) -> YardFault
-    ensures { result ≡ depot_fault_of down }
+/// What an error of a device is to the yard, by what it is where the device failed.
+pub(crate) fn yard_fault(failed: YardFault, down: Down) -> YardFault
+    ensures { result ≡ fault_by failed down }
 {
     match down {
-        Down::Failed => YardFault::Depot,
-        Down::Memory => YardFault::Memory,
-    }
-}
-
-/// What an error of the shelf is to the yard.
-pub(crate) fn shelf_fault(down: Down) -> YardFault
-    ensures { result ≡ shelf_fault_of down }
-{
-    match down {
-        Down::Failed => YardFault::Shelf,
+        Down::Failed => failed,
         Down::Memory => YardFault::Memory,
     }
 }

@@ -5,18 +5,15 @@ ghost use Rattle.jv_yard.specs.Pages.{AddsNames, ListsPage, next_after};
 ghost use Rattle.jv_yard.specs.Starting.{FindsStaged, FindsAll};
 ghost use Rattle.jv_yard.specs.YardValue.{NamesBlock};
 
-use crate::faults::{YardFault, shelf_fault};
+use crate::faults::{YardFault, yard_fault};
 use crate::staging::ClientBlocks;
-use jv_model::{ClientId, Moment, Name, NameList, Sequence, Setting, copied};
+use jv_model::{CLIENTS, ClientId, Moment, Name, NameList, Sequence, Setting, copied};
 use jv_outside::Shelf;
 use jv_slices::parse_block_name;
 use std::alloc::{AllocError, Global};
 
 /// How many names of blocks a device is asked for at once.
 pub const PAGE: u32 = 1_000;
-
-/// The clients of a volume.
-const CLIENTS: u8 = 8;
 
 /// The blocks that each client has staged, from client 0 on.
 pub(crate) fn find_staged<H: Shelf>(
@@ -66,7 +63,7 @@ fn list_page<H: Shelf>(
 {
     match shelf.list(c, after, PAGE) {
         Ok(names) => Ok(names),
-        Err(down) => Err(shelf_fault(down)),
+        Err(down) => Err(yard_fault(YardFault::Shelf, down)),
     }
 }
 

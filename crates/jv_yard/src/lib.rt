@@ -1,4 +1,5 @@
-//! Blocks of a volume in its object store and on the disks of its clients: which of them are staged, and what was put where.
+//! Blocks of a volume in its object store and on the disks of its clients: which of them are staged, and what was put where
+//! (JuiceFS, Cache and Internals).
 #![tactic(auto)]
 
 mod door;

@@ -15,7 +15,7 @@ pub enum What {
     Take,
     /// It was published, and is staged no more.
     Publish,
-    /// Publishing it failed, or taking it off the shelf.
+    /// Publishing it failed, or taking it from the shelf.
     Failed,
 }
 

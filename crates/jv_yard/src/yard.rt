@@ -6,7 +6,7 @@ ghost use Rattle.jv_yard.specs.BlockCalls.{GetsBlock, IsBlockParcel, PutsBlock};
 ghost use Rattle.jv_yard.specs.Starting.{IsStarted, ShelfRefuses};
 ghost use Rattle.jv_yard.specs.Staging.{staged_since};
 
-use crate::faults::{YardFault, depot_fault, shelf_fault};
+use crate::faults::{YardFault, yard_fault};
 use crate::finding::find_staged;
 use crate::note::{MAIN, Note, What};
 use crate::staging::ClientBlocks;
@@ -43,12 +43,14 @@ impl<D: Depot, H: Shelf> ObservedYard for Yard<D, H> {
 }
 
 impl<D: Depot, H: Shelf> Yard<D, H> {
-    /// A yard over a depot and a shelf, for a volume of this setting. It reads which blocks are staged: of each client's
-    /// those that have the name of a block of the volume. Its last moment is 0, and its log is empty.
+    /// A yard over a depot and a shelf, for a volume of this setting. It reads which blocks are staged: of each
+    /// client's those that have the name of a block of the volume. Its last moment is 0, and its log is empty. JuiceFS,
+    /// Cache: client write data cache.
     ///
     /// # Errors
     ///
-    /// [`YardFault::Shelf`] if the shelf failed, or [`YardFault::Memory`]. Both devices come back and hold what they held.
+    /// [`YardFault::Shelf`] if the shelf failed, or [`YardFault::Memory`]. Both devices come back and hold what they
+    /// held.
     pub fn start(
         alloc: Global,
         depot: D,
@@ -93,13 +95,13 @@ impl<D: Depot, H: Shelf> Yard<D, H> {
         self.last = now;
     }
 
-    /// The bytes of a block, or None if it isn't there: of a block that the client has staged as its shelf has it, of any
-    /// other as the depot has it.
+    /// The bytes of a block, or None if it isn't there: of a block that the client has staged as its shelf has it, of
+    /// any other as the depot has it. JuiceFS, Cache; Internals: blocks.
     ///
     /// # Errors
     ///
-    /// [`YardFault::Shelf`] or [`YardFault::Depot`] if that device failed, or [`YardFault::Memory`]. Nothing has changed but
-    /// the count of the device that failed.
+    /// [`YardFault::Shelf`] or [`YardFault::Depot`] if that device failed, or [`YardFault::Memory`]. Nothing has
+    /// changed but the count of the device that failed.
     pub fn get_block(&mut self, c: ClientId, name: &Name) -> Result<Option<Bytes>, YardFault>
         ensures { let seen = ⟦<Yard<D, H> as ObservedYard>⟧.seen in
             GetsBlock c name.now (seen self.old) (seen self.new) result }
@@ -107,23 +109,23 @@ impl<D: Depot, H: Shelf> Yard<D, H> {
         if self.is_staged(c, name) {
             match self.shelf.get(c, name) {
                 Ok(bytes) => Ok(bytes),
-                Err(down) => Err(shelf_fault(down)),
+                Err(down) => Err(yard_fault(YardFault::Shelf, down)),
             }
         } else {
             match self.depot.get(name) {
                 Ok(bytes) => Ok(bytes),
-                Err(down) => Err(depot_fault(down)),
+                Err(down) => Err(yard_fault(YardFault::Depot, down)),
             }
         }
     }
 
-    /// Publishes a client's block into the depot, and notes that it was put. The parcel is for a block of the volume, and
-    /// stands for as many bytes as its name says.
+    /// Publishes a client's block into the depot, and notes that it was put. The parcel is for a block of the volume,
+    /// and stands for as many bytes as its name says. JuiceFS, Internals: blocks.
     ///
     /// # Errors
     ///
-    /// [`YardFault::Depot`] if the depot failed, or [`YardFault::Memory`]. The parcel comes back, and nothing has changed but
-    /// the count of the depot where it failed.
+    /// [`YardFault::Depot`] if the depot failed, or [`YardFault::Memory`]. The parcel comes back, and nothing has
+    /// changed but the count of the depot where it failed.
     pub fn put_block(&mut self, c: ClientId, parcel: Parcel) -> Result<(), (Parcel, YardFault)>
         requires { let seen = ⟦<Yard<D, H> as ObservedYard>⟧.seen in
             IsBlockParcel (seen self.old).setting parcel }
@@ -147,7 +149,7 @@ impl<D: Depot, H: Shelf> Yard<D, H> {
                 push_in_room(&mut self.log, note);
                 Ok(())
             }
-            Err((parcel, down)) => Err((parcel, depot_fault(down))),
+            Err((parcel, down)) => Err((parcel, yard_fault(YardFault::Depot, down))),
         }
     }
 

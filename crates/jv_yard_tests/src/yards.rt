@@ -1,10 +1,12 @@
 ghost use Rattle.std.specs.Prelude.{◌≡◌, ◌<◌, ◌≤◌, IfOk};
 ghost use Rattle.jv_yard.specs.BlockCalls.{IsBlockParcel};
+ghost use Rattle.jv_model.specs.declared.limits.TheConstants.{LAST_CLIENT};
 
 use jv_model::{BlockId, ClientId, Moment, Name, Sequence, Setting, copied};
 use jv_outside::{
-    Depot, Fails, Load, MemDepot, MemShelf, Object, ObjectList, Parcel, Shelf, Staged, StagedList,
+    Depot, Load, MemDepot, MemShelf, Object, ObjectList, Parcel, Shelf, Staged, StagedList,
 };
+use jv_samples::{failing_at, setting};
 use jv_slices::block_name;
 use jv_yard::{Alone, MAIN, Note, What, Yard, YardDoor, YardFault};
 use std::alloc::{AllocError, Global};
@@ -15,31 +17,12 @@ const ID: u64 = 7;
 
 const SIZE: u32 = 3;
 
-fn setting(alloc: Global) -> Result<Setting, AllocError> {
-    Ok(Setting {
-        version: 1,
-        block: 65_536,
-        trash_days: 1,
-        capacity: 0,
-        inodes: 0,
-        hash: 0,
-        name: copied(alloc, b"test")?,
-        bucket: copied(alloc, b"/tmp")?,
-    })
-}
-
 fn name_of(alloc: Global, index: u32) -> Result<Name, AllocError> {
     block_name(alloc, &setting(alloc)?, ID, index, SIZE)
 }
 
-fn failing_at(alloc: Global, number: u64) -> Result<Fails, AllocError> {
-    let mut numbers = Sequence::new(alloc);
-    numbers.push(number)?;
-    Ok(Fails::At(numbers))
-}
-
 fn staged(alloc: Global, client: u8, name: Name, bytes: &[u8]) -> Result<Staged, AllocError>
-    requires { client ≤ 7 }
+    requires { client ≤ LAST_CLIENT }
 {
     Ok(Staged {
         client: ClientId(client),

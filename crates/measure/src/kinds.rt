@@ -1,7 +1,8 @@
 //! Rows of each kind, spelled and read again through a keeper in memory.
+use jv_model::tables::ROWS_VERSION;
 use jv_model::{
-    Bytes, Counters, Dead, Down, Dropped, Edge, List, Node, Rec, Row, RowFault, Sequence, Session,
-    Setting, SliceRow, copied,
+    Bytes, Counters, Dead, Down, Dropped, Edge, List, MIN_BLOCK, Node, Rec, Row, RowFault,
+    Sequence, Session, Setting, SliceRow, copied,
 };
 use jv_outside::{Batch, Fails, Keeper, MemKeeper};
 use jv_rows::{
@@ -34,8 +35,8 @@ const KINDS: [&str; 10] = [
 
 fn setting(alloc: Global) -> Result<Row, AllocError> {
     Ok(Row::OfSetting(Setting {
-        version: 1,
-        block: 65_536,
+        version: ROWS_VERSION,
+        block: MIN_BLOCK,
         trash_days: 1,
         capacity: 0,
         inodes: 0,

@@ -1,5 +1,6 @@
 //! Does one measure of the crates below at a size, so that a script can time it. The words are the measure's name, the
-//! size, and how often it is done where that isn't once. What is printed is a count.
+//! size, and how often it is done where that isn't once. What is printed is a count. A measure fails only out of memory
+//! or where a device in memory does.
 #![tactic(auto)]
 
 mod finds;

@@ -2,12 +2,12 @@
 ghost use Rattle.std.specs.Prelude.{◌≤◌, All, IfOk};
 ghost use Rattle.jv_model.specs.blocks.Slices.{IsRecord};
 
-use jv_model::{Down, List, Rec};
+use jv_model::{Down, List, Rec, WINDOW};
 use jv_slices::plan;
 use std::alloc::{AllocError, Global};
 
-/// The end of a window.
-const END: u32 = 67_108_864;
+/// The end of a window, as a number of 32 bits.
+const END: u32 = WINDOW as u32;
 
 /// How many records cover a position, about.
 const DEPTH: u32 = 2;

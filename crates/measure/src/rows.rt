@@ -1,10 +1,8 @@
 //! Rows through a keeper in memory.
-use jv_model::{Down, RowKey, Sequence, copied};
+use jv_model::tables::TABLE_OF_NODES;
+use jv_model::{Down, RowKey, Rows, Sequence, copied};
 use jv_outside::{Batch, Fails, Keeper, MemKeeper};
-use std::alloc::Global;
-
-/// The table of all rows.
-const TABLE: u8 = 2;
+use std::alloc::{AllocError, Global};
 
 /// The bytes of each row.
 const BYTES: [u8; 48] = [7; 48];
@@ -21,7 +19,7 @@ const PAGE: u32 = 256;
 /// The key of a row by its number. Keys of different numbers are different.
 fn key(alloc: Global, number: u32) -> RowKey {
     RowKey {
-        tab: TABLE,
+        tab: TABLE_OF_NODES,
         a: u64::from(number).wrapping_mul(SPREAD),
         b: Sequence::new(alloc),
     }
@@ -61,17 +59,28 @@ pub fn read(alloc: Global, count: u32) -> Result<u64, Down> {
     Ok(found)
 }
 
+/// Copies the key of each row of a page, and returns the last copy, which is `last` where there is no row.
+fn last_key(
+    alloc: Global,
+    page: &Rows,
+    last: Option<RowKey>,
+) -> Result<Option<RowKey>, AllocError> {
+    let mut last = last;
+    for (row, _) in page.as_slice() {
+        last = Some(row.copied(alloc)?);
+    }
+    Ok(last)
+}
+
 /// Writes `count` rows and scans them page by page. Returns the number of those that are there.
 pub fn scanned(alloc: Global, count: u32) -> Result<u64, Down> {
     let mut keeper = written_keeper(alloc, count)?;
     let mut found = 0u64;
     let mut last = None;
     for _ in 0..=count / PAGE {
-        let page = keeper.scan(TABLE, last.as_ref(), PAGE)?;
-        for (row, _) in page.as_slice() {
-            found = found.saturating_add(1);
-            last = Some(row.copied(alloc)?);
-        }
+        let page = keeper.scan(TABLE_OF_NODES, last.as_ref(), PAGE)?;
+        found = found.saturating_add(page.len() as u64);
+        last = last_key(alloc, &page, last)?;
     }
     Ok(found)
 }

@@ -1,5 +1,6 @@
 //! Lines of a script, and the text of answers.
-use jv_model::{Bytes, Down, Line, Op, Reply, Sequence, Setting, copied};
+use jv_model::tables::ROWS_VERSION;
+use jv_model::{Bytes, Down, Line, MIN_BLOCK, Op, Reply, Sequence, Setting, copied};
 use jv_script::{BadLine, print_reply, read_line};
 use std::alloc::{AllocError, Global};
 
@@ -203,8 +204,8 @@ pub fn parts_printed(alloc: Global, kind: &str, count: u32) -> Result<Option<u64
 
 fn setting(alloc: Global) -> Result<Setting, AllocError> {
     Ok(Setting {
-        version: 1,
-        block: 65_536,
+        version: ROWS_VERSION,
+        block: MIN_BLOCK,
         trash_days: 1,
         capacity: 0,
         inodes: 0,

@@ -8,12 +8,11 @@ ghost use Rattle.jv_cmd.specs.Words.{Answers, Parses, Reads, Refuses, asked, com
 
 use super::program::program;
 use super::refusal::{refused, told};
-use super::request::{
-    Command, MAX_BUFFER, MAX_CACHE, MAX_UPLOADS, MIN_BUFFER, SessionOptions, WordsFault,
-};
+use super::request::{Command, SessionOptions, WordsFault};
 use super::values::{block_size, number_within, place, seed};
-use crate::volume::VERSION;
 use clap::ArgMatches;
+use jv_model::options::{MAX_BUFFER, MAX_CACHE, MAX_UPLOADS, MIN_BUFFER};
+use jv_model::tables::ROWS_VERSION;
 use jv_model::{FULL_COUNT, MAX_CAPACITY, MAX_TRASH_DAYS, Setting, Text, copied};
 use jv_rows::allows_setting;
 use std::alloc::{AllocError, Global};
@@ -22,7 +21,7 @@ use std::alloc::{AllocError, Global};
 #[derive(Clone, Copy, Debug, PartialEq, Eq)]
 pub(crate) enum BadValue {
     /// A value is out of its range.
-    Off,
+    OutOfRange,
     /// Out of memory.
     Memory,
 }
@@ -35,10 +34,13 @@ impl From<AllocError> for BadValue {
     }
 }
 
-/// Reads the words after the program's name.
+/// Reads the words after the program's name. JuiceFS, Command Reference: `format`, `mount`.
 ///
-/// They are refused if and only if they ask for no command: where `clap` refuses them, also for a request for help, and
-/// where a value is out of its range. The text of a refusal ends with a line feed.
+/// # Errors
+///
+/// [`WordsFault::Refused`] with the text for standard error, which ends with a line feed, if and only if the words ask
+/// for no command: where `clap` refuses them, also for a request for help, and where a value is out of its range.
+/// [`WordsFault::Memory`] out of memory.
 pub fn read_words(alloc: Global, words: &[String]) -> Result<Command, WordsFault>
     ensures asked { Answers (asked (map string_bytes words.now)) result }
     ensures refusal { IfErr result (Refuses (map string_bytes words.now)) }
@@ -46,7 +48,7 @@ pub fn read_words(alloc: Global, words: &[String]) -> Result<Command, WordsFault
     let matches = parse(alloc, words)?;
     match command(alloc, &matches) {
         Ok(command) => Ok(command),
-        Err(BadValue::Off) => Err(refused(alloc)),
+        Err(BadValue::OutOfRange) => Err(refused(alloc)),
         Err(BadValue::Memory) => Err(WordsFault::Memory),
     }
 }
@@ -64,7 +66,7 @@ fn command(alloc: Global, matches: &ArgMatches<'_>) -> Result<Command, BadValue>
     ensures { Reads result (command_at (subcommand_rows_of matches.now)) }
 {
     let Some((name, values)) = matches.subcommand() else {
-        return Err(BadValue::Off);
+        return Err(BadValue::OutOfRange);
     };
     if name == "format" {
         return format(alloc, values);
@@ -72,7 +74,7 @@ fn command(alloc: Global, matches: &ArgMatches<'_>) -> Result<Command, BadValue>
     if name == "session" {
         return session(alloc, values);
     }
-    Err(BadValue::Off)
+    Err(BadValue::OutOfRange)
 }
 
 #[tactic(auto, unfolding(crate::specs::Words::format_in))]
@@ -99,7 +101,7 @@ fn setting(alloc: Global, values: &ArgMatches<'_>) -> Result<Setting, BadValue>
     if has_text(values, "storage", "file") && has_text(values, "compress", "none") {
         stored_setting(alloc, values)
     } else {
-        Err(BadValue::Off)
+        Err(BadValue::OutOfRange)
     }
 }
 
@@ -121,7 +123,7 @@ fn setting_fields(alloc: Global, values: &ArgMatches<'_>) -> Result<Setting, Bad
     let name = copied_in(alloc, values, "name")?;
     let bucket = copied_in(alloc, values, "bucket")?;
     Ok(Setting {
-        version: VERSION,
+        version: ROWS_VERSION,
         block,
         trash_days,
         capacity,
@@ -139,7 +141,7 @@ fn where_allowed(setting: Setting) -> Result<Setting, BadValue>
     if allows_setting(&setting) {
         Ok(setting)
     } else {
-        Err(BadValue::Off)
+        Err(BadValue::OutOfRange)
     }
 }
 
@@ -169,15 +171,15 @@ fn seed_in(values: &ArgMatches<'_>) -> Result<Option<u64>, BadValue>
     let Some(text) = text_in(values, "generate") else {
         return Ok(None);
     };
-    let seed = seed(text).ok_or(BadValue::Off)?;
+    let seed = seed(text).ok_or(BadValue::OutOfRange)?;
     Ok(Some(seed))
 }
 
 fn place_in(alloc: Global, values: &ArgMatches<'_>) -> Result<Text, BadValue>
     ensures { Reads result (value_in place_of (codes "url") (rows_of (found_of values.now))) }
 {
-    let url = text_in(values, "url").ok_or(BadValue::Off)?;
-    let path = place(url).ok_or(BadValue::Off)?;
+    let url = text_in(values, "url").ok_or(BadValue::OutOfRange)?;
+    let path = place(url).ok_or(BadValue::OutOfRange)?;
     Ok(copied(alloc, path)?)
 }
 
@@ -185,7 +187,7 @@ fn place_in(alloc: Global, values: &ArgMatches<'_>) -> Result<Text, BadValue>
 fn copied_in(alloc: Global, values: &ArgMatches<'_>, id: &str) -> Result<Text, BadValue>
     ensures { Reads result (first_of id.now (rows_of (found_of values.now))) }
 {
-    let text = text_in(values, id).ok_or(BadValue::Off)?;
+    let text = text_in(values, id).ok_or(BadValue::OutOfRange)?;
     Ok(copied(alloc, text)?)
 }
 
@@ -193,8 +195,8 @@ fn block_in(values: &ArgMatches<'_>) -> Result<u32, BadValue>
     ensures { Reads result (value_in block_size_of (codes "block-size")
         (rows_of (found_of values.now))) }
 {
-    let text = text_in(values, "block-size").ok_or(BadValue::Off)?;
-    block_size(text).ok_or(BadValue::Off)
+    let text = text_in(values, "block-size").ok_or(BadValue::OutOfRange)?;
+    block_size(text).ok_or(BadValue::OutOfRange)
 }
 
 fn number_in(values: &ArgMatches<'_>, id: &str, least: u64, most: u64) -> Result<u64, BadValue>
@@ -202,8 +204,8 @@ fn number_in(values: &ArgMatches<'_>, id: &str, least: u64, most: u64) -> Result
         (rows_of (found_of values.now))) }
     ensures range { IfOk result (λ n. n ≤ most) }
 {
-    let text = text_in(values, id).ok_or(BadValue::Off)?;
-    number_within(least, most, text).ok_or(BadValue::Off)
+    let text = text_in(values, id).ok_or(BadValue::OutOfRange)?;
+    number_within(least, most, text).ok_or(BadValue::OutOfRange)
 }
 
 /// Whether the value of this name is this text.

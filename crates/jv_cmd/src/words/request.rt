@@ -24,26 +24,14 @@ pub enum Command {
     },
 }
 
-/// The largest cache of a client, in MiB.
-pub const MAX_CACHE: u64 = 256;
-
-/// The least bound on pending bytes, in MiB.
-pub const MIN_BUFFER: u64 = 8;
-
-/// The greatest bound on pending bytes, in MiB.
-pub const MAX_BUFFER: u64 = 256;
-
-/// The most uploads at once.
-pub const MAX_UPLOADS: u64 = 64;
-
 /// The options of a session.
 #[derive(Debug, Drop, PartialEq, Eq)]
 pub struct SessionOptions {
-    /// Each client's cache in MiB, at most [`MAX_CACHE`]; 0 keeps no block.
+    /// Each client's cache in MiB, at most [`jv_model::options::MAX_CACHE`]; 0 keeps no block.
     pub cache: u64,
-    /// The most pending bytes in MiB, from [`MIN_BUFFER`] to [`MAX_BUFFER`].
+    /// The most pending bytes in MiB, from [`jv_model::options::MIN_BUFFER`] to [`jv_model::options::MAX_BUFFER`].
     pub buffer: u64,
-    /// Uploads at once, at most [`MAX_UPLOADS`]; with 0 there are none but those that a script line asks for.
+    /// Uploads at once, at most [`jv_model::options::MAX_UPLOADS`]; with 0 there are none but those that a script line asks for.
     pub uploads: u32,
     /// Written blocks are staged first, and uploaded later.
     pub writeback: bool,

@@ -5,6 +5,7 @@ ghost use Rattle.jv_model.specs.script.Spelling.{is_numeral, is_decimal_digit, n
 ghost use Rattle.jv_model.specs.rows.RowGrammar.{is_block};
 ghost use Rattle.jv_cmd.specs.Values.{number_of_digits, number_within, digits_of, unit_of, block_size_of, place_of};
 
+use jv_model::options::MAX_DIGITS;
 use jv_model::{KIB, MAX_BLOCK, MIB};
 use jv_rows::allows_block;
 use jv_script::is_numeral;
@@ -12,12 +13,12 @@ use jv_script::is_numeral;
 /// What comes before the path in the URL of a volume.
 const SCHEME: &[u8] = b"sqlite3://";
 
-/// The text of a number that is at most 10^19 - 1: decimal digits without a leading zero.
+/// The text of a number of at most [`MAX_DIGITS`] digits: decimal digits without a leading zero.
 #[tactic(auto, unfolding(crate::specs::Values::number_of_digits))]
 fn number(text: &[u8]) -> Option<u64>
     ensures { result ≡ number_of_digits text.now }
 {
-    if !is_numeral(text) || text.len() > 19 {
+    if !is_numeral(text) || text.len() > MAX_DIGITS {
         return None;
     }
     let mut number: u64 = 0;

@@ -29,6 +29,10 @@ unfoldable pub block_name_of : Setting → ℕ → ℕ → ℕ → List ℕ
 block_name_of setting id index size = setting.name ++ codes "/chunks/" ++ slice_folder setting.hash id ++ codes "/"
     ++ decimal id ++ codes "_" ++ decimal index ++ codes "_" ++ decimal size
 
+-- the name of a block of the volume
+abbrev pub name_in : Setting → BlockId → List ℕ
+name_in setting block = block_name_of setting block.id block.index block.size
+
 -- what a block may be, where blocks have this length at most: a slice has at most 1,024 blocks
 pub record IsBlock (block_size : ℕ) (block : BlockId) : Type 0 where
   pub id : 1 ≤ block.id
@@ -40,4 +44,4 @@ pub record IsBlock (block_size : ℕ) (block : BlockId) : Type 0 where
 -- a text is the name of a block of a volume
 pub record IsBlockName (setting : Setting) (block : BlockId) (text : List ℕ) : Type 0 where
   pub is_block : IsBlock setting.block block
-  pub spelled : text ≡ block_name_of setting block.id block.index block.size
+  pub spelled : text ≡ name_in setting block

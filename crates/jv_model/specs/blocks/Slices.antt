@@ -1,5 +1,5 @@
 -- Which byte of which slice a position of a window shows, what a reader sees of a window, and which blocks that needs.
-use Rattle.std.specs.Prelude.{◌≡◌, ◌≢◌, ℕ, ◌+◌, ◌-◌, ◌*◌, ◌/◌, ◌<◌, ◌≤◌, Bool, ◌&&◌, ◌==◌, nat_lt, nat_le, if◌then◌else◌, List, [], ◌∷◌, ◌++◌, map, reverse, find, fold, min, Option, None, Some, IsTrue}
+use Rattle.std.specs.Prelude.{◌≡◌, ◌≢◌, ℕ, ◌+◌, ◌-◌, ◌*◌, ◌/◌, ◌<◌, ◌≤◌, Bool, ◌&&◌, ◌==◌, nat_le, if◌then◌else◌, List, [], ◌∷◌, ◌++◌, map, reverse, find, fold, min, Option, None, Some, IsTrue}
 use Rattle.std.specs.List.{flat_map, list_any, range_with_len}
 use Rattle.jv_model.specs.declared.limits.TheConstants.{WINDOW}
 use Rattle.jv_model.specs.declared.slice.Rec.{Rec}
@@ -7,6 +7,7 @@ use Rattle.jv_model.specs.declared.slice.Spot.{Spot}
 use Rattle.jv_model.specs.declared.slice.Spot.TheVariants.{Zero, Slice}
 use Rattle.jv_model.specs.declared.slice.Piece.{Piece}
 use Rattle.jv_model.specs.declared.slice.BlockId.{BlockId}
+use Rattle.jv_model.specs.Ranges.{in_range}
 
 -- a record shows a part of a slice, or nothing, which reads zero
 abbrev pub is_part : Rec → Bool
@@ -20,16 +21,20 @@ abbrev pub IsRecord : Rec → Type 0
 IsRecord r = IsTrue (is_record r)
 
 abbrev pub covers : ℕ → Rec → Bool
-covers position r = nat_le r.pos position && nat_lt position (r.pos + r.len)
+covers position r = in_range r.pos r.len position
 
 -- the record that a position shows: the last one of the list that covers it
 abbrev pub visible : List Rec → ℕ → Option Rec
 visible list position = find (covers position) (reverse list)
 
+-- the place that a record shows at a distance from its first position
+abbrev pub shown : Rec → ℕ → Spot
+shown r distance = (if r.id == 0 then Zero else Slice r.id r.size (r.off + distance))
+
 -- where the byte lies that a record has for a position: a record without slice, and no record, read zero
 abbrev pub place_by : Option Rec → ℕ → Spot
 place_by None position = Zero
-place_by (Some r) position = (if r.id == 0 then Zero else Slice r.id r.size (r.off + (position - r.pos)))
+place_by (Some r) position = shown r (position - r.pos)
 
 -- the stored place of a position of a window
 unfoldable pub stored_place : List Rec → ℕ → Spot

@@ -1,13 +1,13 @@
 -- A client as the model has it: its session, its open files, what it saw of them, what it wrote and didn't commit, and
 -- what it is doing.
 use Rattle.std.specs.Prelude.{ℕ, ◌+◌, ◌-◌, Bool, true, false, ◌&&◌, not, ◌==◌, nat_le, if◌then◌else◌, List, [], ◌∷◌, ◌++◌, length, filter, slice_get, slice_set, unwrap_or, Option, None, Some}
-use Rattle.std.specs.List.{list_any}
 use Rattle.jv_model.specs.declared.op.Op.{Op}
 use Rattle.jv_model.specs.declared.op.Reply.{Reply}
 use Rattle.jv_model.specs.declared.profile.Does.{Does}
 use Rattle.jv_model.specs.tree.Tree.{Content}
 use Rattle.jv_model.specs.client.Pending.{PendingByte}
 use Rattle.jv_model.specs.client.Origins.{Origin, Owed}
+use Rattle.jv_model.specs.Lists.{is_among}
 
 -- an open file: its inode, and the number of the entry that opened it
 pub record OpenFile : Type 0 where
@@ -38,16 +38,16 @@ pub record Compaction : Type 0 where
 
 -- How far a cleaning is: first sessions, then the trash, then files, then slices. Once it asked for a slice it has found none,
 -- or removes the blocks of one that it found, one by one.
-pub data Part : Type 0 where
-  Sessions : Part
-  Trash : Part
-  Files : Part
-  Slices : Part
-  Blocks : Part  -- a slice was asked for
-  MoreBlocks : Part  -- a block of it was removed
+pub data CleaningPart : Type 0 where
+  Sessions : CleaningPart
+  Trash : CleaningPart
+  Files : CleaningPart
+  Slices : CleaningPart
+  Blocks : CleaningPart  -- a slice was asked for
+  MoreBlocks : CleaningPart  -- a block of it was removed
 
 pub record Cleaning : Type 0 where
-  pub part : Part
+  pub part : CleaningPart
   pub sessions : ℕ
   pub trash : ℕ  -- entries of the trash, hour directories not counted
   pub hours : ℕ
@@ -63,9 +63,9 @@ pub data Stage : Type 0 where
   Compacting : Compaction → Stage
   Cleans : Cleaning → Stage
   Requesting : (requests : ℕ) → Stage  -- requests of a collection or an upload
-  Replying : Reply → Stage  -- its answer is settled, in this same step
+  Replying : Reply → Stage  -- its answer is decided, and comes in this same step
 
--- the answer is settled, and comes in the same step
+-- the answer is decided, and comes in the same step
 abbrev pub is_replying : Stage → Bool
 is_replying (Replying reply) = true
 is_replying _ = false
@@ -135,10 +135,6 @@ abbrev pub held_inodes : List (Option OpenFile) → List ℕ
 held_inodes [] = []
 held_inodes (None ∷ files) = held_inodes files
 held_inodes (Some file ∷ files) = file.inode ∷ held_inodes files
-
--- whether a number stands in a list
-abbrev pub is_among : ℕ → List ℕ → Bool
-is_among inode inodes = list_any (λ i. i == inode) inodes
 
 -- Whether a handle is the client's last one on a file that it removed itself while it had it open.
 abbrev pub is_last_of_removed : ModelClient → ℕ → Bool

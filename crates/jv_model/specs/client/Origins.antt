@@ -1,6 +1,7 @@
 -- Where the bytes of files come from, which says whose blocks a reader may still miss.
 use Rattle.std.specs.Prelude.{ℕ, ◌+◌, ◌-◌, Bool, ◌&&◌, ◌||◌, not, ◌==◌, nat_le, nat_lt, if◌then◌else◌, List, Option, None, Some}
 use Rattle.std.specs.List.{list_any}
+use Rattle.jv_model.specs.Ranges.{in_range}
 
 -- where a position's byte comes from
 pub data Origin : Type 0 where
@@ -20,10 +21,6 @@ Marks = ℕ → ℕ → Mark
 
 abbrev pub first_marks : Marks
 first_marks = λ inode position. record { origin = Start inode position; stamp = 0 }
-
--- whether a position stands in a range of `len` from a place on
-abbrev pub in_range : ℕ → ℕ → ℕ → Bool
-in_range from len position = nat_le from position && nat_lt position (from + len)
 
 abbrev pub marked : Origin → ℕ → Mark
 marked origin entry = record { origin = origin; stamp = entry }

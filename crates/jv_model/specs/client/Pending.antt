@@ -15,10 +15,6 @@ pub record Segment : Type 0 where
   pub from : ℕ
   pub len : ℕ
 
--- the positions of a window
-abbrev pub window_size : ℕ
-window_size = WINDOW
-
 -- whether a byte stands at a place
 abbrev pub stands_at : ℕ → ℕ → PendingByte → Bool
 stands_at inode position b = (b.inode == inode) && (b.position == position)
@@ -75,10 +71,10 @@ pending_of_others inode = filter (λ b. not (b.inode == inode))
 abbrev pub run_length : ℕ → ℕ → List PendingByte → ℕ
 run_length inode position [] = 0
 run_length inode position (b ∷ bs) = (if stands_at inode position b
-    then (if (position + 1) % window_size == 0 then 1 else 1 + run_length inode (position + 1) bs)
+    then (if (position + 1) % WINDOW == 0 then 1 else 1 + run_length inode (position + 1) bs)
     else 0)
 
--- the least maximal run of pending positions inside a window, which a flush commits first
+-- the least segment: pending positions in a row, as many as there are inside one window; a flush commits it first
 abbrev pub first_segment : List PendingByte → Option Segment
 first_segment [] = None
 first_segment (b ∷ bs) = Some (record { inode = b.inode; from = b.position; len = run_length b.inode b.position (b ∷ bs) })

@@ -10,6 +10,7 @@ use Rattle.jv_model.specs.declared.profile.Flushes.TheVariants.{Nothing, ItsFile
 use Rattle.jv_model.specs.declared.profile.Answer.TheVariants.{Done, Count, NoData, CacheStats}
 use Rattle.jv_model.specs.declared.profile.Does.{Does}
 use Rattle.jv_model.specs.declared.profile.Does.TheVariants.{Answers, Mounts, Transacts, Releases, Reads, Truncates, Copies, Compacts, Cleans, Collects, Uploads}
+use Rattle.jv_model.specs.Lists.{first_number}
 
 -- one metadata transaction of a mounted client, on paths or on nothing
 abbrev pub transaction : Profile
@@ -90,10 +91,5 @@ handle_list handles.None = []
 handle_list (handles.One handle) = handle ∷ []
 handle_list (handles.Two first second) = first ∷ second ∷ []
 
--- the first handle, 0 where there is none
-abbrev first_handle : List ℕ → ℕ
-first_handle [] = 0
-first_handle (handle ∷ handles) = handle
-
 abbrev pub handle_of : Op → ℕ
-handle_of o = first_handle (handle_list (profile o).handles)
+handle_of o = first_number (handle_list (profile o).handles)

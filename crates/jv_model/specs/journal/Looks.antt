@@ -1,14 +1,14 @@
 -- Entries by their numbers, and which of them are fresh looks at a file.
-use Rattle.std.specs.Prelude.{◌≡◌, ℕ, zero, suc, ◌<◌, Bool, false, ◌==◌, IsSomeAnd, IfSome, List, slice_get, Option, None}
+use Rattle.std.specs.Prelude.{◌≡◌, ℕ, ◌<◌, Bool, false, ◌==◌, IsSomeAnd, IfSome, List, Option}
 use Rattle.jv_model.specs.declared.act.Act.{Act}
 use Rattle.jv_model.specs.declared.act.ActKind.{ActKind}
 use Rattle.jv_model.specs.declared.act.ActKind.TheVariants.{Look, Commit, Truncated, Copied}
 use Rattle.jv_model.specs.client.ModelClient.{OpenFile}
+use Rattle.jv_model.specs.Lists.{numbered}
 
 -- the entry with a number, the first one being 1
 abbrev pub entry_at : List Act → ℕ → Option Act
-entry_at journal zero = None
-entry_at journal (suc index) = slice_get journal index
+entry_at journal number = numbered journal number
 
 -- whether an entry changes a file's bytes: it commits to it, cuts or lengthens it, or copies into it
 abbrev pub changes_file : ℕ → ActKind → Bool

@@ -1,6 +1,6 @@
 -- A run so far: its lines, what the present one may still have, what is printed, and the clock, beside the state that its
 -- entries have reached. A journal is folded over its entries; before an entry the lines up to its own are begun.
-use Rattle.std.specs.Prelude.{ℕ, zero, suc, ◌+◌, ◌-◌, Bool, true, false, ◌&&◌, not, if◌then◌else◌, List, [], ◌∷◌, ◌++◌, length, is_some, Option, None, Some, codes, decimal}
+use Rattle.std.specs.Prelude.{ℕ, zero, suc, ◌+◌, ◌-◌, Bool, true, false, ◌&&◌, not, if◌then◌else◌, List, [], ◌∷◌, ◌++◌, length, is_some, Option, None, Some, codes, decimal, unwrap_or}
 use Rattle.jv_model.specs.declared.basics.Limits.{Limits}
 use Rattle.jv_model.specs.declared.act.Act.{Act}
 use Rattle.jv_model.specs.declared.act.ActKind.{ActKind}
@@ -24,7 +24,7 @@ use Rattle.jv_model.specs.client.Profile.{handle_of}
 use Rattle.jv_model.specs.journal.State.{State, state_at_start, set_client, effect}
 use Rattle.jv_model.specs.journal.Reading.{reading}
 use Rattle.jv_model.specs.journal.Steps.{Start, asked_of, file_in_use, begins_step, must_answer}
-use Rattle.jv_model.specs.script.ReplyText.{printed_line}
+use Rattle.jv_model.specs.script.ReplyText.{printed_line, with_feed}
 
 -- what a run begins with, and what it ends with
 pub record Setup : Type 0 where
@@ -77,9 +77,6 @@ at_start run = record {
 }
 
 -- lines
-
-abbrev pub with_feed : List ℕ → List ℕ
-with_feed text = text ++ 10 ∷ []
 
 abbrev ends_now : Option Doing → Bool
 ends_now None = false
@@ -156,15 +153,11 @@ begun_to line p = begun_by (line - p.line) p
 
 -- answers
 
-abbrev pub or_no_bytes : Option (List ℕ) → List ℕ
-or_no_bytes None = []
-or_no_bytes (Some bytes) = bytes
-
 -- what a read returns that cites these looks
 abbrev pub read_in : ModelClient → Doing → ℕ → ℕ → List ℕ
 read_in c d first second = elim (file_in_use c d) [
   | None ↦ []
-  | Some file ↦ or_no_bytes (reading c.views (handle_of d.op) file (asked_of d.does) first second)
+  | Some file ↦ unwrap_or (reading c.views (handle_of d.op) file (asked_of d.does) first second) []
 ]
 
 abbrev uploaded_of : ℕ → ℕ → ℕ → ℕ → Option BlockId
@@ -200,7 +193,7 @@ abbrev pub settled_reply : Stage → Option Reply
 settled_reply (Replying r) = Some r
 settled_reply _ = None
 
--- the reply that an answer stands for: the one that is settled, or the one of the answer's numbers
+-- the reply that an answer stands for: the one that is decided, or the one of the answer's numbers
 abbrev pub reply_of : ModelClient → Doing → Told → Reply
 reply_of c doing told = elim (settled_reply doing.stage) [ None ↦ told_reply c doing told | Some settled ↦ settled ]
 
@@ -246,7 +239,7 @@ requested (CrashEntry client) = CrashEntry client
 requested (TickEntry by) = TickEntry by
 requested (DrainEntries client) = DrainEntries client
 
-abbrev says_more : Due → List ℕ → List ℕ
+abbrev pub says_more : Due → List ℕ → List ℕ
 says_more (OneStep client) said = more_text
 says_more _ said = said
 

@@ -1,8 +1,9 @@
 -- What a read returns by the looks that it cites (JuiceFS, "Cache": consistency is close-to-open).
-use Rattle.std.specs.Prelude.{ℕ, zero, suc, ◌+◌, ◌-◌, ◌*◌, ◌/◌, min, Bool, true, false, ◌&&◌, ◌==◌, nat_lt, nat_le, if◌then◌else◌, List, [], ◌∷◌, ◌++◌, length, Option, None, Some}
+use Rattle.std.specs.Prelude.{ℕ, zero, suc, ◌+◌, ◌-◌, ◌*◌, ◌/◌, min, Bool, ◌&&◌, ◌==◌, nat_lt, nat_le, if◌then◌else◌, List, [], ◌∷◌, ◌++◌, length, Option, None, Some, find}
 use Rattle.jv_model.specs.declared.limits.TheConstants.{FILE_END, WINDOW}
 use Rattle.jv_model.specs.tree.Tree.{Content}
 use Rattle.jv_model.specs.client.ModelClient.{OpenFile, View}
+use Rattle.jv_model.specs.Optional.{provided}
 
 -- a number of bytes from a position on
 abbrev pub bytes_from : (ℕ → ℕ) → ℕ → ℕ → List ℕ
@@ -38,17 +39,13 @@ asked_parts offset len =
 abbrev pub is_fresh : ℕ → OpenFile → ℕ → View → Bool
 is_fresh handle file window view = (view.handle == handle) && (view.inode == file.inode) && (view.window == window) && nat_lt file.opened view.entry
 
-abbrev pub first_that : {X : Type 0} → (X → Bool) → List X → Option X
-first_that test [] = None
-first_that test (x ∷ xs) = (if test x then Some x else first_that test xs)
-
 -- the latest fresh view of a window
 abbrev pub fresh_view : List View → ℕ → OpenFile → ℕ → Option View
-fresh_view views handle file window = first_that (is_fresh handle file window) views
+fresh_view views handle file window = find (is_fresh handle file window) views
 
 -- the fresh view that was taken at an entry
 abbrev pub cited_view : List View → ℕ → OpenFile → ℕ → ℕ → Option View
-cited_view views handle file window entry = first_that (λ view. (view.entry == entry) && is_fresh handle file window view) views
+cited_view views handle file window entry = find (λ view. (view.entry == entry) && is_fresh handle file window view) views
 
 -- what a part shows by the view taken at an entry, where that is fresh
 abbrev pub part_read : List View → ℕ → OpenFile → ℕ → Asked → Option (List ℕ)
@@ -61,10 +58,6 @@ part_read views handle file entry asked = elim (cited_view views handle file ask
 abbrev pub is_full : Asked → List ℕ → Bool
 is_full asked bytes = length bytes == asked.to - asked.from
 
-abbrev pub only_if : Bool → List ℕ → Option (List ℕ)
-only_if true bytes = Some bytes
-only_if false bytes = None
-
 abbrev pub joined : List ℕ → Option (List ℕ) → Option (List ℕ)
 joined bytes None = None
 joined bytes (Some more) = Some (bytes ++ more)
@@ -72,12 +65,12 @@ joined bytes (Some more) = Some (bytes ++ more)
 -- the second window is read only where the first one returned all that was asked of it
 abbrev pub read_on : List View → ℕ → OpenFile → ℕ → Asked → List Asked → Option (List ℕ) → Option (List ℕ)
 read_on views handle file second asked others None = None
-read_on views handle file second asked [] (Some bytes) = only_if (second == 0) bytes
-read_on views handle file second asked (other ∷ others) (Some bytes) = (if is_full asked bytes then joined bytes (part_read views handle file second other) else only_if (second == 0) bytes)
+read_on views handle file second asked [] (Some bytes) = provided (second == 0) bytes
+read_on views handle file second asked (other ∷ others) (Some bytes) = (if is_full asked bytes then joined bytes (part_read views handle file second other) else provided (second == 0) bytes)
 
 -- what a read of these parts returns, citing one look for each part that was read and 0 for each that wasn't
 abbrev pub reading : List View → ℕ → OpenFile → List Asked → ℕ → ℕ → Option (List ℕ)
-reading views handle file [] first second = only_if ((first == 0) && (second == 0)) []
+reading views handle file [] first second = provided ((first == 0) && (second == 0)) []
 reading views handle file (asked ∷ others) first second = read_on views handle file second asked others (part_read views handle file first asked)
 
 -- whether the present view of a part shows all that is asked of it

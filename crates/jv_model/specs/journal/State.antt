@@ -1,6 +1,7 @@
 -- What a journal has reached, and what one more entry does to it: the tree, the clients, and whose blocks are owed. It
 -- knows no lines, clock or text.
-use Rattle.std.specs.Prelude.{ℕ, ◌+◌, ◌%◌, Bool, true, false, ◌&&◌, ◌||◌, not, ◌==◌, nat_lt, if◌then◌else◌, List, [], ◌∷◌, ◌++◌, map, filter, is_some, Option, None, Some}
+use Rattle.std.specs.Prelude.{ℕ, ◌+◌, ◌%◌, Bool, true, false, ◌&&◌, ◌||◌, not, ◌==◌, nat_lt, if◌then◌else◌, List, [], ◌∷◌, ◌++◌, map, filter, is_some, Option, None, Some, unwrap_or}
+use Rattle.jv_model.specs.declared.tables.TheConstants.{TABLE_OF_DROPPED}
 use Rattle.jv_model.specs.declared.limits.TheConstants.{TRASH_ROOT}
 use Rattle.jv_model.specs.declared.act.Act.{Act}
 use Rattle.jv_model.specs.declared.act.ActKind.{ActKind}
@@ -29,20 +30,20 @@ use Rattle.jv_model.specs.tree.Trash.{purged}
 use Rattle.jv_model.specs.client.Pending.{written, without_range, bytes_in_range, pending_of_others}
 use Rattle.jv_model.specs.client.Origins.{Marks, Owed, first_marks, marks_committed, marks_truncated, marks_copied, marks_compacted}
 use Rattle.jv_model.specs.client.Profile.{profile, handle_list, handle_of}
-use Rattle.jv_model.specs.client.ModelClient.{ModelClient, OpenFile, View, Doing, Stage, Part, Sessions, Trash, Files, Slices, Blocks, MoreBlocks, Cleaning, Working, Reading, Missing, LookedAgain, Compacting, Cleans, Requesting, Replying, unmounted, session_of, with_stage, with_file, file_of, free_handle, inode_at, held_inodes, is_last_of_removed, views_without}
+use Rattle.jv_model.specs.client.ModelClient.{ModelClient, OpenFile, View, Doing, Stage, CleaningPart, Sessions, Trash, Files, Slices, Blocks, MoreBlocks, Cleaning, Working, Reading, Missing, LookedAgain, Compacting, Cleans, Requesting, Replying, unmounted, session_of, with_stage, with_file, file_of, free_handle, inode_at, held_inodes, is_last_of_removed, views_without}
 use Rattle.jv_model.specs.client.Submission.{is_flushed}
 use Rattle.jv_model.specs.journal.Reading.{Asked, window_start, asked_parts, fresh_view}
 
 -- what an entry did to a file, by whomever
-pub data ChangeKind : Type 0 where
-  Written : ChangeKind  -- a commit, or a copy into it
-  Replaced : ChangeKind  -- a truncation, or a compaction: blocks that it had may go
-  Ended : ChangeKind  -- its node went
+pub data FileChangeKind : Type 0 where
+  Written : FileChangeKind  -- a commit, or a copy into it
+  Replaced : FileChangeKind  -- a truncation, or a compaction: blocks that it had may go
+  Ended : FileChangeKind  -- its node went
 
-pub record Change : Type 0 where
+pub record FileChange : Type 0 where
   pub entry : ℕ
   pub inode : ℕ
-  pub kind : ChangeKind
+  pub kind : FileChangeKind
 
 pub record State : Type 0 where
   pub count : ℕ  -- how many entries there are
@@ -50,7 +51,7 @@ pub record State : Type 0 where
   pub clients : ℕ → ModelClient
   pub marks : Marks  -- where each byte comes from
   pub owed : List Owed  -- commits of which blocks are staged
-  pub changes : List Change  -- the latest first
+  pub changes : List FileChange  -- the latest first
   pub swept : ℕ  -- the last request of a cleaning that left the tree, 0 for none
   pub copied : ℕ  -- positions copied so far
   pub dropped : List ℕ  -- inodes whose rows were cleaned
@@ -139,7 +140,7 @@ given entry does (NewSession sid) c = record c { session = Some sid; writeback =
 given entry does (NewHandle handle inode) c = record c { handles = with_file handle (Some (record { inode = inode; opened = entry })) c.handles }
 given entry does Nothing c = c
 
--- the client after its transaction, whose reply is settled
+-- the client after its transaction, whose reply is decided
 abbrev pub replied : ℕ → Does → Reply → ModelClient → ModelClient
 replied entry does answer c = with_stage (Replying answer) (given entry does (gift_of answer) c)
 
@@ -147,7 +148,7 @@ replied entry does answer c = with_stage (Replying answer) (given entry does (gi
 abbrev pub gone_between : Tree → Tree → List ℕ
 gone_between before after = map (λ node. node.0) (filter (λ node. not (is_some (node_at after node.0))) before.nodes.list)
 
-abbrev pub changed_at : ℕ → ChangeKind → ℕ → Change
+abbrev pub changed_at : ℕ → FileChangeKind → ℕ → FileChange
 changed_at entry kind inode = record { entry = entry; inode = inode; kind = kind }
 
 -- another tree, with the ends of the files that are in it no more
@@ -178,14 +179,14 @@ session_gone c = reply.Refused (Stale (Session (session_of c)))
 abbrev pub has_session : Tree → ModelClient → Bool
 has_session t c = is_some (get t.sessions (session_of c))
 
--- A request of the flush: the first takes a number for the slice, in a transaction that wants the session; the others
+-- A request of the flush: the first takes a number for the slice, in a transaction that needs the session; the others
 -- bring the blocks, from the moment of the second on.
 abbrev pub flushing_on : State → ModelClient → ℕ → ℕ → ℕ → Stage
 flushing_on s c now quiets started = (if quiets == 0 then if has_session s.tree c then Working 1 0 else Replying (session_gone c)
     else if quiets == 1 then Working 2 now
     else Working (quiets + 1) started)
 
-abbrev pub next_part : Part → Part
+abbrev pub next_part : CleaningPart → CleaningPart
 next_part Sessions = Trash
 next_part Trash = Files
 next_part Files = Slices
@@ -194,7 +195,7 @@ next_part Blocks = MoreBlocks
 next_part MoreBlocks = MoreBlocks
 
 -- no slice may have been left
-abbrev pub is_last : Part → Bool
+abbrev pub is_last : CleaningPart → Bool
 is_last Sessions = false
 is_last Trash = false
 is_last Files = false
@@ -203,7 +204,7 @@ is_last Blocks = true
 is_last MoreBlocks = false
 
 -- a request of this part removes a block
-abbrev pub removes_block : Part → Bool
+abbrev pub removes_block : CleaningPart → Bool
 removes_block Sessions = false
 removes_block Trash = false
 removes_block Files = false
@@ -211,7 +212,7 @@ removes_block Slices = false
 removes_block Blocks = true
 removes_block MoreBlocks = true
 
--- A request of a cleaning that found nothing more in its part, or a slice, or that removed a block, which wants no session.
+-- A request of a cleaning that found nothing more in its part, or a slice, or that removed a block, which needs no session.
 abbrev pub cleaning_on : State → ModelClient → Cleaning → Stage
 cleaning_on s c k = (if has_session s.tree c || removes_block k.part then Cleans (record k { part = next_part k.part }) else Replying (session_gone c))
 
@@ -219,7 +220,7 @@ abbrev pub is_collecting : Does → Bool
 is_collecting (Collects delete) = true
 is_collecting _ = false
 
--- A collection lists a page of names and judges them in a transaction, which wants the session. Where it removes none, every
+-- A collection lists a page of names and judges them in a transaction, which needs the session. Where it removes none, every
 -- second request is such a transaction; else the second one is, and others stand between removals.
 abbrev pub judges : Does → ℕ → Bool
 judges (Collects true) requests = requests == 1
@@ -239,11 +240,11 @@ look_refusal t c inode = (if not (has_session t c) then Some (session_gone c)
     else if is_some (node_at t inode) then None
     else Some (reply.Refused (Stale (Node inode))))
 
--- a look that is refused settles the answer
+-- a look that is refused decides the answer
 abbrev pub refused_look : State → ModelClient → ℕ → Stage → Stage
 refused_look s c inode stage = elim (look_refusal s.tree c inode) [ None ↦ stage | Some answer ↦ Replying answer ]
 
-abbrev sees : ModelClient → ℕ → Option OpenFile → List Asked → Bool
+abbrev pub sees : ModelClient → ℕ → Option OpenFile → List Asked → Bool
 sees c handle None parts = false
 sees c handle (Some file) [] = false
 sees c handle (Some file) (asked ∷ others) = is_some (fresh_view c.views handle file asked.window)
@@ -293,8 +294,7 @@ after_quiet s client now d =
 -- looks
 
 abbrev pub or_empty : Option Content → Content
-or_empty None = empty_content
-or_empty (Some content) = content
+or_empty content = unwrap_or content empty_content
 
 -- the file's window as it is now
 abbrev pub view_now : State → ℕ → ℕ → ℕ → View
@@ -327,12 +327,16 @@ abbrev pub is_compaction : Does → Bool
 is_compaction Compacts = true
 is_compaction _ = false
 
+-- the client once its operation looked at a window of a file
+abbrev pub with_look : State → Doing → (inode window : ℕ) → ModelClient → ModelClient
+with_look s d inode window c = record c { views = view_now s (handle_of d.op) inode window ∷ c.views }
+
 abbrev pub after_look : State → ℕ → ℕ → ℕ → Doing → State
 after_look s client inode window d =
     let c = s.clients client in
     set_client s client (if is_compaction d.does
     then with_stage (compaction_looked (view_now s 0 inode window) d.stage) c
-    else with_stage (looked d.stage) (record c { views = view_now s (handle_of d.op) inode window ∷ c.views }))
+    else with_stage (looked d.stage) (with_look s d inode window c))
 
 -- a block that a window shows wasn't found
 abbrev pub missed : ℕ → List Owed → Stage → Stage
@@ -376,10 +380,21 @@ committed_stage c d = (if is_flushed d.flush c.pending then elim (answer_then c 
 abbrev owed_by : ℕ → ℕ → ℕ → List Owed
 owed_by entry client staged = (if staged == 0 then [] else record { commit = entry; client = client } ∷ [])
 
+-- the client once it changed a file
+abbrev pub without_views : ℕ → ModelClient → ModelClient
+without_views inode c = record c { views = views_without inode c.views }
+
+-- the client without the pending bytes of a range of a file, and without its views of that file
+abbrev pub without_committed : (inode from len : ℕ) → ModelClient → ModelClient
+without_committed inode from len c = record c {
+  pending = without_range inode from len c.pending;
+  views = views_without inode c.views;
+}
+
 abbrev pub after_commit : State → ℕ → ℕ → ℕ → ℕ → ℕ → ℕ → Doing → State
 after_commit s client now inode from len staged d =
     let c = s.clients client in
-    let rest = record c { pending = without_range inode from len c.pending; views = views_without inode c.views } in
+    let rest = without_committed inode from len c in
     set_client (record s {
       tree = committed s.tree now inode from (bytes_in_range inode from len c.pending);
       marks = marks_committed (next_entry s) inode from len s.marks;
@@ -394,7 +409,7 @@ after_truncation s client now inode len d =
       tree = truncated s.tree now inode len;
       marks = marks_truncated (next_entry s) inode len s.marks;
       changes = changed_at (next_entry s) Replaced inode ∷ s.changes;
-    }) client (with_stage (Replying reply.Done) (record c { views = views_without inode c.views }))
+    }) client (with_stage (Replying reply.Done) (without_views inode c))
 
 abbrev pub after_copy : State → ℕ → ℕ → ℕ → ℕ → ℕ → ℕ → ℕ → Doing → State
 after_copy s client now source from target to len d =
@@ -404,7 +419,7 @@ after_copy s client now source from target to len d =
       marks = marks_copied (next_entry s) source from target to len (or_empty (content_at s.tree target)).length s.marks;
       copied = s.copied + len;
       changes = changed_at (next_entry s) Written target ∷ s.changes;
-    }) client (with_stage (Replying (reply.Count len)) (record c { views = views_without target c.views }))
+    }) client (with_stage (Replying (reply.Count len)) (without_views target c))
 
 abbrev last_look : Stage → ℕ
 last_look (Compacting k) = k.view.entry
@@ -444,8 +459,8 @@ after_purge s client inode d =
 abbrev pub after_cleaning : State → ℕ → ℕ → ℕ → Doing → State
 after_cleaning s client table key d =
     let k = cleaning_of d.stage in
-    after_item (record s { dropped = (if table == 8 then key ∷ s.dropped else s.dropped) }) client
-    (if table == 8 then record k { files = k.files + 1 } else record k { part = Slices; slices = k.slices + 1 })
+    after_item (record s { dropped = (if table == TABLE_OF_DROPPED then key ∷ s.dropped else s.dropped) }) client
+    (if table == TABLE_OF_DROPPED then record k { files = k.files + 1 } else record k { part = Slices; slices = k.slices + 1 })
 
 abbrev pub settled : ℕ → State → State
 settled commit s = record s { owed = filter (λ o. not (o.commit == commit)) s.owed }

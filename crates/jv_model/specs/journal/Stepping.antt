@@ -34,7 +34,7 @@ is_answer _ = false
 abbrev pub answer_of : ModelClient → Told → Option Reply
 answer_of c told = elim c.doing [ None ↦ None | Some d ↦ Some (reply_of c d told) ]
 
--- A step is a request after which the operation goes on; or an answer that wants no request; or a request and its answer.
+-- A step is a request after which the operation goes on; or an answer that needs no request; or a request and its answer.
 pub data AllowsStep (start : Start) (alone : Bool) (s : State) (client now : ℕ) (kinds : List ActKind) (step : Step) : Type 0 where
   GoesOn : (kind : ActKind) → kinds ≡ kind ∷ [] → step ≡ More
       → IsEntry start alone s client now kind true → is_answer kind ≡ false → ends_in_step ((stepped s client now kind).clients client) ≡ false

@@ -3,6 +3,7 @@
 use Rattle.std.specs.Prelude.{◌≡◌, ℕ, ◌+◌, ◌%◌, ◌≤◌, ◌<◌, Bool, true, false, ◌&&◌, ◌||◌, not, ◌==◌, nat_le, nat_lt, if◌then◌else◌, IsTrue, MatchBool, IsSomeAnd, List, [], ◌∷◌, length, is_some, Option, None, Some, Result, Ok, Err}
 use Rattle.std.specs.List.{list_any}
 use Rattle.std.specs.Option.{option_map}
+use Rattle.jv_model.specs.declared.tables.TheConstants.{TABLE_OF_DROPPED, TABLE_OF_DEAD}
 use Rattle.jv_model.specs.declared.limits.TheConstants.{FULL_COUNT, FILE_END, WINDOW}
 use Rattle.jv_model.specs.declared.lifetimes.TheConstants.{UPLOAD_LIFE}
 use Rattle.jv_model.specs.declared.limits.TheConstants.{MAX_MISSES, MAX_ITEMS}
@@ -31,10 +32,11 @@ use Rattle.jv_model.specs.tree.Trash.{due_purge}
 use Rattle.jv_model.specs.client.Pending.{Segment, bytes_in_range}
 use Rattle.jv_model.specs.client.Origins.{Owed, missing_commit}
 use Rattle.jv_model.specs.client.Profile.{handle_of}
-use Rattle.jv_model.specs.client.ModelClient.{ModelClient, OpenFile, View, Doing, Stage, Part, Sessions, Trash, Files, Slices, Blocks, MoreBlocks, Cleaning, Compaction, Working, Reading, Missing, LookedAgain, Compacting, Cleans, Requesting, Replying, session_of, file_of, inode_at, is_among}
+use Rattle.jv_model.specs.client.ModelClient.{ModelClient, OpenFile, View, Doing, Stage, CleaningPart, Sessions, Trash, Files, Slices, Blocks, MoreBlocks, Cleaning, Compaction, Working, Reading, Missing, LookedAgain, Compacting, Cleans, Requesting, Replying, session_of, file_of, inode_at}
 use Rattle.jv_model.specs.client.Submission.{next_segment, is_flushed}
-use Rattle.jv_model.specs.journal.State.{State, ChangeKind, Written, Replaced, Ended, transacted, caller, has_session, look_refusal, sees_first, is_refused, is_cleaning, is_compaction, is_last, is_collecting, first_cleaning, answer_then, gift_of, Gift, NewSession, NewHandle, Nothing}
+use Rattle.jv_model.specs.journal.State.{State, FileChangeKind, Written, Replaced, Ended, transacted, caller, has_session, look_refusal, sees_first, is_refused, is_cleaning, is_compaction, is_last, is_collecting, first_cleaning, answer_then, gift_of, Gift, NewSession, NewHandle, Nothing}
 use Rattle.jv_model.specs.journal.Reading.{Asked, window_start, asked_parts, fresh_view, part_to_look, shows_all, reading}
+use Rattle.jv_model.specs.Lists.{is_among}
 
 -- what the run began with, as far as a tree doesn't say it
 pub record Start : Type 0 where
@@ -161,17 +163,17 @@ pub record LooksAt (s : State) (c : ModelClient) (d : Doing) (inode window : ℕ
   pub session : IsTrue (has_session s.tree c)
   pub there : IsTrue (is_some (node_at s.tree inode))
 
-abbrev is_written : ChangeKind → Bool
+abbrev is_written : FileChangeKind → Bool
 is_written Written = true
 is_written Replaced = false
 is_written Ended = false
 
-abbrev is_replaced : ChangeKind → Bool
+abbrev is_replaced : FileChangeKind → Bool
 is_replaced Written = false
 is_replaced Replaced = true
 is_replaced Ended = false
 
-abbrev takes_blocks : ChangeKind → Bool
+abbrev takes_blocks : FileChangeKind → Bool
 takes_blocks Written = false
 takes_blocks Replaced = true
 takes_blocks Ended = true
@@ -285,7 +287,7 @@ cleaning_in c d = elim d.stage [
 ]
 
 -- an item of a cleaning goes, in its part
-pub record CleansItem (s : State) (c : ModelClient) (d : Doing) (part : Part) : Type 0 where
+pub record CleansItem (s : State) (c : ModelClient) (d : Doing) (part : CleaningPart) : Type 0 where
   pub k : Cleaning
   pub stage : cleaning_in c d ≡ Some k
   pub at : k.part ≡ part
@@ -299,10 +301,10 @@ pub record DropsFile (s : State) (inode : ℕ) : Type 0 where
   pub once : is_among inode s.dropped ≡ false
 
 abbrev pub CleansRow : State → ModelClient → Doing → ℕ → ℕ → Type 0
-CleansRow s c d table key = MatchBool (table == 8) (CleansItem s c d Files × DropsFile s key) ((table ≡ 9) × CleansItem s c d MoreBlocks)
+CleansRow s c d table key = MatchBool (table == TABLE_OF_DROPPED) (CleansItem s c d Files × DropsFile s key) ((table ≡ TABLE_OF_DEAD) × CleansItem s c d MoreBlocks)
 
 -- a request of a cleaning found nothing more in its part; blocks of slices are removed in any number
-abbrev finds_none : State → ModelClient → ℕ → Part → Bool
+abbrev finds_none : State → ModelClient → ℕ → CleaningPart → Bool
 finds_none s c now Sessions = not (is_some (due_session s.tree (session_of c) now))
 finds_none s c now Trash = not (is_some (due_purge s.tree now))
 finds_none s c now Files = true
@@ -350,10 +352,15 @@ pub record Publishes (s : State) (client : ℕ) (c : ModelClient) (d : Doing) (c
 
 -- answers
 
--- out of memory, or a device failed: it may come before any step
+-- the refusals that come from devices and from memory, and not from the tree
+abbrev pub is_device_or_memory : Fault → Bool
+is_device_or_memory (DeviceFailed device) = true
+is_device_or_memory NoMemory = true
+is_device_or_memory _ = false
+
+-- such an answer may come before any step
 abbrev pub is_failure : Told → Bool
-is_failure (ToldRefused NoMemory) = true
-is_failure (ToldRefused (DeviceFailed device)) = true
+is_failure (ToldRefused fault) = is_device_or_memory fault
 is_failure _ = false
 
 -- whether the step that was made ends the operation: its answer comes in that step, and nothing else may
@@ -394,7 +401,7 @@ told_of (reply.Uploaded None) = Fine 0 0 0 0
 told_of (reply.Uploaded (Some block)) = Fine block.id block.index block.size 1
 told_of (reply.CacheStats hits misses cached pending) = Fine hits misses cached pending
 
--- the session is gone at a transaction that wants it: all but the requests for blocks are
+-- the session is gone at a transaction that needs it: all but the requests for blocks are
 abbrev asks_rows : ModelClient → Doing → Bool
 asks_rows c d = elim d.stage [
   | Working quiets started ↦ nat_le 3 quiets
@@ -421,7 +428,7 @@ inode_in_use c d = elim d.stage [
 ]
 
 abbrev has_late_request : ℕ → ℕ → List ℕ → Bool
-has_late_request started now quiets = list_any (λ moment. moment == started) quiets && nat_le (started + UPLOAD_LIFE) now
+has_late_request started now quiets = is_among started quiets && nat_le (started + UPLOAD_LIFE) now
 
 -- since the compaction's first look others changed the list of its file
 abbrev found_another : State → Compaction → Bool
@@ -518,7 +525,7 @@ pub data EndsUpload (alone : Bool) (s : State) (client : ℕ) (c : ModelClient) 
   Sent : (id index size : ℕ) → d.stage ≡ Requesting 1 → told ≡ Fine id index size 1 → EndsUpload alone s client c d told
   FoundNone : IsTrue (is_ready c d) → d.moved ≡ false → IsTrue (not alone || owes_none s client) → told ≡ Fine 0 0 0 0 → EndsUpload alone s client c d told
 
--- The answers of an operation, each with what it wants.
+-- The answers of an operation, each with what it needs.
 pub data MayAnswer (start : Start) (alone : Bool) (s : State) (client now : ℕ) (c : ModelClient) (d : Doing) (told : Told) : Type 0 where
   Fails : must_answer d ≡ false → IsTrue (is_failure told) → MayAnswer start alone s client now c d told
   Settles : (answer : Reply) → d.stage ≡ Replying answer → told ≡ told_of answer → MayAnswer start alone s client now c d told

@@ -1,9 +1,10 @@
 -- The grammar of rows, version 1: what a value of each table may be, its one spelling, and the value that bytes spell, if they do.
 use Rattle.std.specs.Prelude.{ℕ, ◌-◌, ◌*◌, ◌/◌, zero, suc, Bool, true, ◌&&◌, ◌||◌, not, ◌==◌, nat_le, if◌then◌else◌, List, [], ◌∷◌, ◌++◌, length, slice_index, Option, None, Some}
-use Rattle.std.specs.List.{flat_map, list_all, list_any}
+use Rattle.std.specs.List.{flat_map, list_all}
 use Rattle.std.specs.Option.{option_map}
 use Rattle.std.specs.Str.{is_utf8}
-use Rattle.jv_model.specs.declared.limits.TheConstants.{MIN_BLOCK, MAX_BLOCK, MIN_VOLUME_NAME, MAX_VOLUME_NAME, MAX_BUCKET, MAX_TRASH_DAYS, MAX_CAPACITY, FULL_COUNT, SPACE_UNIT, MAX_PATH, MAX_MODE}
+use Rattle.jv_model.specs.declared.tables.TheConstants.{TABLE_OF_SETTING, TABLE_OF_COUNTERS, TABLE_OF_NODES, TABLE_OF_EDGES, TABLE_OF_LISTS, TABLE_OF_SLICES, TABLE_OF_SESSIONS, TABLE_OF_SUSTAINED, TABLE_OF_DROPPED, TABLE_OF_DEAD, RECORD_LENGTH}
+use Rattle.jv_model.specs.declared.limits.TheConstants.{MIN_BLOCK, MAX_BLOCK, MIN_VOLUME_NAME, MAX_VOLUME_NAME, MAX_BUCKET, MAX_TRASH_DAYS, MAX_CAPACITY, FULL_COUNT, SPACE_UNIT, MAX_PATH, MAX_MODE, LAST_CLIENT}
 use Rattle.jv_model.specs.declared.setting.Setting.{Setting}
 use Rattle.jv_model.specs.declared.slice.Rec.{Rec}
 use Rattle.jv_model.specs.declared.row.Counters.{Counters}
@@ -17,7 +18,7 @@ use Rattle.jv_model.specs.declared.row.Row.{Row}
 use Rattle.jv_model.specs.declared.row.Row.TheVariants.{OfSetting, OfCounters, OfNode, OfEdge, OfList, OfSlice, OfSession, OfSustained, OfDropped, OfDead}
 use Rattle.jv_model.specs.blocks.Slices.{is_record}
 use Rattle.jv_model.specs.rows.RowFields.{◌>>=◌, byte, half, word, long, byte_at, front_at, half_at, word_at, long_at, whole}
-use Rattle.jv_model.specs.Lists.{is_nil}
+use Rattle.jv_model.specs.Lists.{is_nil, is_among, has_no_zero}
 
 -- ---- table 0: what the volume was formatted with
 
@@ -26,7 +27,7 @@ abbrev pub block_sizes : List ℕ
 block_sizes = MIN_BLOCK ∷ 2 * MIN_BLOCK ∷ 4 * MIN_BLOCK ∷ 8 * MIN_BLOCK ∷ 16 * MIN_BLOCK ∷ 32 * MIN_BLOCK ∷ 64 * MIN_BLOCK ∷ 128 * MIN_BLOCK ∷ MAX_BLOCK ∷ []
 
 abbrev pub is_block : ℕ → Bool
-is_block size = list_any (λ n. n == size) block_sizes
+is_block size = is_among size block_sizes
 
 -- a lower-case letter, a digit or `-`
 abbrev pub is_name_byte : ℕ → Bool
@@ -88,7 +89,7 @@ is_directory n = n.length == SPACE_UNIT && is_nil n.target
 
 -- 1 to 4,096 bytes without the byte 0
 abbrev pub is_target : List ℕ → Bool
-is_target target = nat_le 1 (length target) && nat_le (length target) MAX_PATH && list_all (λ b. not (b == 0)) target
+is_target target = nat_le 1 (length target) && nat_le (length target) MAX_PATH && has_no_zero target
 
 abbrev pub is_symlink : Node → Bool
 is_symlink n = n.parent == 0 && n.length == length n.target && is_target n.target
@@ -159,10 +160,10 @@ records_at (suc n) bytes = do
   others ← records_at n first.1
   Some (first.0 ∷ others.0, others.1)
 
--- records of 24 bytes each
+-- records, each of RECORD_LENGTH bytes
 unfoldable pub list_of : List ℕ → Option (List Rec)
 list_of bytes = do
-  records ← records_at (length bytes / 24) bytes
+  records ← records_at (length bytes / RECORD_LENGTH) bytes
   whole is_list records.0 records.1
 
 -- ---- table 5: a slice
@@ -182,7 +183,7 @@ slice_of bytes = do
 -- ---- table 6: a mounted client
 
 abbrev pub is_session : Session → Bool
-is_session s = nat_le s.client 7
+is_session s = nat_le s.client LAST_CLIENT
 
 unfoldable pub session_bytes : Session → List ℕ
 session_bytes s = byte s.client ++ long s.expiry
@@ -224,16 +225,16 @@ dead_of bytes = do
 -- the row that the bytes spell in the table of that number
 unfoldable pub row_of : ℕ → List ℕ → Option Row
 row_of tab bytes =
-    if tab == 0 then option_map OfSetting (setting_of bytes) else
-    if tab == 1 then option_map OfCounters (counters_of bytes) else
-    if tab == 2 then option_map OfNode (node_of bytes) else
-    if tab == 3 then option_map OfEdge (edge_of bytes) else
-    if tab == 4 then option_map OfList (list_of bytes) else
-    if tab == 5 then option_map OfSlice (slice_of bytes) else
-    if tab == 6 then option_map OfSession (session_of bytes) else
-    if tab == 7 then option_map (λ _. OfSustained) (sustained_of bytes) else
-    if tab == 8 then option_map OfDropped (dropped_of bytes) else
-    if tab == 9 then option_map OfDead (dead_of bytes) else
+    if tab == TABLE_OF_SETTING then option_map OfSetting (setting_of bytes) else
+    if tab == TABLE_OF_COUNTERS then option_map OfCounters (counters_of bytes) else
+    if tab == TABLE_OF_NODES then option_map OfNode (node_of bytes) else
+    if tab == TABLE_OF_EDGES then option_map OfEdge (edge_of bytes) else
+    if tab == TABLE_OF_LISTS then option_map OfList (list_of bytes) else
+    if tab == TABLE_OF_SLICES then option_map OfSlice (slice_of bytes) else
+    if tab == TABLE_OF_SESSIONS then option_map OfSession (session_of bytes) else
+    if tab == TABLE_OF_SUSTAINED then option_map (λ _. OfSustained) (sustained_of bytes) else
+    if tab == TABLE_OF_DROPPED then option_map OfDropped (dropped_of bytes) else
+    if tab == TABLE_OF_DEAD then option_map OfDead (dead_of bytes) else
     None
 
 -- its bytes

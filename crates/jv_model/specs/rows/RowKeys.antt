@@ -1,9 +1,9 @@
 -- The keys of rows in their order, and rows as a finite map.
-use Rattle.std.specs.Prelude.{◌≡◌, ℕ, List}
+use Rattle.std.specs.Prelude.{◌≡◌, ℕ, List, Bool}
 use Rattle.std.proofs.Common.{refl, sym, subst, T}
 use Rattle.std.specs.declared.cmp.Ordering.{Ordering}
 use Rattle.std.specs.declared.cmp.Ordering.TheVariants.{Less, Equal, Greater}
-use Rattle.std.specs.Ordering.{nat_cmp, ordering_then, is_eq}
+use Rattle.std.specs.Ordering.{nat_cmp, ordering_then, is_eq, eq_by_cmp}
 use Rattle.std.specs.Cmp.{IsTotalOrder, nat_cmp_total, on_total, then_total}
 use Rattle.std.specs.Cmp.Lexicographic.{slice_cmp, nat_list_cmp_total}
 use Rattle.std.specs.Coded.{Coded, code_by, coded×, coded_list, coded_ℕ}
@@ -34,6 +34,10 @@ row_cmp_same x y h =
     let a = nat_cmp-IsAntisymmetric x.a y.a second.0 in
     let b = slice_cmp-IsAntisymmetric nat_cmp-IsAntisymmetric x.b y.b second.1 in
     λ i. record { tab = tab i; a = a i; b = b i }
+
+-- whether two keys are one
+abbrev pub is_key_of : RowKey → RowKey → Bool
+is_key_of x y = eq_by_cmp row_cmp x y
 
 abbrev pub row_key : KeyOrder RowKey
 row_key = record { cmp = row_cmp; total = row_cmp_total; same = row_cmp_same }

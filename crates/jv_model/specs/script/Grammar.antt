@@ -1,24 +1,19 @@
 -- The whole grammar of a script: which line a text is, if it is one. A text is the bytes of a line without its line feed.
-use Rattle.std.specs.Prelude.{ℕ, ◌+◌, ◌*◌, ◌%◌, Bool, true, false, ◌&&◌, not, ◌==◌, nat_lt, nat_le, if◌then◌else◌, List, [], ◌∷◌, ◌++◌, length, replicate, Option, None, Some, option_map, codes, bytes_eq, sum_by}
-use Rattle.std.specs.List.{slice_split, list_all, flat_map}
+use Rattle.std.specs.Prelude.{ℕ, ◌+◌, ◌%◌, Bool, true, false, ◌&&◌, not, ◌==◌, nat_lt, nat_le, if◌then◌else◌, List, [], ◌∷◌, ◌++◌, length, replicate, Option, None, Some, option_map, codes, bytes_eq, sum_by}
+use Rattle.std.specs.List.{list_all, flat_map}
 use Rattle.jv_model.specs.declared.limits.TheConstants.{MAX_TICK, MAX_DATA, LAST_MOMENT}
+use Rattle.jv_model.specs.declared.options.TheConstants.{MAX_SHORT_NUMBER}
 use Rattle.jv_model.specs.declared.basics.How.{How}
 use Rattle.jv_model.specs.declared.basics.How.TheVariants as how
 use Rattle.jv_model.specs.declared.op.Op.{Op}
 use Rattle.jv_model.specs.declared.op.Op.TheVariants.{Mount, Umount, Beat, Lookup, Stat, Lstat, Fstat, Mkdir, Create, Open, Close, Flush, Read, Write, Truncate, Copy, Readdir, Chmod, Chown, Utimes, Statfs, Symlink, Readlink, Unlink, Rmdir, Link, Rename, Compact, Clean, Gc, Upload, Stats}
 use Rattle.jv_model.specs.declared.op.Line.{Line}
 use Rattle.jv_model.specs.declared.op.Line.TheVariants.{Empty, Do, Begin, Step, Run, Crash, Drain, Tick}
-use Rattle.jv_model.specs.script.Spelling.{◌>>=◌, words, at_most, number_of, length_of, mode_of, is_hex_digit, hex_value, bytes_of_digits, client_of, is_silent}
-use Rattle.jv_model.specs.script.Printed.{Part, Plain, Repeated}
-
--- the parts of a text between the places of one byte, which are words at a space
-abbrev pub parted : ℕ → List ℕ → List (List ℕ)
-parted separator text = slice_split (λ c. c == separator) text
-
--- the value, where a test passes
-abbrev pub provided : {T : Type 0} → Bool → T → Option T
-provided true value = Some value
-provided false value = None
+use Rattle.jv_model.specs.script.Spelling.{◌>>=◌, words, at_most, number_of, length_of, mode_of, is_hex_digit, bytes_of_digits, client_of, is_silent, byte_of}
+use Rattle.jv_model.specs.script.Printed.{DataPart, Plain, Repeated}
+use Rattle.jv_model.specs.tree.Walk.{is_absolute}
+use Rattle.jv_model.specs.Optional.{provided}
+use Rattle.jv_model.specs.Lists.{parted}
 
 -- a number up to a limit of less than 64 bits
 unfoldable pub number_up_to : ℕ → List ℕ → Option ℕ
@@ -35,10 +30,6 @@ seconds_of text = do
 -- a byte that is written as itself: 0x21 to 0x7E, but for `%`
 abbrev pub is_plain : ℕ → Bool
 is_plain c = nat_le 33 c && nat_le c 126 && not (c == 37)
-
--- the byte of two hexadecimal digits
-abbrev pub byte_of : ℕ → ℕ → ℕ
-byte_of high low = hex_value high * 16 + hex_value low
 
 -- what may stand between a `%` and the next: the two digits of a byte other than 0, and bytes that are written as themselves
 abbrev pub is_escape : List ℕ → Bool
@@ -59,15 +50,11 @@ bytes_between (plain ∷ escapes) = provided (list_all is_plain plain && list_al
 unfoldable pub unescaped : List ℕ → Option (List ℕ)
 unescaped text = bytes_between (parted 37 text)
 
-abbrev pub begins_with_slash : List ℕ → Bool
-begins_with_slash [] = false
-begins_with_slash (first ∷ _) = first == 47
-
 -- a path is its bytes, of which the first is a slash: `%2Fa` is the path `/a`
 unfoldable pub path_of : List ℕ → Option (List ℕ)
 path_of text = do
   path ← unescaped text
-  provided (begins_with_slash path) path
+  provided (is_absolute path) path
 
 -- the target of a symlink: at least one byte
 unfoldable pub target_of : List ℕ → Option (List ℕ)
@@ -80,27 +67,27 @@ abbrev pub is_pairs : List ℕ → Bool
 is_pairs text = nat_lt 0 (length text) && (length text % 2 == 0) && list_all is_hex_digit text
 
 -- `HHxN`: the byte of two digits, N times, N at least 1
-unfoldable pub repeated_of : List ℕ → Option Part
+unfoldable pub repeated_of : List ℕ → Option DataPart
 repeated_of (high ∷ low ∷ x ∷ digits) = do
   count ← number_of digits
   provided (is_hex_digit high && is_hex_digit low && (x == 120) && nat_lt 0 count) (Repeated (record { byte = byte_of high low; count = count }))
 repeated_of _ = None
 
 -- a part of the bytes of a write
-unfoldable pub part_of : List ℕ → Option Part
+unfoldable pub part_of : List ℕ → Option DataPart
 part_of text = (if is_pairs text then Some (Plain (bytes_of_digits text)) else repeated_of text)
 
 -- how many bytes a part has, and which
-abbrev pub part_length : Part → ℕ
+abbrev pub part_length : DataPart → ℕ
 part_length (Plain bytes) = length bytes
 part_length (Repeated run) = run.count
 
-abbrev pub part_bytes : Part → List ℕ
+abbrev pub part_bytes : DataPart → List ℕ
 part_bytes (Plain bytes) = bytes
 part_bytes (Repeated run) = replicate run.count run.byte
 
 -- the parts of texts, if each of them is one
-abbrev pub all_parts_of : List (List ℕ) → Option (List Part)
+abbrev pub all_parts_of : List (List ℕ) → Option (List DataPart)
 all_parts_of [] = Some []
 all_parts_of (text ∷ texts) = do
   part ← part_of text
@@ -187,7 +174,7 @@ utimes_of first second = do
 unfoldable pub compact_of : List ℕ → List ℕ → Option Op
 compact_of first second = do
   path ← path_of first
-  window ← number_up_to 4294967295 second
+  window ← number_up_to MAX_SHORT_NUMBER second
   Some (Compact path window)
 
 -- operations of two words: those of two paths, or of a target and a path, behind the others
@@ -223,8 +210,8 @@ write_of first second third = do
 unfoldable pub chown_of : List ℕ → List ℕ → List ℕ → Option Op
 chown_of first second third = do
   path ← path_of first
-  uid ← number_up_to 4294967295 second
-  gid ← number_up_to 4294967295 third
+  uid ← number_up_to MAX_SHORT_NUMBER second
+  gid ← number_up_to MAX_SHORT_NUMBER third
   Some (Chown path uid gid)
 
 -- how a rename treats a target that is there

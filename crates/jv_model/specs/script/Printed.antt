@@ -36,25 +36,25 @@ runs_of [] = []
 runs_of (byte ∷ bytes) = with_byte byte (runs_of bytes)
 
 -- a part of printed bytes: plain digits, or a byte and how often it stands
-pub data Part : Type 0 where
-  Plain : List ℕ → Part
-  Repeated : Run → Part
+pub data DataPart : Type 0 where
+  Plain : List ℕ → DataPart
+  Repeated : Run → DataPart
 
 -- the parts after one more short run in front, which goes into a plain part that is first
-abbrev pub with_short : List ℕ → List Part → List Part
+abbrev pub with_short : List ℕ → List DataPart → List DataPart
 with_short bytes [] = Plain bytes ∷ []
 with_short bytes (Plain more ∷ parts) = Plain (bytes ++ more) ∷ parts
 with_short bytes (Repeated run ∷ parts) = Plain bytes ∷ Repeated run ∷ parts
 
 -- a run of four or more is a part of its own, and shorter ones that stand side by side are one part
-abbrev pub parts_of : List Run → List Part
+abbrev pub parts_of : List Run → List DataPart
 parts_of [] = []
 parts_of (run ∷ runs) = (if nat_le 4 run.count
     then Repeated run ∷ parts_of runs
     else with_short (replicate run.count run.byte) (parts_of runs))
 
 -- digits, or `HHxN`
-abbrev pub part_text : Part → List ℕ
+abbrev pub part_text : DataPart → List ℕ
 part_text (Plain bytes) = flat_map hex_pair bytes
 part_text (Repeated run) = hex_pair run.byte ++ 120 ∷ decimal run.count
 

@@ -8,7 +8,7 @@ use Rattle.jv_model.specs.declared.setting.FileKind.{FileKind}
 use Rattle.jv_model.specs.declared.setting.FileKind.TheVariants as kind
 use Rattle.jv_model.specs.declared.setting.Setting.{Setting}
 use Rattle.jv_model.specs.declared.slice.BlockId.{BlockId}
-use Rattle.jv_model.specs.blocks.BlockNames.{upper_pair, block_name_of}
+use Rattle.jv_model.specs.blocks.BlockNames.{upper_pair, name_in}
 use Rattle.jv_model.specs.script.Spelling.{is_letter_or_digit}
 use Rattle.jv_model.specs.script.Printed.{number_word, ok_text, data_text, fault_text}
 
@@ -55,7 +55,7 @@ entries_text (entry ∷ entries) = join_with_byte 32 (map entry_text (entry ∷ 
 -- the name of the block, if there was one
 unfoldable pub uploaded_text : Setting → Option BlockId → List ℕ
 uploaded_text setting None = codes "-"
-uploaded_text setting (Some block) = block_name_of setting block.id block.index block.size
+uploaded_text setting (Some block) = name_in setting block
 
 -- the text of an answer, on a volume with this setting
 unfoldable pub reply_text : Setting → Reply → List ℕ
@@ -76,6 +76,10 @@ reply_text setting (reply.Entries entries) = codes "ok " ++ entries_text entries
 reply_text setting (reply.Target target) = codes "ok " ++ path_text target
 reply_text setting (reply.Uploaded block) = codes "ok " ++ uploaded_text setting block
 
+-- a text and a line feed
+abbrev pub with_feed : List ℕ → List ℕ
+with_feed text = text ++ 10 ∷ []
+
 -- the line that is printed
 abbrev pub printed_line : Setting → Reply → List ℕ
-printed_line setting answer = reply_text setting answer ++ 10 ∷ []
+printed_line setting answer = with_feed (reply_text setting answer)

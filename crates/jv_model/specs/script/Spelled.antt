@@ -1,13 +1,9 @@
 -- What a line of a script can spell of the values that operations write.
-use Rattle.std.specs.Prelude.{ℕ, Bool, true, ◌&&◌, ◌==◌, not, nat_lt, nat_le, List, length}
-use Rattle.std.specs.List.{list_all}
+use Rattle.std.specs.Prelude.{ℕ, Bool, true, ◌&&◌, nat_lt, nat_le, length}
 use Rattle.jv_model.specs.declared.limits.TheConstants.{MAX_MODE}
 use Rattle.jv_model.specs.declared.op.Op.{Op}
 use Rattle.jv_model.specs.declared.op.Op.TheVariants as op
-
--- bytes without the byte 0, which no name has
-abbrev pub has_no_zero : List ℕ → Bool
-has_no_zero bytes = list_all (λ b. not (b == 0)) bytes
+use Rattle.jv_model.specs.Lists.{has_no_zero}
 
 -- Paths and targets that are written have no byte 0, permission bits are four octal digits, and a target has at least one byte.
 abbrev pub is_spelled : Op → Bool

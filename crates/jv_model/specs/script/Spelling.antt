@@ -1,12 +1,14 @@
 -- How the fields of a script's line are spelled: words, numbers, modes, digits and letters.
 use Rattle.std.specs.Prelude.{ℕ, ◌+◌, ◌-◌, ◌*◌, Bool, true, false, ◌&&◌, ◌||◌, not, ◌==◌, nat_lt, nat_le, if◌then◌else◌, List, [], ◌∷◌, length, Option, None, Some, fold}
-use Rattle.std.specs.List.{slice_split, list_all}
-use Rattle.jv_model.specs.declared.limits.TheConstants.{MAX_DATA, MAX_NAME}
+use Rattle.std.specs.List.{list_all}
+use Rattle.jv_model.specs.declared.limits.TheConstants.{MAX_DATA, MAX_NAME, LAST_CLIENT}
+use Rattle.jv_model.specs.declared.options.TheConstants.{MAX_NUMBER}
 pub use Rattle.jv_model.specs.Optional.{◌>>=◌}
+use Rattle.jv_model.specs.Lists.{parted}
 
 -- the words of a text, parted at each space: two spaces in a row part an empty word off
 abbrev pub words : List ℕ → List (List ℕ)
-words text = slice_split (λ c. c == 32) text
+words text = parted 32 text
 
 -- the value, where it is at most the limit
 abbrev pub at_most : ℕ → ℕ → Option ℕ
@@ -27,7 +29,7 @@ is_numeral (digit ∷ more ∷ digits) = not (digit == 48) && list_all is_decima
 
 -- a number, at most the greatest of 64 bits
 unfoldable pub number_of : List ℕ → Option ℕ
-number_of text = (if is_numeral text then at_most 18446744073709551615 (value_of 10 text) else None)
+number_of text = (if is_numeral text then at_most MAX_NUMBER (value_of 10 text) else None)
 
 -- the length of a read
 unfoldable pub length_of : List ℕ → Option ℕ
@@ -62,15 +64,19 @@ is_hex_digit c = is_decimal_digit c || (nat_le 65 c && nat_le c 70) || (nat_le 9
 abbrev pub hex_value : ℕ → ℕ
 hex_value c = (if nat_le c 57 then c - 48 else if nat_le c 70 then c - 55 else c - 87)
 
+-- the byte of two hexadecimal digits
+abbrev pub byte_of : ℕ → ℕ → ℕ
+byte_of high low = hex_value high * 16 + hex_value low
+
 -- the bytes of pairs of hexadecimal digits, the high one first
 abbrev pub bytes_of_digits : List ℕ → List ℕ
 bytes_of_digits [] = []
 bytes_of_digits (_ ∷ []) = []
-bytes_of_digits (high ∷ low ∷ digits) = (hex_value high * 16 + hex_value low) ∷ bytes_of_digits digits
+bytes_of_digits (high ∷ low ∷ digits) = byte_of high low ∷ bytes_of_digits digits
 
 -- a client's letter, A to H
 unfoldable pub client_of : List ℕ → Option ℕ
-client_of (letter ∷ []) = (if nat_le 65 letter && nat_le letter 72 then Some (letter - 65) else None)
+client_of (letter ∷ []) = (if nat_le 65 letter && nat_le letter (65 + LAST_CLIENT) then Some (letter - 65) else None)
 client_of _ = None
 
 -- an empty text or a comment

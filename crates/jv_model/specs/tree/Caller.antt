@@ -35,6 +35,10 @@ answered t reply = Ok (record { tree = t; reply = reply })
 abbrev pub done : Tree → Result Outcome Fault
 done t = answered t Done
 
--- the session is there
+-- a session is there
+abbrev pub session_there : Tree → ℕ → Result (Unit {0}) Fault
+session_there t sid = require (is_some (get t.sessions sid)) (Stale (Session sid))
+
+-- the caller's session is there
 abbrev pub in_session : Tree → Caller → Result (Unit {0}) Fault
-in_session t who = require (is_some (get t.sessions who.sid)) (Stale (Session who.sid))
+in_session t who = session_there t who.sid

@@ -1,8 +1,9 @@
 -- Small changes of a tree, of which the operations are made.
-use Rattle.std.specs.Prelude.{ℕ, ◌+◌, ◌-◌, max, ◌&&◌, nat_lt, nat_le, if◌then◌else◌, List, length, slice_index, Option, None, Some}
+use Rattle.std.specs.Prelude.{ℕ, ◌+◌, ◌-◌, max, nat_lt, if◌then◌else◌, List, length, slice_index, Option, None, Some}
 use Rattle.std.specs.Option.{option_map}
 use Rattle.jv_model.specs.FiniteMap.{insert, remove}
 use Rattle.jv_model.specs.tree.Tree.{Tree, Node, File, Content, EntryKey, node_at}
+use Rattle.jv_model.specs.Ranges.{in_range}
 
 -- A node whose content or entries changed has both times at the moment (POSIX.1-2017, 4.9 "File Times Update": last data
 -- modification and last file status change).
@@ -53,19 +54,20 @@ empty_content = record { length = 0; byte = λ _. 0 }
 abbrev pub byte_within : Content → ℕ → ℕ
 byte_within content position = (if nat_lt position content.length then content.byte position else 0)
 
+-- a file's bytes, none from its length on
+abbrev pub content_of : ℕ → (ℕ → ℕ) → Content
+content_of length byte = record { length = length; byte = λ position. if nat_lt position length then byte position else 0 }
+
 -- A file cut to a length, or with zeros up to it (POSIX.1-2017, "ftruncate").
 abbrev pub resized : Content → ℕ → Content
-resized content len = record {
-  length = len;
-  byte = λ position. if nat_lt position len then byte_within content position else 0;
-}
+resized content len = content_of len (byte_within content)
 
 -- A file with a number of bytes put at a place, each by its distance from there. Zeros fill what lies between the file's
 -- end and them (POSIX.1-2017, "write" behind an "lseek" past the end).
 abbrev pub patched : Content → ℕ → ℕ → (ℕ → ℕ) → Content
 patched content from len byte = record {
   length = max content.length (from + len);
-  byte = λ position. if nat_le from position && nat_lt position (from + len)
+  byte = λ position. if in_range from len position
       then byte (position - from) else byte_within content position;
 }
 

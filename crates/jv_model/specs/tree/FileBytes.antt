@@ -1,14 +1,15 @@
 -- The bytes of files: commits, POSIX.1-2017's "ftruncate", and Linux's "copy_file_range".
-use Rattle.std.specs.Prelude.{ℕ, ◌+◌, ◌-◌, min, Bool, true, false, ◌&&◌, not, ◌==◌, nat_lt, nat_le, List, Option, None, Some, Result}
+use Rattle.std.specs.Prelude.{ℕ, ◌+◌, ◌-◌, min, Bool, true, false, ◌&&◌, not, ◌==◌, nat_lt, nat_le, List, Option, None, Some, Result, Ok}
 use Rattle.jv_model.specs.declared.limits.TheConstants.{FILE_END}
 use Rattle.jv_model.specs.declared.fault.Fault.{Fault}
-use Rattle.jv_model.specs.declared.fault.Fault.TheVariants.{Invalid, FileTooLarge, NoSpace, Stale}
+use Rattle.jv_model.specs.declared.fault.Fault.TheVariants.{Invalid, FileTooLarge, NoSpace, Stale, TimedOut}
 use Rattle.jv_model.specs.declared.fault.Gone.TheVariants.{Node as GoneNode}
 use Rattle.jv_model.specs.declared.op.Reply.TheVariants.{Count}
 use Rattle.jv_model.specs.tree.Attempt.{◌>>=◌, require, some_or}
 use Rattle.jv_model.specs.tree.Tree.{Tree, Content, content_at, fits}
 use Rattle.jv_model.specs.tree.Changes.{resized, overwritten, copied_over, with_content}
-use Rattle.jv_model.specs.tree.Caller.{Caller, Outcome, answered, done, in_session}
+use Rattle.jv_model.specs.tree.Caller.{Caller, Outcome, answered, done, in_session, session_there}
+use Rattle.jv_model.specs.declared.lifetimes.TheConstants.{UPLOAD_LIFE}
 
 -- the tree with bytes committed to a file
 abbrev pub committed : Tree → ℕ → ℕ → ℕ → List ℕ → Tree
@@ -24,7 +25,7 @@ truncated t now inode len = elim (content_at t inode) [
   | Some content ↦ with_content t now inode (resized content len)
 ]
 
-abbrev copied_between : Tree → ℕ → Option Content → ℕ → ℕ → Option Content → ℕ → ℕ → Tree
+abbrev pub copied_between : Tree → ℕ → Option Content → ℕ → ℕ → Option Content → ℕ → ℕ → Tree
 copied_between t now (Some source) from target (Some content) to len = with_content t now target (copied_over source from content to len)
 copied_between t now _ from target _ to len = t
 
@@ -38,6 +39,21 @@ copied t now source from target to len = elim (len == 0) [
 -- the bytes of the file of a handle, which may be gone
 abbrev pub open_content : Tree → ℕ → Result Content Fault
 open_content t inode = some_or (content_at t inode) (Stale (GoneNode inode))
+
+-- the length of a file, as a session sees it
+abbrev pub length_seen : ℕ → ℕ → Tree → Result ℕ Fault
+length_seen sid inode t = do
+  _ ← session_there t sid
+  content ← open_content t inode
+  Ok content.length
+
+-- a session's commit of bytes to a file, whose block was begun at a moment
+abbrev pub commit_of : (sid inode from : ℕ) → List ℕ → (started now : ℕ) → Tree → Result Tree Fault
+commit_of sid inode from patch started now t = do
+  _ ← length_seen sid inode t
+  _ ← require (nat_lt now (started + UPLOAD_LIFE)) (TimedOut started now)
+  _ ← require (fits t (committed t now inode from patch)) NoSpace
+  Ok (committed t now inode from patch)
 
 unfoldable pub truncate : Tree → Caller → ℕ → Result Outcome Fault
 truncate t who len = do

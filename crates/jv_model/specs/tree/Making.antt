@@ -1,13 +1,13 @@
 -- New entries, by POSIX.1-2017's "mkdirat", "openat" with O_CREAT and O_EXCL, "symlinkat" and "linkat" (without
 -- AT_SYMLINK_FOLLOW).
 use Rattle.std.specs.Prelude.{ℕ, ◌+◌, Bool, not, ◌||◌, nat_lt, nat_le, List, length, is_some, Result, Ok}
-use Rattle.jv_model.specs.declared.limits.TheConstants.{MAX_PATH}
+use Rattle.jv_model.specs.declared.limits.TheConstants.{MAX_PATH, FULL_MODE, FULL_COUNT}
 use Rattle.jv_model.specs.declared.fault.Fault.{Fault}
 use Rattle.jv_model.specs.declared.fault.Fault.TheVariants.{AlreadyExists, NameTooLong, NoSpace, NotPermitted}
 use Rattle.jv_model.specs.declared.op.Reply.TheVariants.{Found, FileOpened}
 use Rattle.jv_model.specs.tree.Attempt.{◌>>=◌, require}
 use Rattle.jv_model.specs.FiniteMap.{get}
-use Rattle.jv_model.specs.tree.Tree.{Tree, Node, File, Directory, Symlink, EntryKey, new_node, full_mode, full_count, in_trash}
+use Rattle.jv_model.specs.tree.Tree.{Tree, Node, File, Directory, Symlink, EntryKey, new_node, in_trash}
 use Rattle.jv_model.specs.tree.Tree.{trash_entry, is_directory, fits, links_fit}
 use Rattle.jv_model.specs.tree.Changes.{status_changed, change_node, put_entry, with_node, empty_content}
 use Rattle.jv_model.specs.tree.Walk.{entry_of, unfollowed_inode_of, is_trash}
@@ -32,7 +32,7 @@ with_next t now place node = record (with_node t now place t.next_inode node) { 
 -- the same, where the limits of the volume allow it
 abbrev pub entered : Tree → ℕ → EntryKey → Node → Result Tree Fault
 entered t now place node = do
-  _ ← require (nat_lt t.next_inode full_count) NoSpace
+  _ ← require (nat_lt t.next_inode FULL_COUNT) NoSpace
   _ ← require (fits t (with_next t now place node)) NoSpace
   Ok (with_next t now place node)
 
@@ -56,7 +56,7 @@ symlink t who target path = do
   _ ← in_session t who
   _ ← require (nat_le (length target) MAX_PATH) NameTooLong
   place ← new_place t path
-  after ← entered t who.now place (new_node (Symlink target) full_mode who.now)
+  after ← entered t who.now place (new_node (Symlink target) FULL_MODE who.now)
   answered after (Found t.next_inode)
 
 -- whether an inode has an entry in the trash

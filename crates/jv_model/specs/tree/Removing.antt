@@ -1,7 +1,6 @@
 -- Entries removed, by POSIX.1-2017's "unlinkat" and "rmdir", with the trash (JuiceFS, "Trash"), and with files that stay
 -- without an entry while a session has them open.
 use Rattle.std.specs.Prelude.{ℕ, ◌&&◌, ◌||◌, Bool, not, ◌==◌, nat_lt, if◌then◌else◌, List, Result}
-use Rattle.std.specs.List.{list_any}
 use Rattle.jv_model.specs.declared.fault.Fault.{Fault}
 use Rattle.jv_model.specs.declared.fault.Fault.TheVariants.{NotFound, NotADirectory, DirectoryNotEmpty, NotPermitted}
 use Rattle.jv_model.specs.tree.Attempt.{◌>>=◌, require, some_or}
@@ -11,6 +10,7 @@ use Rattle.jv_model.specs.tree.Changes.{status_changed, change_node, drop_node, 
 use Rattle.jv_model.specs.tree.Walk.{entry_of, is_trash}
 use Rattle.jv_model.specs.tree.Trash.{trashed}
 use Rattle.jv_model.specs.tree.Caller.{Caller, Outcome, done, in_session}
+use Rattle.jv_model.specs.Lists.{is_among}
 
 -- neither `.trash` nor one of its hours is removed or renamed
 abbrev pub may_go : EntryKey → Bool
@@ -28,7 +28,7 @@ pub data Fate : Type 0 where
 abbrev pub fate_of : Tree → Caller → EntryKey → ℕ → Fate
 fate_of t who place inode = (if nat_lt 1 (entry_count t inode) then Linked
     else if nat_lt 0 t.setting.trash_days && not (in_trash place.dir) then Trashed
-    else if list_any (λ held. held == inode) who.held then Sustained
+    else if is_among inode who.held then Sustained
     else Dropped)
 
 -- a file that the caller's session keeps

@@ -2,6 +2,7 @@
 -- that expired is ended by a cleaning. A session keeps files without entries that its client has open.
 use Rattle.std.specs.Prelude.{ℕ, ◌+◌, true, false, ◌&&◌, not, ◌==◌, nat_lt, nat_le, Option, Result}
 use Rattle.std.specs.Option.{option_map}
+use Rattle.jv_model.specs.declared.limits.TheConstants.{FULL_COUNT}
 use Rattle.jv_model.specs.declared.lifetimes.TheConstants.{SESSION_LIFE}
 use Rattle.jv_model.specs.declared.fault.Fault.{Fault}
 use Rattle.jv_model.specs.declared.fault.Fault.TheVariants.{NoSpace, Stale}
@@ -9,7 +10,7 @@ use Rattle.jv_model.specs.declared.fault.Gone.TheVariants.{Session}
 use Rattle.jv_model.specs.declared.op.Reply.TheVariants.{SessionMade}
 use Rattle.jv_model.specs.tree.Attempt.{◌>>=◌, require, some_or}
 use Rattle.jv_model.specs.FiniteMap.{get, insert, remove, retain_keys, first_where}
-use Rattle.jv_model.specs.tree.Tree.{Tree, SessionEntry, full_count, is_sustained}
+use Rattle.jv_model.specs.tree.Tree.{Tree, SessionEntry, is_sustained}
 use Rattle.jv_model.specs.tree.Changes.{drop_node}
 use Rattle.jv_model.specs.tree.Caller.{Caller, Outcome, answered, done, in_session}
 
@@ -22,7 +23,7 @@ with_session t who = record t {
 
 unfoldable pub mount : Tree → Caller → Result Outcome Fault
 mount t who = do
-  _ ← require (nat_lt t.next_session full_count) NoSpace
+  _ ← require (nat_lt t.next_session FULL_COUNT) NoSpace
   answered (with_session t who) (SessionMade t.next_session)
 
 -- the tree with a session that showed a sign of life

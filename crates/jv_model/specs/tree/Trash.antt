@@ -2,11 +2,11 @@
 -- volume's days. The names there, and the inodes of hours, are this project's own.
 use Rattle.std.specs.Prelude.{ℕ, ◌+◌, ◌-◌, ◌*◌, Bool, ◌&&◌, ◌==◌, nat_le, if◌then◌else◌, List, ◌∷◌, ◌++◌, take, Option, None, Some, decimal}
 use Rattle.std.specs.Option.{option_map}
-use Rattle.jv_model.specs.declared.limits.TheConstants.{MAX_NAME}
+use Rattle.jv_model.specs.declared.limits.TheConstants.{MAX_NAME, READ_ONLY_MODE}
 use Rattle.jv_model.specs.declared.lifetimes.TheConstants.{HOUR, DAY, FIRST_HOUR}
 use Rattle.jv_model.specs.declared.setting.Setting.{Setting}
 use Rattle.jv_model.specs.FiniteMap.{remove, first_where}
-use Rattle.jv_model.specs.tree.Tree.{Tree, Directory, EntryKey, new_node, read_only_mode, trash_root, node_at, trash_entry}
+use Rattle.jv_model.specs.tree.Tree.{Tree, Directory, EntryKey, new_node, trash_root, node_at, trash_entry}
 use Rattle.jv_model.specs.tree.Changes.{status_changed, change_node, drop_node, put_entry, with_node}
 use Rattle.jv_model.specs.tree.HourNames.{hour_at, hour_name}
 
@@ -22,13 +22,17 @@ hour_of inode = (if inode == FIRST_HOUR then 0 else inode - trash_root)
 abbrev pub is_due : Setting → ℕ → ℕ → Bool
 is_due setting now hour = nat_le ((hour + 1) * HOUR + setting.trash_days * DAY) now
 
+-- when a slice may go that nothing names any more from a moment on: the volume's days later
+abbrev pub due_after : ℕ → Setting → ℕ
+due_after now setting = now + setting.trash_days * DAY
+
 abbrev pub hour_place : ℕ → EntryKey
 hour_place hour = record { dir = trash_root; name = hour_name hour }
 
 -- the tree with the directory of an hour
 unfoldable pub with_hour : Tree → ℕ → ℕ → Tree
 with_hour t now hour = elim (node_at t (hour_inode hour)) [
-  | None ↦ with_node t now (hour_place hour) (hour_inode hour) (new_node (Directory trash_root) read_only_mode now)
+  | None ↦ with_node t now (hour_place hour) (hour_inode hour) (new_node (Directory trash_root) READ_ONLY_MODE now)
   | Some node ↦ t
 ]
 

@@ -7,9 +7,10 @@ use Rattle.std.proofs.Common.{ap}
 use Rattle.std.specs.Ordering.{nat_cmp, on}
 use Rattle.std.specs.Cmp.{on_total}
 use Rattle.std.specs.Cmp.Lexicographic.{slice_cmp, nat_list_cmp_total}
-use Rattle.jv_model.specs.declared.limits.TheConstants.{ROOT, TRASH_ROOT, FULL_COUNT, MAX_LINKS, SPACE_UNIT, GIB}
+use Rattle.jv_model.specs.declared.limits.TheConstants.{ROOT, TRASH_ROOT, FULL_COUNT, MAX_LINKS, SPACE_UNIT, GIB, FULL_MODE, READ_ONLY_MODE}
 use Rattle.jv_model.specs.declared.setting.Setting.{Setting}
 use Rattle.jv_model.specs.FiniteMap.{KeyOrder, Map, number_key, text_key, empty_map, get, insert, first_where, sum_over}
+use Rattle.jv_model.specs.Lists.{first_number}
 
 -- the bytes of a file: how many, and the byte at each position, which is 0 from the length on
 pub record Content : Type 0 where
@@ -40,10 +41,6 @@ pub record SessionEntry : Type 0 where
 
 abbrev pub entry_bytes : EntryKey → List ℕ
 entry_bytes key = key.dir ∷ key.name
-
-abbrev first_number : List ℕ → ℕ
-first_number [] = 0
-first_number (n ∷ ns) = n
 
 abbrev other_numbers : List ℕ → List ℕ
 other_numbers [] = []
@@ -97,27 +94,15 @@ trash_root = TRASH_ROOT
 abbrev pub in_trash : ℕ → Bool
 in_trash dir = nat_le trash_root dir
 
--- a stored number that stands here refuses to grow
-abbrev pub full_count : ℕ
-full_count = FULL_COUNT
-
 abbrev pub new_node : Kind → ℕ → ℕ → Node
 new_node kind mode now = record { kind = kind; mode = mode; uid = 0; gid = 0; mtime = now; ctime = now }
-
--- all permissions, 0777
-abbrev pub full_mode : ℕ
-full_mode = 511
-
--- no permission to write, 0555
-abbrev pub read_only_mode : ℕ
-read_only_mode = 365
 
 -- the tree of a volume that was just formatted
 abbrev pub fresh_tree : Setting → ℕ → Tree
 fresh_tree setting now = record {
   setting = setting;
-  nodes = insert (insert empty_map root (new_node (Directory root) full_mode now))
-      trash_root (new_node (Directory root) read_only_mode now);
+  nodes = insert (insert empty_map root (new_node (Directory root) FULL_MODE now))
+      trash_root (new_node (Directory root) READ_ONLY_MODE now);
   entries = empty_map;
   sessions = empty_map;
   sustained = empty_map;
@@ -152,10 +137,10 @@ used_inodes t = sum_over node_count t.nodes
 
 -- the limits in bytes and inodes; a limit of 0 in the setting stands for 2^62
 abbrev pub space_limit : Setting → ℕ
-space_limit s = (if s.capacity == 0 then full_count else s.capacity * GIB)
+space_limit s = (if s.capacity == 0 then FULL_COUNT else s.capacity * GIB)
 
 abbrev pub inode_limit : Setting → ℕ
-inode_limit s = (if s.inodes == 0 then full_count else s.inodes)
+inode_limit s = (if s.inodes == 0 then FULL_COUNT else s.inodes)
 
 -- whether a sum may become `after`: it is within its limit, or didn't grow
 abbrev pub sum_fits : ℕ → ℕ → ℕ → Bool
@@ -187,13 +172,13 @@ parent_at t inode = parent_of (node_at t inode)
 abbrev pub is_directory : Tree → ℕ → Bool
 is_directory t inode = is_some (parent_at t inode)
 
-abbrev target_of : Option Node → Option (List ℕ)
-target_of None = None
-target_of (Some node) = elim node.kind [ File content ↦ None | Directory parent ↦ None | Symlink target ↦ Some target ]
+abbrev pub target_in : Option Node → Option (List ℕ)
+target_in None = None
+target_in (Some node) = elim node.kind [ File content ↦ None | Directory parent ↦ None | Symlink target ↦ Some target ]
 
 -- the target of a symlink, where the inode is one
 abbrev pub target_at : Tree → ℕ → Option (List ℕ)
-target_at t inode = target_of (node_at t inode)
+target_at t inode = target_in (node_at t inode)
 
 -- whether a directory has entries
 abbrev pub has_entries : Tree → ℕ → Bool
@@ -203,16 +188,23 @@ has_entries t dir = is_some (first_where (λ key named. key.dir == dir) t.entrie
 abbrev pub trash_entry : Tree → ℕ → Option (EntryKey × ℕ)
 trash_entry t inode = first_where (λ key named. (named == inode) && in_trash key.dir) t.entries
 
+-- whether a session keeps an inode
+abbrev pub has_pair : Map pair_key (Unit {0}) → ℕ → ℕ → Bool
+has_pair sustained sid inode = is_some (get sustained (record { sid = sid; inode = inode }))
+
 -- whether a session keeps a file without entries
 abbrev pub is_sustained : Tree → ℕ → ℕ → Bool
-is_sustained t sid inode = is_some (get t.sustained (record { sid = sid; inode = inode }))
+is_sustained t sid inode = has_pair t.sustained sid inode
 
-abbrev entry_names : ℕ → EntryKey → ℕ → ℕ
-entry_names inode key named = (if named == inode then 1 else 0)
+abbrev pub naming : ℕ → EntryKey → ℕ → ℕ
+naming inode key named = (if named == inode then 1 else 0)
 
--- the number of entries that name an inode
+-- how many of the entries name an inode
+abbrev pub name_count : Map entry_key ℕ → ℕ → ℕ
+name_count entries inode = sum_over (naming inode) entries
+
 abbrev pub entry_count : Tree → ℕ → ℕ
-entry_count t inode = sum_over (entry_names inode) t.entries
+entry_count t inode = name_count t.entries inode
 
 abbrev directory_within : Tree → ℕ → EntryKey → ℕ → ℕ
 directory_within t dir key inode = (if key.dir == dir && is_directory t inode then 1 else 0)

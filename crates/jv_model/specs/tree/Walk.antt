@@ -1,8 +1,7 @@
 -- How a path is resolved (POSIX.1-2017, 4.13 "Pathname Resolution"). Several slashes count as one, and a slash at the
 -- end is ignored, also behind a symlink, where POSIX would follow it.
-use Rattle.std.specs.Prelude.{ℕ, zero, suc, Bool, true, false, ◌&&◌, ◌||◌, not, ◌==◌, nat_le, nat_eq, if◌then◌else◌, List, []}
-use Rattle.std.specs.Prelude.{◌∷◌, ◌++◌, filter, length, Option, None, Some, Result, Ok, Err, codes}
-use Rattle.std.specs.Cmp.Lexicographic.{pointwise}
+use Rattle.std.specs.Prelude.{ℕ, zero, suc, Bool, true, false, ◌&&◌, ◌||◌, not, ◌==◌, nat_le, if◌then◌else◌, List, []}
+use Rattle.std.specs.Prelude.{◌∷◌, ◌++◌, filter, length, Option, None, Some, Result, Ok, Err, codes, bytes_eq}
 use Rattle.jv_model.specs.declared.limits.TheConstants.{MAX_NAME, MAX_PATH}
 use Rattle.jv_model.specs.declared.limits.TheConstants.{MAX_SYMLINKS}
 use Rattle.jv_model.specs.declared.fault.Fault.{Fault}
@@ -10,38 +9,30 @@ use Rattle.jv_model.specs.declared.fault.Fault.TheVariants.{NotFound, NotADirect
 use Rattle.jv_model.specs.tree.Attempt.{◌>>=◌, require, some_or}
 use Rattle.jv_model.specs.FiniteMap.{get}
 use Rattle.jv_model.specs.tree.Tree.{Tree, EntryKey, root, trash_root, parent_at, target_at, is_directory}
-use Rattle.jv_model.specs.Lists.{is_nil}
-
--- the parts of a text between separators
-abbrev pub before_part : ℕ → List (List ℕ) → List (List ℕ)
-before_part b [] = (b ∷ []) ∷ []
-before_part b (part ∷ parts) = (b ∷ part) ∷ parts
-
-abbrev pub parts_between : ℕ → List ℕ → List (List ℕ)
-parts_between separator [] = [] ∷ []
-parts_between separator (b ∷ bs) = (if b == separator then [] ∷ parts_between separator bs else before_part b (parts_between separator bs))
+use Rattle.jv_model.specs.Lists.{is_nil, parted, last_item}
 
 -- whether a path or a target begins at the root
 abbrev pub is_absolute : List ℕ → Bool
 is_absolute [] = false
 is_absolute (b ∷ bs) = b == 47
 
+-- the names among the parts of a path, which have a byte or more
+abbrev pub only_names : List (List ℕ) → List (List ℕ)
+only_names parts = filter (λ name. not (is_nil name)) parts
+
 -- the names of a path
 abbrev pub names_of : List ℕ → List (List ℕ)
-names_of path = filter (λ name. not (is_nil name)) (parts_between 47 path)
-
-abbrev pub is_text : List ℕ → List ℕ → Bool
-is_text = pointwise nat_eq
+names_of path = only_names (parted 47 path)
 
 abbrev pub is_dot : List ℕ → Bool
-is_dot name = is_text name (codes ".")
+is_dot name = bytes_eq name (codes ".")
 
 abbrev pub is_dot_dot : List ℕ → Bool
-is_dot_dot name = is_text name (codes "..")
+is_dot_dot name = bytes_eq name (codes "..")
 
 -- whether the name is `.trash` in the root
 abbrev pub is_trash : ℕ → List ℕ → Bool
-is_trash dir name = (dir == root) && is_text name (codes ".trash")
+is_trash dir name = (dir == root) && bytes_eq name (codes ".trash")
 
 -- the inode that a name leads to from a directory with this parent
 abbrev pub named_from : Tree → ℕ → ℕ → List ℕ → Result ℕ Fault
@@ -97,17 +88,12 @@ all_but_last [] = []
 all_but_last (name ∷ []) = []
 all_but_last (name ∷ other ∷ names) = name ∷ all_but_last (other ∷ names)
 
-abbrev pub last_name : List (List ℕ) → Option (List ℕ)
-last_name [] = None
-last_name (name ∷ []) = Some name
-last_name (_ ∷ other ∷ names) = last_name (other ∷ names)
-
 -- The entry that a path names, whether it is there or not. A path without a last name is refused; POSIX has several
 -- answers there.
 abbrev pub entry_of : Tree → List ℕ → Result EntryKey Fault
 entry_of t path = do
   _ ← require (nat_le (length path) MAX_PATH) NameTooLong
-  name ← some_or (last_name (names_of path)) Invalid
+  name ← some_or (last_item (names_of path)) Invalid
   _ ← require (not (is_dot name || is_dot_dot name)) Invalid
   dir ← walk MAX_SYMLINKS t true root (all_but_last (names_of path))
   _ ← require (is_directory t dir) NotADirectory

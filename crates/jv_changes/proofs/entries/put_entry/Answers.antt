@@ -4,13 +4,13 @@ use Rattle.jv_model.specs.declared.row.Edge.{Edge}
 use Rattle.jv_model.specs.declared.row.Row.TheVariants.{OfEdge}
 use Rattle.jv_model.specs.rows.RowPlaces.{edge_key}
 use Rattle.jv_model.specs.tree.Tree.{EntryKey}
-use Rattle.jv_changes.specs.Present.{to_node, directory_touched, linked_row}
+use Rattle.jv_changes.specs.Present.{to_node, linked_row}
 use Rattle.jv_changes.specs.Ready.{entry_put}
 use Rattle.jv_changes.proofs.DraftedLaws.{was_drafted}
 use Rattle.jv_changes.proofs.EntryChangeLaws.{put-no_dir, put-full_dir, put-full_node, put-made}
 use Rattle.jv_changes.proofs.PresentLaws.{put_drafted}
 use Rattle.jv_changes.proofs.entries.put_entry.Goals as goal
-use Rattle.jv_volume.specs.Stored.{links_by}
+use Rattle.jv_volume.specs.Stored.{links_by, directory_touched}
 
 pub returns-in_err-parent : goal.returns-in_err-parent
 returns-in_err-parent g c =

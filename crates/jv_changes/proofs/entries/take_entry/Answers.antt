@@ -3,12 +3,12 @@ use Rattle.std.proofs.lemmas.Result.{err_from_is_err_and}
 use Rattle.jv_model.specs.rows.RowPlaces.{edge_key}
 use Rattle.jv_model.specs.tree.Changes as model
 use Rattle.jv_model.specs.tree.Tree.{EntryKey}
-use Rattle.jv_changes.specs.Present.{to_node, directory_touched, linked_row}
+use Rattle.jv_changes.specs.Present.{to_node, linked_row}
 use Rattle.jv_changes.proofs.DraftedLaws.{was_drafted}
 use Rattle.jv_changes.proofs.EntryChangeLaws.{take-no_dir, take-made}
 use Rattle.jv_changes.proofs.PresentLaws.{put_drafted}
 use Rattle.jv_changes.proofs.entries.take_entry.Goals as goal
-use Rattle.jv_volume.specs.Stored.{links_by}
+use Rattle.jv_volume.specs.Stored.{links_by, directory_touched}
 
 pub returns-in_err-parent : goal.returns-in_err-parent
 returns-in_err-parent g c =

@@ -1,6 +1,7 @@
 use Rattle.std.proofs.Common.{◌∙◌}
+use Rattle.jv_model.proofs.TestLaws.{none_unless}
 use Rattle.jv_generator.specs.Script.{script}
-use Rattle.jv_cmd.proofs.DrawnLaws.{absent, next_line, text_more, text_whole}
+use Rattle.jv_cmd.proofs.DrawnLaws.{next_line, text_more, text_whole}
 use Rattle.jv_cmd.proofs.drawn.script_text.Goals as goal
 
 pub lines-preserved : goal.lines-preserved
@@ -17,6 +18,6 @@ lines-preserved c =
 
 pub returns : goal.returns
 returns c =
-    let none = absent c.in_ok-line.field-0 c.in_default.not-Some in
+    let none = none_unless c.in_ok-line.field-0 c.in_default.not-Some in
     c.from_vec.ensures
     ∙ text_whole c.args.seed c.lines.text.items c.lines.drawn.given (c.in_ok-line.ensures.end.0 none) c.lines.invariant.text_is

@@ -1,6 +1,7 @@
 use Rattle.std.proofs.Common.{◌∙◌, ap, sym}
+use Rattle.jv_model.proofs.TestLaws.{none_unless}
 use Rattle.jv_generator.specs.Summary.{TotalsValue}
-use Rattle.jv_cmd.proofs.DrawnLaws.{absent, next_line, totals_answered, totals_from, totals_more, totals_whole}
+use Rattle.jv_cmd.proofs.DrawnLaws.{next_line, totals_answered, totals_from, totals_more, totals_whole}
 use Rattle.jv_cmd.proofs.drawn.totals.Goals as goal
 
 pub lines-preserved : goal.lines-preserved
@@ -23,6 +24,6 @@ returns-in_default-next_answer c =
 
 pub returns : goal.returns
 returns c =
-    let none = absent c.in_ok-line.field-0 c.in_default.not-Some in
+    let none = none_unless c.in_ok-line.field-0 c.in_default.not-Some in
     sym (c.lines.invariant.counts
     ∙ totals_whole c.lines.totals c.args.seed c.lines.drawn.given c.lines.rest.now (c.in_ok-line.ensures.end.0 none))

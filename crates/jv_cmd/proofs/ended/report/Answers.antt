@@ -1,8 +1,8 @@
 use Rattle.jv_cmd.proofs.SayingLaws.{Says-ended}
 use Rattle.jv_cmd.proofs.ended.report.Goals as goal
 
-pub returns-in-OffLine : goal.returns-in-OffLine
-returns-in-OffLine g c = Says-ended c.in-OffLine.is c.say_number.ensures
+pub returns-in-LineNotRun : goal.returns-in-LineNotRun
+returns-in-LineNotRun g c = Says-ended c.in-LineNotRun.is c.say_number.ensures
 
 pub returns-in-NoVolume : goal.returns-in-NoVolume
 returns-in-NoVolume g c = Says-ended c.in-NoVolume.is c.say.ensures
@@ -13,8 +13,8 @@ returns-in-VolumeExists g c = Says-ended c.in-VolumeExists.is c.say-in-VolumeExi
 pub returns-in-NewerVersion : goal.returns-in-NewerVersion
 returns-in-NewerVersion g c = Says-ended c.in-NewerVersion.is c.say_number-in-NewerVersion.ensures
 
-pub returns-in-SettingOff : goal.returns-in-SettingOff
-returns-in-SettingOff g c = Says-ended c.in-SettingOff.is c.say-in-SettingOff.ensures
+pub returns-in-MalformedSetting : goal.returns-in-MalformedSetting
+returns-in-MalformedSetting g c = Says-ended c.in-MalformedSetting.is c.say-in-MalformedSetting.ensures
 
 pub returns-in-BadRow : goal.returns-in-BadRow
 returns-in-BadRow g c = Says-ended c.in-BadRow.is c.say_key.ensures

@@ -1,10 +1,10 @@
 use Rattle.jv_cmd.proofs.DoneLaws.{Going-first}
-use Rattle.jv_cmd.proofs.GoingLaws.{EndsLines-none}
+use Rattle.jv_cmd.proofs.GoingLaws.{EndsScript-none}
 use Rattle.jv_cmd.proofs.StageLaws.{First-fits, First-setting, given_some}
 use Rattle.jv_cmd.proofs.lines.run_script.Goals as goal
 
 pub returns-in_default-clause-runs : goal.returns-in_default-clause-runs
-returns-in_default-clause-runs g c = EndsLines-none _ c.args.setting c.requires.empty
+returns-in_default-clause-runs g c = EndsScript-none _ c.args.setting c.requires.empty
     (First-setting _ c.args.setting c.requires.yard)
 
 pub returns-in_default-clause-yard : goal.returns-in_default-clause-yard

@@ -3,7 +3,7 @@ use Rattle.std.specs.Io.KnownBytes.{prepend_known}
 use Rattle.jv_model.specs.declared.limits.TheConstants.{MAX_LINES}
 use Rattle.jv_cmd.specs.declared.reader.Next.{Next}
 use Rattle.jv_cmd.specs.Cutting.{Finds, CutsText, IsOverlong}
-use Rattle.jv_cmd.proofs.GoingLaws.{Going-read, Turns-front, EndsLines-whole, EndsLines-overlong, EndsLines-too_many, EndsLines-source}
+use Rattle.jv_cmd.proofs.GoingLaws.{Going-read, Turns-front, EndsScript-whole, EndsScript-overlong, EndsScript-too_many, EndsScript-source}
 use Rattle.jv_cmd.proofs.ReadingLaws.{BeginsWith-cut}
 use Rattle.jv_cmd.proofs.lines.turn.Goals as goal
 
@@ -14,7 +14,7 @@ returns-then-done-eq-MAX_LINES-clause-turns g c = λ before going.
     let cut : CutsText left source.content c.next.new.self c.in-Ok-Text.count =
     subst (λ (next : Next). Finds left source.content c.next.new.self (Ok next)) c.in-Ok-Text.field-0-is
     c.in-Ok-Text.ensures.finds in
-    EndsLines-too_many left before _ source c.args.done c.args.schedule.now going c.in-Ok-Text.ensures.counts
+    EndsScript-too_many left before _ source c.args.done c.args.schedule.now going c.in-Ok-Text.ensures.counts
     (take c.in-Ok-Text.count c.next.new.self)
     (BeginsWith-cut left source.content c.next.new.self c.in-Ok-Text.count cut) c.if-done-eq-MAX_LINES.true
 
@@ -42,7 +42,7 @@ returns-in-Ok-TooLong-clause-turns g c = λ before going.
     let long : IsOverlong left =
     subst (λ (next : Next). Finds left source.content c.next.new.self (Ok next)) c.in-Ok-TooLong.field-0-is
     c.in-Ok-TooLong.ensures.finds in
-    EndsLines-overlong left before _ source c.args.done c.args.schedule.now going c.in-Ok-TooLong.ensures.counts long
+    EndsScript-overlong left before _ source c.args.done c.args.schedule.now going c.in-Ok-TooLong.ensures.counts long
 
 pub returns-in-Ok-End-clause-turns : goal.returns-in-Ok-End-clause-turns
 returns-in-Ok-End-clause-turns g c = λ before going.
@@ -50,10 +50,10 @@ returns-in-Ok-End-clause-turns g c = λ before going.
     let left = prepend_known c.args.reader.now (g.S.Source.seen c.args.stage.now.source).content in
     let none = subst (λ (next : Next). Finds left source.content c.next.new.self (Ok next)) c.in-Ok-End.field-0-is
     c.in-Ok-End.ensures.finds in
-    EndsLines-whole left before _ source c.args.done c.args.schedule.now going c.in-Ok-End.ensures.counts none
+    EndsScript-whole left before _ source c.args.done c.args.schedule.now going c.in-Ok-End.ensures.counts none
 
 pub returns-in-Err-clause-turns : goal.returns-in-Err-clause-turns
 returns-in-Err-clause-turns g c = λ before going.
     let source = g.S.Source.seen c.next.new.source in
     let left = prepend_known c.args.reader.now (g.S.Source.seen c.args.stage.now.source).content in
-    EndsLines-source left before _ source c.args.done c.args.schedule.now going c.in-Err.ensures.counts
+    EndsScript-source left before _ source c.args.done c.args.schedule.now going c.in-Err.ensures.counts

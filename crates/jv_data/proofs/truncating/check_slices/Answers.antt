@@ -2,11 +2,9 @@ use Rattle.std.proofs.Common.{◌<◌, List, length, get_or, ap, subst, arith}
 use Rattle.std.proofs.lemmas.Result.{err_from_is_err_and}
 use Rattle.std.proofs.lemmas.List.{take_all}
 use Rattle.jv_model.specs.declared.slice.Rec.{Rec}
+use Rattle.jv_rows.proofs.CountsLaws.{none}
 use Rattle.jv_data.proofs.TruncateLaws.{checking-none, checking-more, checking-fails, checking-all, has_list-then}
 use Rattle.jv_data.proofs.truncating.check_slices.Goals as goal
-
-abbrev none : Rec
-none = record { pos = 0; id = 0; size = 0; off = 0; len = 0 }
 
 pub loop-record-init : goal.loop-record-init
 loop-record-init g c = checking-none c.args.list.now (g.K.Keeper.seen c.args.k.now)

@@ -1,6 +1,6 @@
-use Rattle.std.proofs.Common.{◌≡◌, ◌≤◌, arith, refl, ℕ, Bool, true, false, Option, Ok, sym, ap, subst, ◌∙◌}
+use Rattle.std.proofs.Common.{◌≡◌, refl, Bool, true, false, Option, Ok, sym, ap, subst, ◌∙◌}
 use Rattle.std.specs.Prelude.{◌&&◌, ◌==◌, nat_lt}
-use Rattle.std.proofs.lemmas.Bool.{false_from_ne_true, ltb-true, lt-ltb}
+use Rattle.std.proofs.lemmas.Bool.{le-ltb, lt-ltb}
 use Rattle.std.specs.List.{list_any}
 use Rattle.jv_model.specs.declared.fault.Fault.TheVariants.{Stale}
 use Rattle.jv_model.specs.declared.fault.Gone.TheVariants.{Node as GoneNode}
@@ -12,14 +12,10 @@ use Rattle.jv_model.specs.tree.Tree.{trash_root}
 use Rattle.jv_rows.specs.Drafts.{Sees}
 use Rattle.jv_links.specs.Removals.{MayLose}
 use Rattle.jv_links.specs.declared.fates.Fate.TheVariants.{Trashed, Dropped, Sustained}
-use Rattle.jv_changes.proofs.DraftSteps.{drafting-exit}
-use Rattle.jv_links.proofs.FateLaws.{fate-none, fate-no_setting, fate-made, tells-trashed, tells-sustained, tells-dropped}
+use Rattle.jv_changes.proofs.DraftStepLaws.{drafting-exit}
+use Rattle.jv_links.proofs.FateLaws.{fate-none, fate-no_setting, fate-made, says-trashed, says-sustained, says-dropped}
 use Rattle.jv_links.proofs.fates.fate_of.Goals as goal
 use Rattle.jv_links.proofs.fates.fate_of.Goals.{else-setting-gt0-via-then-setting-gt0+else-dir-lt-TRASH_ROOT, else-setting-gt0-via-else-setting-gt0}
-
-not_less : (a b : ℕ) → b ≤ a → nat_lt a b ≡ false
-not_less a b low = false_from_ne_true (nat_lt a b)
-    (λ less. (let high = ltb-true a b less in absurd (omega (arith, low, high))))
 
 both_false : (x y : Bool) → y ≡ false → (x && y) ≡ false
 both_false true y e = e
@@ -52,14 +48,14 @@ returns-then-dir-lt-TRASH_ROOT-clause-does g c caller place in_dir is_for =
     (g.K.Keeper.seen c.args.k.now) (g.K.Keeper.seen c.node.new.k) (Ok o)) c.in-Some.is c.in_ok-node.ensures)
     (g.K.Keeper.seen c.needed_setting.new.k) c.in_ok-setting.setting c.in_ok-setting.ensures Trashed
 
-pub returns-then-dir-lt-TRASH_ROOT-clause-tells : goal.returns-then-dir-lt-TRASH_ROOT-clause-tells
-returns-then-dir-lt-TRASH_ROOT-clause-tells g c caller place in_dir is_for =
-    tells-trashed caller place c.args.inode c.args.draft.now (g.K.Keeper.seen c.args.k.now)
+pub returns-then-dir-lt-TRASH_ROOT-clause-says : goal.returns-then-dir-lt-TRASH_ROOT-clause-says
+returns-then-dir-lt-TRASH_ROOT-clause-says g c caller place in_dir is_for =
+    says-trashed caller place c.args.inode c.args.draft.now (g.K.Keeper.seen c.args.k.now)
     (g.K.Keeper.seen c.node.new.k) c.in-Some.node
     (subst (λ (o : Option Node). Sees OfNode is_node (node_key c.args.inode) c.args.draft.now
     (g.K.Keeper.seen c.args.k.now) (g.K.Keeper.seen c.node.new.k) (Ok o)) c.in-Some.is c.in_ok-node.ensures)
     (g.K.Keeper.seen c.needed_setting.new.k) c.in_ok-setting.setting c.in_ok-setting.ensures c.args.dir in_dir
-    c.args.who.now.held is_for.held (not_less 1 c.in-Some.node.nlink c.if-node-gt1.false)
+    c.args.who.now.held is_for.held (le-ltb 1 c.in-Some.node.nlink c.if-node-gt1.false)
     (ap (λ b. b && nat_lt c.args.dir trash_root) (lt-ltb 0 c.in_ok-setting.setting.trash_days c.if-setting-gt0.true)
     ∙ lt-ltb c.args.dir trash_root c.if-dir-lt-TRASH_ROOT.true)
 
@@ -71,20 +67,20 @@ returns-then-contains-clause-does g c caller place in_dir is_for =
     (g.K.Keeper.seen c.args.k.now) (g.K.Keeper.seen c.node.new.k) (Ok o)) c.in-Some.is c.in_ok-node.ensures)
     (g.K.Keeper.seen c.needed_setting.new.k) c.in_ok-setting.setting c.in_ok-setting.ensures Sustained
 
-pub returns-then-contains-clause-tells : goal.returns-then-contains-clause-tells
-returns-then-contains-clause-tells g c caller place in_dir is_for =
-    tells-sustained caller place c.args.inode c.args.draft.now (g.K.Keeper.seen c.args.k.now)
+pub returns-then-contains-clause-says : goal.returns-then-contains-clause-says
+returns-then-contains-clause-says g c caller place in_dir is_for =
+    says-sustained caller place c.args.inode c.args.draft.now (g.K.Keeper.seen c.args.k.now)
     (g.K.Keeper.seen c.node.new.k) c.in-Some.node
     (subst (λ (o : Option Node). Sees OfNode is_node (node_key c.args.inode) c.args.draft.now
     (g.K.Keeper.seen c.args.k.now) (g.K.Keeper.seen c.node.new.k) (Ok o)) c.in-Some.is c.in_ok-node.ensures)
     (g.K.Keeper.seen c.needed_setting.new.k) c.in_ok-setting.setting c.in_ok-setting.ensures c.args.dir in_dir
-    c.args.who.now.held is_for.held (not_less 1 c.in-Some.node.nlink c.if-node-gt1.false)
+    c.args.who.now.held is_for.held (le-ltb 1 c.in-Some.node.nlink c.if-node-gt1.false)
     (elim c.else-setting-gt0.branch [
       | else-setting-gt0-via-then-setting-gt0+else-dir-lt-TRASH_ROOT w ↦
           both_false (nat_lt 0 c.in_ok-setting.setting.trash_days) (nat_lt c.args.dir trash_root)
-          (not_less c.args.dir trash_root w.if-dir-lt-TRASH_ROOT.false)
+          (le-ltb c.args.dir trash_root w.if-dir-lt-TRASH_ROOT.false)
       | else-setting-gt0-via-else-setting-gt0 w ↦ ap (λ b. b && nat_lt c.args.dir trash_root)
-          (not_less 0 c.in_ok-setting.setting.trash_days w.if-setting-gt0.false)
+          (le-ltb 0 c.in_ok-setting.setting.trash_days w.if-setting-gt0.false)
     ])
     (ap (list_any (λ h. h == c.args.inode)) (sym c.as_slice.ensures) ∙ sym c.contains.ensures.value
     ∙ c.if-contains.true)
@@ -97,20 +93,20 @@ returns-clause-does g c caller place in_dir is_for =
     (g.K.Keeper.seen c.args.k.now) (g.K.Keeper.seen c.node.new.k) (Ok o)) c.in-Some.is c.in_ok-node.ensures)
     (g.K.Keeper.seen c.needed_setting.new.k) c.in_ok-setting.setting c.in_ok-setting.ensures Dropped
 
-pub returns-clause-tells : goal.returns-clause-tells
-returns-clause-tells g c caller place in_dir is_for =
-    tells-dropped caller place c.args.inode c.args.draft.now (g.K.Keeper.seen c.args.k.now)
+pub returns-clause-says : goal.returns-clause-says
+returns-clause-says g c caller place in_dir is_for =
+    says-dropped caller place c.args.inode c.args.draft.now (g.K.Keeper.seen c.args.k.now)
     (g.K.Keeper.seen c.node.new.k) c.in-Some.node
     (subst (λ (o : Option Node). Sees OfNode is_node (node_key c.args.inode) c.args.draft.now
     (g.K.Keeper.seen c.args.k.now) (g.K.Keeper.seen c.node.new.k) (Ok o)) c.in-Some.is c.in_ok-node.ensures)
     (g.K.Keeper.seen c.needed_setting.new.k) c.in_ok-setting.setting c.in_ok-setting.ensures c.args.dir in_dir
-    c.args.who.now.held is_for.held (not_less 1 c.in-Some.node.nlink c.if-node-gt1.false)
+    c.args.who.now.held is_for.held (le-ltb 1 c.in-Some.node.nlink c.if-node-gt1.false)
     (elim c.else-setting-gt0.branch [
       | else-setting-gt0-via-then-setting-gt0+else-dir-lt-TRASH_ROOT w ↦
           both_false (nat_lt 0 c.in_ok-setting.setting.trash_days) (nat_lt c.args.dir trash_root)
-          (not_less c.args.dir trash_root w.if-dir-lt-TRASH_ROOT.false)
+          (le-ltb c.args.dir trash_root w.if-dir-lt-TRASH_ROOT.false)
       | else-setting-gt0-via-else-setting-gt0 w ↦ ap (λ b. b && nat_lt c.args.dir trash_root)
-          (not_less 0 c.in_ok-setting.setting.trash_days w.if-setting-gt0.false)
+          (le-ltb 0 c.in_ok-setting.setting.trash_days w.if-setting-gt0.false)
     ])
     (ap (list_any (λ h. h == c.args.inode)) (sym c.as_slice.ensures) ∙ sym c.contains.ensures.value
     ∙ c.if-contains.false)

@@ -28,14 +28,14 @@ returns-in-None-clause-does g c caller asks =
     c.rename_to_none.result e
     (c.rename_to_none.ensures caller asks)).does
 
-pub returns-in-None-clause-tells : goal.returns-in-None-clause-tells
-returns-in-None-clause-tells g c caller asks =
+pub returns-in-None-clause-says : goal.returns-in-None-clause-says
+returns-in-None-clause-says g c caller asks =
     let e = rw c.in-None.is at c.in_ok-entry_at.ensures in
     (rename-free caller c.args.path.now c.args.to.now c.args.how c.requires c.args.who.now.sid asks.sid
     (g.K.Keeper.seen c.args.k.now) (g.K.Keeper.seen c.find_ends.new.k)
     c.in_ok-ends.ends c.in_ok-ends.ensures (g.K.Keeper.seen c.entry_at.new.k) (g.K.Keeper.seen c.rename_to_none.new.k)
     c.rename_to_none.result e
-    (c.rename_to_none.ensures caller asks)).tells
+    (c.rename_to_none.ensures caller asks)).says
 
 pub returns-clause-does : goal.returns-clause-does
 returns-clause-does g c caller asks =
@@ -46,11 +46,11 @@ returns-clause-does g c caller asks =
     c.in-Some.other c.rename_over.result e
     (c.rename_over.ensures caller asks)).does
 
-pub returns-clause-tells : goal.returns-clause-tells
-returns-clause-tells g c caller asks =
+pub returns-clause-says : goal.returns-clause-says
+returns-clause-says g c caller asks =
     let e = rw c.in-Some.is at c.in_ok-entry_at.ensures in
     (rename-there caller c.args.path.now c.args.to.now c.args.how c.requires c.args.who.now.sid asks.sid
     (g.K.Keeper.seen c.args.k.now) (g.K.Keeper.seen c.find_ends.new.k)
     c.in_ok-ends.ends c.in_ok-ends.ensures (g.K.Keeper.seen c.entry_at.new.k) (g.K.Keeper.seen c.rename_over.new.k)
     c.in-Some.other c.rename_over.result e
-    (c.rename_over.ensures caller asks)).tells
+    (c.rename_over.ensures caller asks)).says

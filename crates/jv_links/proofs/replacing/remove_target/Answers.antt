@@ -1,6 +1,6 @@
 use Rattle.std.proofs.Common.{Some, eq-eqb, ne_eqb}
 use Rattle.jv_links.specs.Moves.{place_of}
-use Rattle.jv_links.proofs.ClearingLaws.{clear-not_taken, clear-not_dropped, clear-dropped, clear-not_lost, clear-lost, clear-tells}
+use Rattle.jv_links.proofs.ClearingLaws.{clear-not_taken, clear-not_dropped, clear-dropped, clear-not_lost, clear-lost, clear-says}
 use Rattle.jv_links.proofs.replacing.remove_target.Goals as goal
 
 pub returns-in_err-take_entry-clause-does : goal.returns-in_err-take_entry-clause-does
@@ -45,8 +45,8 @@ returns-clause-does g c caller is_for =
     c.in_ok-fate.fate (Some (record { inode = c.args.other.now.inode; fate = c.in_ok-fate.fate }))
     (c.in_ok-fate.ensures.does caller is_for))
 
-pub returns-clause-tells : goal.returns-clause-tells
-returns-clause-tells g c caller is_for =
+pub returns-clause-says : goal.returns-clause-says
+returns-clause-says g c caller is_for =
     rw (ne_eqb c.args.other.now.node.kind 2 c.if-other-eq2.false)
-    (clear-tells caller (place_of c.args.to.now) c.args.other.now.inode c.args.draft.now (g.K.Keeper.seen c.args.k.now)
-    c.in_ok-fate.fate (c.in_ok-fate.ensures.tells caller is_for))
+    (clear-says caller (place_of c.args.to.now) c.args.other.now.inode c.args.draft.now (g.K.Keeper.seen c.args.k.now)
+    c.in_ok-fate.fate (c.in_ok-fate.ensures.says caller is_for))

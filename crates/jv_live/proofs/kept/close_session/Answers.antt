@@ -1,7 +1,7 @@
 use Rattle.std.proofs.Common.{ℕ, Option, Ok, subst}
 use Rattle.std.proofs.lemmas.Result.{err_from_is_err_and}
+use Rattle.jv_model.proofs.TestLaws.{none_unless}
 use Rattle.jv_live.specs.Steps.{FindsKept, letting_go, ending_session}
-use Rattle.jv_live.proofs.SessionLaws.{absent}
 use Rattle.jv_live.proofs.ClosingLaws.{steps-read, dropping-start, dropping-found, dropping-there, dropping-let_go, dropping-may_go, dropping-next, room-falls, close-no_session, close-lost, close-fell, close-stays, close-commits, close-uncommitted}
 use Rattle.jv_live.proofs.kept.close_session.Goals as goal
 
@@ -95,7 +95,7 @@ returns-in_err-end_session g c caller asks =
     let p = err_from_is_err_and c.from_residual-in_err-end_session.result c.from_residual-in_err-end_session.ensures.1 in
     let found = subst (λ (o : Option ℕ). FindsKept c.args.who.now.sid c.loop-draft.after (g.K.Keeper.seen c.loop-draft.k)
     (g.K.Keeper.seen c.next_kept.new.k) (Ok o))
-    (absent c.in_ok-inode.field-0 c.in_default.not-Some) c.in_ok-inode.ensures in
+    (none_unless c.in_ok-inode.field-0 c.in_default.not-Some) c.in_ok-inode.ensures in
     rw (p.1, p.2)
     (close-fell c.args.who.now caller asks (g.K.Keeper.seen c.args.k.now) (g.K.Keeper.seen c.in_session.new.k) c.in_ok-in_session.ensures
     (g.K.Keeper.seen c.next_kept.new.k) c.loop-draft.draft c.loop-draft.invariant.now
@@ -109,7 +109,7 @@ pub returns-in-Ok : goal.returns-in-Ok
 returns-in-Ok g c caller asks =
     let found = subst (λ (o : Option ℕ). FindsKept c.args.who.now.sid c.loop-draft.after (g.K.Keeper.seen c.loop-draft.k)
     (g.K.Keeper.seen c.next_kept.new.k) (Ok o))
-    (absent c.in_ok-inode.field-0 c.in_default.not-Some) c.in_ok-inode.ensures in
+    (none_unless c.in_ok-inode.field-0 c.in_default.not-Some) c.in_ok-inode.ensures in
     close-commits c.args.who.now caller asks (g.K.Keeper.seen c.args.k.now) (g.K.Keeper.seen c.in_session.new.k) c.in_ok-in_session.ensures
     (g.K.Keeper.seen c.loop-draft.k) c.loop-draft.draft c.loop-draft.after c.loop-draft.invariant (g.K.Keeper.seen c.next_kept.new.k) found
     c.end_session.new.draft (c.in_ok-end_session.ensures (g.K.Keeper.seen c.next_kept.new.k)) (g.K.Keeper.seen c.commit.new.k) c.in-Ok.ensures
@@ -118,7 +118,7 @@ pub returns : goal.returns
 returns g c caller asks =
     let found = subst (λ (o : Option ℕ). FindsKept c.args.who.now.sid c.loop-draft.after (g.K.Keeper.seen c.loop-draft.k)
     (g.K.Keeper.seen c.next_kept.new.k) (Ok o))
-    (absent c.in_ok-inode.field-0 c.in_default.not-Some) c.in_ok-inode.ensures in
+    (none_unless c.in_ok-inode.field-0 c.in_default.not-Some) c.in_ok-inode.ensures in
     rw (c.from.ensures)
     (close-uncommitted c.args.who.now caller asks (g.K.Keeper.seen c.args.k.now) (g.K.Keeper.seen c.in_session.new.k) c.in_ok-in_session.ensures
     (g.K.Keeper.seen c.loop-draft.k) c.loop-draft.draft c.loop-draft.after c.loop-draft.invariant (g.K.Keeper.seen c.next_kept.new.k) found

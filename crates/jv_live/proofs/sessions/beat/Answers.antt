@@ -1,11 +1,12 @@
 use Rattle.std.proofs.Common.{ℕ, ◌+◌, Option, Ok, sym, ap, subst, ◌∙◌}
 use Rattle.std.proofs.lemmas.Result.{err_from_is_err_and}
+use Rattle.jv_model.proofs.TestLaws.{none_unless}
 use Rattle.jv_model.specs.declared.row.Row.TheVariants.{OfSession}
 use Rattle.jv_model.specs.declared.row.Session.{Session}
 use Rattle.jv_model.specs.rows.RowGrammar.{is_session}
 use Rattle.jv_model.specs.rows.RowPlaces.{session_key}
 use Rattle.jv_rows.specs.Drafts.{Sees}
-use Rattle.jv_live.proofs.SessionLaws.{absent, beat-unread, beat-gone, beat-fell, beat-commits}
+use Rattle.jv_live.proofs.SessionLaws.{beat-unread, beat-gone, beat-fell, beat-commits}
 use Rattle.jv_live.proofs.sessions.beat.Goals as goal
 
 pub returns-in_err-session : goal.returns-in_err-session
@@ -19,7 +20,7 @@ pub returns-in_default : goal.returns-in_default
 returns-in_default g c caller asks =
     beat-gone c.args.who.now caller asks (g.K.Keeper.seen c.args.k.now) (g.K.Keeper.seen c.session.new.k) c.new-draft.result c.new-draft.ensures
     (subst (λ (found : Option Session). Sees OfSession is_session (session_key c.args.who.now.sid) c.new-draft.result (g.K.Keeper.seen c.args.k.now)
-    (g.K.Keeper.seen c.session.new.k) (Ok found)) (absent c.in_ok-session.field-0 c.in_default.not-Some) c.in_ok-session.ensures)
+    (g.K.Keeper.seen c.session.new.k) (Ok found)) (none_unless c.in_ok-session.field-0 c.in_default.not-Some) c.in_ok-session.ensures)
 
 pub returns-in_err-keep_session : goal.returns-in_err-keep_session
 returns-in_err-keep_session g c caller asks =

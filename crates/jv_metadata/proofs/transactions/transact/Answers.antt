@@ -2,7 +2,7 @@ use Rattle.std.proofs.Common.{refl, sym, ap}
 use Rattle.jv_model.specs.declared.op.Reply.TheVariants.{Done, Found, Described, FileOpened, Entries, Usage, Target}
 use Rattle.jv_links.specs.Removals.{HoldsFiles}
 use Rattle.jv_metadata.specs.Attempts.{attempt}
-use Rattle.jv_metadata.proofs.AttemptLaws.{answers-mapped, transacts-mapped, transacts-always, tells-unlinked, tells-renamed}
+use Rattle.jv_metadata.proofs.AttemptLaws.{answers-mapped, transacts-mapped, transacts-always, says-unlinked, says-renamed}
 use Rattle.jv_metadata.proofs.transactions.transact.Goals as goal
 
 pub returns-in-Umount-clause-does : goal.returns-in-Umount-clause-does
@@ -165,9 +165,9 @@ returns-in-Unlink-clause-does g c caller is asks =
 pub returns-in-Unlink-clause-answers : goal.returns-in-Unlink-clause-answers
 returns-in-Unlink-clause-answers g c = answers-mapped _ (λ x. refl) c.unlink.result c.unlinked.result c.unlinked.ensures
 
-pub returns-in-Unlink-clause-tells : goal.returns-in-Unlink-clause-tells
-returns-in-Unlink-clause-tells g c caller is =
-    tells-unlinked caller (g.K.Keeper.seen c.args.k.now) _ c.args.op.now c.in-Unlink.is c.unlink.result (c.unlink.ensures.tells caller is) c.unlinked.result c.unlinked.ensures
+pub returns-in-Unlink-clause-says : goal.returns-in-Unlink-clause-says
+returns-in-Unlink-clause-says g c caller is =
+    says-unlinked caller (g.K.Keeper.seen c.args.k.now) _ c.args.op.now c.in-Unlink.is c.unlink.result (c.unlink.ensures.says caller is) c.unlinked.result c.unlinked.ensures
 
 pub returns-in-Rename-clause-does : goal.returns-in-Rename-clause-does
 returns-in-Rename-clause-does g c caller is asks =
@@ -177,6 +177,6 @@ returns-in-Rename-clause-does g c caller is asks =
 pub returns-in-Rename-clause-answers : goal.returns-in-Rename-clause-answers
 returns-in-Rename-clause-answers g c = answers-mapped _ (λ x. refl) c.rename.result c.renamed.result c.renamed.ensures
 
-pub returns-in-Rename-clause-tells : goal.returns-in-Rename-clause-tells
-returns-in-Rename-clause-tells g c caller is =
-    tells-renamed caller (g.K.Keeper.seen c.args.k.now) _ _ _ c.args.op.now c.in-Rename.is c.rename.result (c.rename.ensures.tells caller is) c.renamed.result c.renamed.ensures
+pub returns-in-Rename-clause-says : goal.returns-in-Rename-clause-says
+returns-in-Rename-clause-says g c caller is =
+    says-renamed caller (g.K.Keeper.seen c.args.k.now) _ _ _ c.args.op.now c.in-Rename.is c.rename.result (c.rename.ensures.says caller is) c.renamed.result c.renamed.ensures

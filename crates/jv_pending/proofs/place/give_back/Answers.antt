@@ -1,6 +1,6 @@
 use Rattle.std.proofs.Common.{◌∙◌, take, Bool, ap, sym}
 use Rattle.jv_pending.specs.Runs.{given_back}
-use Rattle.jv_pending.proofs.Entries.{removed}
+use Rattle.jv_pending.proofs.EntryLaws.{removed}
 use Rattle.jv_pending.proofs.place.give_back.Goals as goal
 
 pub returns-then-taken : goal.returns-then-taken

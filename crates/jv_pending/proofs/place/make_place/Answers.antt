@@ -1,8 +1,8 @@
 use Rattle.std.proofs.Common.{◌≡◌, ◌+◌, ◌∙◌, List, ℕ, [], ◌∷◌, Bool, false, Option, None, ap, sym, subst, arith}
 use Rattle.std.specs.Option.{is_some}
 use Rattle.jv_pending.specs.Runs.{place_of, bytes_at, Rise, runs_before, runs_from, without_run, with_runs}
-use Rattle.jv_pending.proofs.Parts.{with_before, with_from, with_rise}
-use Rattle.jv_pending.proofs.Entries.{inserted, one_rises, unmade}
+use Rattle.jv_pending.proofs.PartLaws.{with_before, with_from, with_rise}
+use Rattle.jv_pending.proofs.EntryLaws.{inserted, one_rises, unmade}
 use Rattle.jv_pending.proofs.place.make_place.Goals as goal
 
 made : (c : goal.Joined-insert-2) → c.insert.new.self.entries ≡ with_runs ((c.args.start, []) ∷ []) (place_of c.args.start + 1) c.args.runs.now.entries

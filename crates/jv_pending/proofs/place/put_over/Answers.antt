@@ -1,8 +1,8 @@
 use Rattle.std.proofs.Common.{◌≡◌, ◌+◌, ◌∙◌, ◌++◌, ℕ, List, [], ◌∷◌, is_some, ap, sym, subst, arith}
 use Rattle.jv_pending.specs.Runs.{Run, place_of, bytes_at, Rise, runs_before, runs_from, with_runs}
-use Rattle.jv_pending.proofs.Parts.{cut_rise}
-use Rattle.jv_pending.proofs.Outcomes.{some_value}
-use Rattle.jv_pending.proofs.Entries.{left_there, settled}
+use Rattle.jv_pending.proofs.PartLaws.{cut_rise}
+use Rattle.jv_pending.proofs.OutcomeLaws.{some_value}
+use Rattle.jv_pending.proofs.EntryLaws.{left_there, settled}
 use Rattle.jv_pending.proofs.place.put_over.Goals as goal
 
 left : (first high after : ℕ) (es new : List Run) → after ≡ first + 1 → new ≡ runs_before after es ++ runs_from high es → new ≡ runs_before (first + 1) es ++ runs_from high es

@@ -3,8 +3,8 @@ use Rattle.std.specs.Option.{is_some}
 use Rattle.std.specs.Ordering.{is_le}
 use Rattle.std.proofs.lemmas.Bool.{leb-true, leb-false}
 use Rattle.jv_pending.specs.Runs.{Run, place_of, bytes_at, Rise, runs_before, runs_from}
-use Rattle.jv_pending.proofs.Parts.{first_split, first_nothing, first_at, none_between, none_behind, cut_before, cut_from, cut_rise}
-use Rattle.jv_pending.proofs.Entries.{starts_le, there, removed}
+use Rattle.jv_pending.proofs.PartLaws.{first_split, first_nothing, first_at, none_between, none_behind, cut_before, cut_from, cut_rise}
+use Rattle.jv_pending.proofs.EntryLaws.{starts_le, there, removed}
 use Rattle.jv_pending.proofs.place.remove_runs.Goals as goal
 
 pub loop-start-preserved-else-is_le : goal.loop-start-preserved-else-is_le

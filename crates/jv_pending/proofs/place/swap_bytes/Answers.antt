@@ -1,7 +1,7 @@
 use Rattle.std.proofs.Common.{◌+◌, ◌∙◌, List, ℕ, [], ◌∷◌, ap, sym}
 use Rattle.std.specs.Option.{option_copied_mut}
 use Rattle.jv_pending.specs.Runs.{place_of, with_runs}
-use Rattle.jv_pending.proofs.Entries.{swapped}
+use Rattle.jv_pending.proofs.EntryLaws.{swapped}
 use Rattle.jv_pending.proofs.place.swap_bytes.Goals as goal
 
 pub returns-clause-runs : goal.returns-clause-runs

@@ -1,8 +1,8 @@
 use Rattle.std.proofs.Common.{◌≡◌, ◌+◌, ◌∙◌, List, ℕ, [], ◌∷◌, take, is_some, ap, sym, subst, arith}
 use Rattle.std.proofs.lemmas.List.{take_all}
 use Rattle.jv_pending.specs.Runs.{place_of, bytes_at, Rise, runs_before, runs_from, given_back}
-use Rattle.jv_pending.proofs.Parts.{with_before, with_from}
-use Rattle.jv_pending.proofs.Entries.{one_rises, swap_rises, put_there, given_back_is}
+use Rattle.jv_pending.proofs.PartLaws.{with_before, with_from}
+use Rattle.jv_pending.proofs.EntryLaws.{one_rises, swap_rises, put_there, given_back_is}
 use Rattle.jv_pending.proofs.place.take_run.Goals as goal
 
 pub give_back-requires-clause-rise : goal.give_back-requires-clause-rise

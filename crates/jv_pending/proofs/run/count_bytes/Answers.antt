@@ -1,9 +1,9 @@
 use Rattle.std.proofs.Common.{◌≡◌, ◌+◌, ◌≤◌, ◌∙◌, List, ◌∷◌, length, ap, arith}
 use Rattle.std.proofs.lemmas.List.{length-append}
 use Rattle.jv_pending.specs.Runs.{Run, place_of, placed, pending_bytes}
-use Rattle.jv_pending.proofs.Order.{length-placed}
-use Rattle.jv_pending.proofs.Windows.{count_parts}
-use Rattle.jv_pending.proofs.Entries.{between_within}
+use Rattle.jv_pending.proofs.OrderLaws.{length-placed}
+use Rattle.jv_pending.proofs.WindowLaws.{count_parts}
+use Rattle.jv_pending.proofs.EntryLaws.{between_within}
 use Rattle.jv_pending.proofs.run.count_bytes.Goals as goal
 
 one_more : (r : Run) (rs : List Run) → length (pending_bytes (r ∷ rs)) ≡ length r.1 + length (pending_bytes rs)

@@ -1,7 +1,7 @@
 use Rattle.std.proofs.Common.{◌∙◌, sym, arith}
-use Rattle.jv_pending.proofs.Parts.{Rise-order}
-use Rattle.jv_pending.proofs.Touched.{last_is_run}
-use Rattle.jv_pending.proofs.Segments.{end_is, end_none, end_other}
+use Rattle.jv_pending.proofs.PartLaws.{Rise-order}
+use Rattle.jv_pending.proofs.TouchedLaws.{last_is_run}
+use Rattle.jv_pending.proofs.SegmentRunLaws.{end_is, end_none, end_other}
 use Rattle.jv_pending.proofs.run.find_end.Goals as goal
 
 pub last_before-requires-clause-rise : goal.last_before-requires-clause-rise

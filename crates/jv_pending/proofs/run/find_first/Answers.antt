@@ -3,8 +3,8 @@ use Rattle.std.specs.Option.{option_map}
 use Rattle.jv_model.specs.client.Pending.{Segment, next_segment, first_segment}
 use Rattle.jv_pending.specs.At.{segment_at}
 use Rattle.jv_pending.specs.Runs.{pending_bytes}
-use Rattle.jv_pending.proofs.Parts.{Rise-order}
-use Rattle.jv_pending.proofs.Segments.{first_of_all, first_is_own, none_of_all, own_first, own_none, own_other, first_is_run}
+use Rattle.jv_pending.proofs.PartLaws.{Rise-order}
+use Rattle.jv_pending.proofs.SegmentRunLaws.{first_of_all, first_is_own, none_of_all, own_first, own_none, own_other, first_is_run}
 use Rattle.jv_pending.proofs.run.find_first.Goals as goal
 
 pub first_from-requires-clause-rise : goal.first_from-requires-clause-rise

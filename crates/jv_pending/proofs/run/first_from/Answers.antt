@@ -1,15 +1,15 @@
 use Rattle.std.proofs.Common.{◌∙◌, ap, sym}
 use Rattle.std.specs.Option.{option_map}
-use Rattle.jv_pending.specs.Runs.{first_of}
-use Rattle.jv_pending.proofs.Entries.{between_from}
+use Rattle.jv_pending.proofs.EntryLaws.{between_from}
 use Rattle.jv_pending.proofs.run.first_from.Goals as goal
+use Rattle.jv_model.specs.Lists.{first_item}
 
 pub returns-in_err-start : goal.returns-in_err-start
 returns-in_err-start c =
     let range = c.range.ensures.between tt ∙ between_from c.args.start 0 c.args.runs.now.entries c.requires.file c.requires.rise in
-    ap (option_map (λ r. (r.0, r.1.now))) c.from_residual.ensures ∙ ap first_of (sym c.in_err-start.ensures.steps.0 ∙ range)
+    ap (option_map (λ r. (r.0, r.1.now))) c.from_residual.ensures ∙ ap first_item (sym c.in_err-start.ensures.steps.0 ∙ range)
 
 pub returns : goal.returns
 returns c =
     let range = c.range.ensures.between tt ∙ between_from c.args.start 0 c.args.runs.now.entries c.requires.file c.requires.rise in
-    ap first_of (sym c.in_ok-start.ensures.steps ∙ range)
+    ap first_item (sym c.in_ok-start.ensures.steps ∙ range)

@@ -1,8 +1,8 @@
 use Rattle.std.proofs.Common.{arith}
 use Rattle.jv_pending.specs.Runs.{pending_bytes}
-use Rattle.jv_pending.proofs.Bytes.{written_length}
-use Rattle.jv_pending.proofs.Parts.{Rise-order}
-use Rattle.jv_pending.proofs.Windows.{mid_count, counted}
+use Rattle.jv_pending.proofs.ByteLaws.{written_length}
+use Rattle.jv_pending.proofs.PartLaws.{Rise-order}
+use Rattle.jv_pending.proofs.WindowLaws.{mid_count, counted}
 use Rattle.jv_pending.proofs.write.count_written.Goals as goal
 
 pub count_bytes-requires-clause-rise : goal.count_bytes-requires-clause-rise

@@ -1,10 +1,11 @@
 use Rattle.std.proofs.Common.{◌≡◌, Some, None, subst, arith}
-use Rattle.jv_pending.specs.Runs.{Run, place_of, last_of, runs_before}
-use Rattle.jv_pending.proofs.Parts.{Rise-order}
-use Rattle.jv_pending.proofs.Joins.{gap_le}
-use Rattle.jv_pending.proofs.Touched.{last_is_run, first_reaches, first_none, first_apart}
+use Rattle.jv_pending.specs.Runs.{Run, place_of, runs_before}
+use Rattle.jv_pending.proofs.PartLaws.{Rise-order}
+use Rattle.jv_pending.proofs.JoinLaws.{gap_le}
+use Rattle.jv_pending.proofs.TouchedLaws.{last_is_run, first_reaches, first_none, first_apart}
 use Rattle.jv_pending.proofs.write.first_touched.Goals as goal
 use Rattle.jv_pending.proofs.write.first_touched.Goals.{else-start-inode-via-then-start-inode+else-from-end, else-start-inode-via-else-start-inode}
+use Rattle.jv_model.specs.Lists.{last_item}
 
 pub last_before-requires-clause-rise : goal.last_before-requires-clause-rise
 last_before-requires-clause-rise c = Rise-order 0 c.args.runs.now.entries c.requires.order
@@ -27,7 +28,7 @@ pub returns-then-from-end : goal.returns-then-from-end
 returns-then-from-end c =
     let rs = c.args.runs.now.entries in
     let r : Run = (c.in-Some.start, c.in-Some.bytes.now) in
-    let last = subst (λ n. Some r ≡ last_of (runs_before n rs)) c.next.ensures.place c.in-Some.ensures in
+    let last = subst (λ n. Some r ≡ last_item (runs_before n rs)) c.next.ensures.place c.in-Some.ensures in
     let e = c.end.ensures in
     let g = c.free_before.ensures in
     let t = c.if-from-end.true in
@@ -37,7 +38,7 @@ pub returns-else-start-inode : goal.returns-else-start-inode
 returns-else-start-inode c =
     let rs = c.args.runs.now.entries in
     let r : Run = (c.in-Some.start, c.in-Some.bytes.now) in
-    let last = subst (λ n. Some r ≡ last_of (runs_before n rs)) c.next.ensures.place c.in-Some.ensures in
+    let last = subst (λ n. Some r ≡ last_item (runs_before n rs)) c.next.ensures.place c.in-Some.ensures in
     elim c.else-start-inode.branch [
       | else-start-inode-via-then-start-inode+else-from-end w ↦
           let e = w.end.ensures in
@@ -50,4 +51,4 @@ returns-else-start-inode c =
 pub returns-in_default : goal.returns-in_default
 returns-in_default c =
     let rs = c.args.runs.now.entries in
-    first_none c.args.inode c.args.from rs c.requires.order (subst (λ n. None ≡ last_of (runs_before n rs)) c.next.ensures.place c.in_default.ensures)
+    first_none c.args.inode c.args.from rs c.requires.order (subst (λ n. None ≡ last_item (runs_before n rs)) c.next.ensures.place c.in_default.ensures)

@@ -1,6 +1,6 @@
 use Rattle.std.proofs.Common.{◌-◌, ◌∙◌, ℕ, List, [], take, Option, unwrap_or, ap, sym}
 use Rattle.std.proofs.lemmas.List.{take_min}
-use Rattle.jv_pending.proofs.Touched.{take_none}
+use Rattle.jv_pending.proofs.TouchedLaws.{take_none}
 use Rattle.jv_pending.proofs.write.head.Goals as goal
 
 pub returns : goal.returns

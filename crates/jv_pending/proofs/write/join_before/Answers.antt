@@ -1,10 +1,10 @@
 use Rattle.std.proofs.Common.{◌+◌, ◌-◌, ◌∙◌, ◌++◌, ℕ, List, [], ◌∷◌, length, drop, is_some, ap, sym, subst, arith}
 use Rattle.jv_model.proofs.TestLaws.{some_same}
 use Rattle.jv_pending.specs.Runs.{place_of, bytes_at, Rise, with_runs}
-use Rattle.jv_pending.proofs.Parts.{with_with}
-use Rattle.jv_pending.proofs.Outcomes.{some_value}
-use Rattle.jv_pending.proofs.Touched.{last_file, last_there, tail_there}
-use Rattle.jv_pending.proofs.Entries.{one_rises, swap_rises, swap_over, put_there, put_back, kept_there}
+use Rattle.jv_pending.proofs.PartLaws.{with_with}
+use Rattle.jv_pending.proofs.OutcomeLaws.{some_value}
+use Rattle.jv_pending.proofs.TouchedLaws.{last_file, last_there, tail_there}
+use Rattle.jv_pending.proofs.EntryLaws.{one_rises, swap_rises, swap_over, put_there, put_back, kept_there}
 use Rattle.jv_pending.proofs.write.join_before.Goals as goal
 
 pub swap_bytes-run-requires-clause-file : goal.swap_bytes-run-requires-clause-file

@@ -1,9 +1,9 @@
 use Rattle.std.proofs.Common.{◌≡◌, ◌+◌, arith}
 use Rattle.jv_pending.specs.Runs.{place, place_of, gap}
-use Rattle.jv_pending.proofs.Parts.{Rise-order}
-use Rattle.jv_pending.proofs.Joins.{gap_le}
-use Rattle.jv_pending.proofs.Touched.{last_is_run}
-use Rattle.jv_pending.proofs.Only.{only_it}
+use Rattle.jv_pending.proofs.PartLaws.{Rise-order}
+use Rattle.jv_pending.proofs.JoinLaws.{gap_le}
+use Rattle.jv_pending.proofs.TouchedLaws.{last_is_run}
+use Rattle.jv_pending.proofs.OneRunLaws.{only_it}
 use Rattle.jv_pending.proofs.write.only_touched.Goals as goal
 
 pub last_before-requires-clause-rise : goal.last_before-requires-clause-rise

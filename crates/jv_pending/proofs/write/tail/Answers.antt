@@ -3,8 +3,8 @@ use Rattle.std.proofs.lemmas.Bool.{leb-true, leb-false}
 use Rattle.std.proofs.lemmas.List.{take_rest, drop_min}
 use Rattle.std.specs.Ordering.{is_le}
 use Rattle.jv_pending.specs.Runs.{Run, place_of}
-use Rattle.jv_pending.proofs.Touched.{last_file, tail_there, tail_early, tail_none}
-use Rattle.jv_pending.proofs.Entries.{starts_le}
+use Rattle.jv_pending.proofs.TouchedLaws.{last_file, tail_there, tail_early, tail_none}
+use Rattle.jv_pending.proofs.EntryLaws.{starts_le}
 use Rattle.jv_pending.proofs.write.tail.Goals as goal
 use Rattle.jv_pending.proofs.write.tail.Goals.{in_default-via-in-Some+else-is_le, in_default-via-in_default}
 

@@ -1,9 +1,9 @@
 use Rattle.std.proofs.Common.{◌≡◌, ◌+◌, ◌-◌, ◌∙◌, List, ℕ, [], ◌∷◌, Some, length, ap, sym}
 use Rattle.std.specs.Option.{option_copied_mut}
 use Rattle.jv_pending.specs.Runs.{place_of, bytes_at, with_runs, joined_behind}
-use Rattle.jv_pending.proofs.Parts.{Rise-order}
-use Rattle.jv_pending.proofs.Entries.{swapped, put_back}
-use Rattle.jv_pending.proofs.Only.{file_only, reaches_only, order_only, written_only, count_only}
+use Rattle.jv_pending.proofs.PartLaws.{Rise-order}
+use Rattle.jv_pending.proofs.EntryLaws.{swapped, put_back}
+use Rattle.jv_pending.proofs.OneRunLaws.{file_only, reaches_only, order_only, written_only, count_only}
 use Rattle.jv_pending.proofs.write.write_into.Goals as goal
 
 pub grow-requires : goal.grow-requires

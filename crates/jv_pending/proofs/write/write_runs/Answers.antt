@@ -1,10 +1,10 @@
 use Rattle.std.proofs.Common.{◌+◌, ◌∙◌, length, ap, sym, subst, arith}
 use Rattle.jv_model.specs.client.Pending.{written}
 use Rattle.jv_pending.specs.Runs.{pending_bytes, IsFirst}
-use Rattle.jv_pending.proofs.Bytes.{written_length}
-use Rattle.jv_pending.proofs.Parts.{Rise-order}
-use Rattle.jv_pending.proofs.Touched.{touched}
-use Rattle.jv_pending.proofs.Written.{starts, all_order, all_written}
+use Rattle.jv_pending.proofs.ByteLaws.{written_length}
+use Rattle.jv_pending.proofs.PartLaws.{Rise-order}
+use Rattle.jv_pending.proofs.TouchedLaws.{touched}
+use Rattle.jv_pending.proofs.WrittenLaws.{starts, all_order, all_written}
 use Rattle.jv_pending.proofs.write.write_runs.Goals as goal
 
 pub overflow_add-result : goal.overflow_add-result

@@ -1,9 +1,9 @@
 use Rattle.std.proofs.Common.{◌≡◌, ◌+◌, ◌-◌, ◌≤◌, ◌∙◌, List, ℕ, [], ◌∷◌, take, length, ap, sym, subst, arith}
 use Rattle.std.proofs.lemmas.List.{take_all}
 use Rattle.jv_pending.specs.Runs.{Run, place_of, Rise, runs_within, with_runs, tail_of, joined_behind}
-use Rattle.jv_pending.proofs.Parts.{with_rise}
-use Rattle.jv_pending.proofs.Entries.{one_rises}
-use Rattle.jv_pending.proofs.Written.{first_file, is_forward, reaches_here, window_written, within_same, put_same}
+use Rattle.jv_pending.proofs.PartLaws.{with_rise}
+use Rattle.jv_pending.proofs.EntryLaws.{one_rises}
+use Rattle.jv_pending.proofs.WrittenLaws.{first_file, is_forward, reaches_here, window_written, within_same, put_same}
 use Rattle.jv_pending.proofs.write.write_window.Goals as goal
 
 whole : (len : ℕ) (run v : List ℕ) → take len run ≡ v → length run ≤ len → run ≡ v

@@ -1,7 +1,7 @@
 use Rattle.std.proofs.Common.{length}
-use Rattle.jv_model.specs.script.Grammar.{parted}
 use Rattle.jv_script.specs.Reading.{Leaves}
 use Rattle.jv_script.proofs.short_parts.push_short_parts.Given as goal
+use Rattle.jv_model.specs.Lists.{parted}
 
 abbrev pub invariant-loop-parts : goal.invariant-loop-parts
 invariant-loop-parts l = Leaves l.initial.bytes.items l.text l.bytes.items l.rest

@@ -1,6 +1,9 @@
 -- One more client's blocks are found.
-use Rattle.std.proofs.Common.{◌+◌, ◌∙◌, ap, subst}
+use Rattle.std.proofs.Common.{◌+◌, ◌∙◌, ap, subst, arith}
+use Rattle.std.specs.Prelude.{unwrap_or}
 use Rattle.std.proofs.lemmas.List.{length_push}
+use Rattle.std.proofs.lemmas.Option.{slice_get_past}
+use Rattle.jv_model.specs.FiniteMap.{empty_map}
 use Rattle.jv_yard.specs.Starting.{IsFound}
 use Rattle.jv_yard.proofs.PageLaws.{clients-more}
 use Rattle.jv_yard.proofs.finding.find_staged.Goals as goal
@@ -16,3 +19,10 @@ loop-c-preserved g c =
       long = ap (λ n. n + 1) c.loop-c.invariant.long;
       found = clients-more setting content c.loop-c.clients one c.loop-c.c c.loop-c.invariant.long found c.loop-c.invariant.found;
     })
+
+pub returns : goal.returns
+returns g c = (
+  c.loop-c.invariant.same,
+  λ client low. c.loop-c.invariant.found client (omega arith),
+  λ client high. ap (λ found. unwrap_or found empty_map) (slice_get_past c.loop-c.clients client (omega arith)),
+)

@@ -1,4 +1,4 @@
--- A reading begins, and goes ahead as far as it wants no request.
+-- A reading begins, and goes ahead as far as it needs no request.
 use Rattle.std.proofs.Common.{◌≡◌, Option, sym, ap, subst, ◌∙◌}
 use Rattle.std.specs.Option.{option_map}
 use Rattle.jv_cache.specs.Cached.{Cached}

@@ -26,7 +26,7 @@ pub returns-in-Answers-Count-clause-made : goal.returns-in-Answers-Count-clause-
 returns-in-Answers-Count-clause-made g c = c.write.ensures c.args.now c.args.entry _
 
 pub returns-in-Answers-CacheStats-clause-made : goal.returns-in-Answers-CacheStats-clause-made
-returns-in-Answers-CacheStats-clause-made g c = c.tell_stats.ensures.made c.args.now c.args.entry _
+returns-in-Answers-CacheStats-clause-made g c = c.say_stats.ensures.made c.args.now c.args.entry _
 
 pub returns-in_default-does-clause-made : goal.returns-in_default-does-clause-made
 returns-in_default-does-clause-made g c = c.end_at_once.ensures.made c.args.now c.args.entry _
@@ -55,7 +55,7 @@ returns-in-Reads-clause-stats g c =
     stats-does c.args.self.now _ (Reads c.in-Reads.offset c.in-Reads.len) (c.does.ensures ∙ ap Some c.in-Reads.is) refl
 
 pub returns-in-Answers-CacheStats-clause-stats : goal.returns-in-Answers-CacheStats-clause-stats
-returns-in-Answers-CacheStats-clause-stats g c = stats-told c.args.self.now _ c.tell_stats.ensures.numbers
+returns-in-Answers-CacheStats-clause-stats g c = stats-told c.args.self.now _ c.say_stats.ensures.numbers
 
 pub returns-in_default-does-clause-stats : goal.returns-in_default-does-clause-stats
 returns-in_default-does-clause-stats g c = c.end_at_once.ensures.stats

@@ -1,4 +1,4 @@
--- The next request of a reading, or its answer where it wants none.
+-- The next request of a reading, or its answer where it needs none.
 use Rattle.std.proofs.Common.{sym, ap, ◌∙◌}
 use Rattle.jv_model.specs.declared.setting.Setting.{Setting}
 use Rattle.jv_client.proofs.ReadingLaws.{ahead-already}

@@ -11,9 +11,9 @@ returns-in_err-matches-clause-asked c =
 pub returns-in-Ok-clause-asked : goal.returns-in-Ok-clause-asked
 returns-in-Ok-clause-asked c = asked_of _ c.in_ok-matches.matches c.in_ok-matches.ensures ∙ c.in-Ok.ensures
 
-pub returns-in-Err-Off-clause-asked : goal.returns-in-Err-Off-clause-asked
-returns-in-Err-Off-clause-asked c =
-    let nothing = rw c.in-Err-Off.field-0-is at c.in-Err-Off.ensures in
+pub returns-in-Err-OutOfRange-clause-asked : goal.returns-in-Err-OutOfRange-clause-asked
+returns-in-Err-OutOfRange-clause-asked c =
+    let nothing = rw c.in-Err-OutOfRange.field-0-is at c.in-Err-OutOfRange.ensures in
     off_words _ c.refused.result (asked_of _ c.in_ok-matches.matches c.in_ok-matches.ensures ∙ nothing)
 
 pub returns-in_err-matches-clause-refusal : goal.returns-in_err-matches-clause-refusal
@@ -21,5 +21,5 @@ returns-in_err-matches-clause-refusal c =
     let told = err_from_is_err_and c.from_residual.result c.from_residual.ensures.1 in
     rw (told.1, told.2) (Refuses-parsed _ c.in_err-matches.field-0.0 c.in_err-matches.ensures)
 
-pub returns-in-Err-Off-clause-refusal : goal.returns-in-Err-Off-clause-refusal
-returns-in-Err-Off-clause-refusal c = Refuses-own _ c.refused.result c.refused.ensures
+pub returns-in-Err-OutOfRange-clause-refusal : goal.returns-in-Err-OutOfRange-clause-refusal
+returns-in-Err-OutOfRange-clause-refusal c = Refuses-own _ c.refused.result c.refused.ensures

@@ -1,5 +1,5 @@
 use Rattle.std.proofs.Common.{sym, ap, ◌∙◌}
-use Rattle.jv_fetching.specs.declared.fetch.Course.{Course}
+use Rattle.jv_fetching.specs.declared.fetch.FetchCourse.{FetchCourse}
 use Rattle.jv_fetching.specs.Fetching.{Fetching}
 use Rattle.jv_fetching.specs.Inside.{parts_of, reads_of, waiting}
 use Rattle.jv_fetching.proofs.fetch.Fetch.fill_from.Goals as goal
@@ -12,9 +12,9 @@ returns c =
       begun = begun;
       part = part;
       was = ap (λ (f : Fetching). f.begun) (sym c.self.view_is)
-          ∙ ap (λ (course : Course). course.begun) (sym c.deref_mut.ensures.value) ∙ c.in-Some.is;
+          ∙ ap (λ (course : FetchCourse). course.begun) (sym c.deref_mut.ensures.value) ∙ c.in-Some.is;
       fills = c.fill_cached.ensures;
-      is = ap (λ (course : Course). waiting begun part (record {
+      is = ap (λ (course : FetchCourse). waiting begun part (record {
         block = c.self.inside.block;
         parts = parts_of course.parts;
         begun = course.begun;

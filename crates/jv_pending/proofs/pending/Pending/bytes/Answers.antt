@@ -2,8 +2,8 @@ use Rattle.std.proofs.Common.{◌≡◌, true, subst}
 use Rattle.jv_model.specs.client.Pending.{is_rising}
 use Rattle.jv_pending.specs.Held.{PendingValue}
 use Rattle.jv_pending.specs.Runs.{pending_bytes}
-use Rattle.jv_pending.proofs.Order.{Rises-runs}
-use Rattle.jv_pending.proofs.Segments.{rising}
+use Rattle.jv_pending.proofs.OrderLaws.{Rises-runs}
+use Rattle.jv_pending.proofs.SegmentRunLaws.{rising}
 use Rattle.jv_pending.proofs.pending.Pending.bytes.Goals as goal
 
 pub returns-clause-rising : goal.returns-clause-rising

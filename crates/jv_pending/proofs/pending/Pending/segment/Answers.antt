@@ -5,9 +5,9 @@ use Rattle.jv_model.proofs.TestLaws.{some_same}
 use Rattle.jv_pending.specs.At.{segment_at}
 use Rattle.jv_pending.specs.Held.{PendingValue}
 use Rattle.jv_pending.specs.Runs.{pending_bytes}
-use Rattle.jv_pending.proofs.Outcomes.{some_copied}
-use Rattle.jv_pending.proofs.Segments.{named, named_bytes, rising}
-use Rattle.jv_pending.proofs.Order.{Rises-runs}
+use Rattle.jv_pending.proofs.OutcomeLaws.{some_copied}
+use Rattle.jv_pending.proofs.SegmentRunLaws.{named, named_bytes, rising}
+use Rattle.jv_pending.proofs.OrderLaws.{Rises-runs}
 use Rattle.jv_pending.proofs.pending.Pending.segment.Goals as goal
 
 pub unwrap-requires : goal.unwrap-requires

@@ -4,9 +4,9 @@ use Rattle.jv_model.proofs.TestLaws.{some_same}
 use Rattle.jv_pending.specs.At.{segment_at}
 use Rattle.jv_pending.specs.Held.{PendingValue}
 use Rattle.jv_pending.specs.Runs.{Run, InOrder, pending_bytes}
-use Rattle.jv_pending.proofs.Parts.{Rise-order}
-use Rattle.jv_pending.proofs.Entries.{removed}
-use Rattle.jv_pending.proofs.Segments.{named, named_bytes, taken_order, taken, taken_count}
+use Rattle.jv_pending.proofs.PartLaws.{Rise-order}
+use Rattle.jv_pending.proofs.EntryLaws.{removed}
+use Rattle.jv_pending.proofs.SegmentRunLaws.{named, named_bytes, taken_order, taken, taken_count}
 use Rattle.jv_pending.proofs.SegmentLaws.{length-without}
 use Rattle.jv_pending.proofs.pending.Pending.take.Goals as goal
 

@@ -2,9 +2,9 @@ use Rattle.std.proofs.Common.{◌≡◌, ◌∙◌, List, true, length, ap, subs
 use Rattle.jv_model.specs.client.Pending.{is_rising, pending_of_others}
 use Rattle.jv_pending.specs.Held.{PendingValue}
 use Rattle.jv_pending.specs.Runs.{Run, InOrder, pending_bytes}
-use Rattle.jv_pending.proofs.Bytes.{written_length}
-use Rattle.jv_pending.proofs.Order.{Rises-runs}
-use Rattle.jv_pending.proofs.Segments.{rising}
+use Rattle.jv_pending.proofs.ByteLaws.{written_length}
+use Rattle.jv_pending.proofs.OrderLaws.{Rises-runs}
+use Rattle.jv_pending.proofs.SegmentRunLaws.{rising}
 use Rattle.jv_pending.proofs.SegmentLaws.{written_others}
 use Rattle.jv_pending.proofs.pending.Pending.write.Goals as goal
 

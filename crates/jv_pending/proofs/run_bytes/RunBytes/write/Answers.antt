@@ -1,6 +1,6 @@
 use Rattle.std.proofs.Common.{◌∙◌, List, ℕ, length, drop, length-drop, ap, arith}
 use Rattle.jv_pending.specs.Runs.{joined_behind}
-use Rattle.jv_pending.proofs.Outcomes.{map_ok}
+use Rattle.jv_pending.proofs.OutcomeLaws.{map_ok}
 use Rattle.jv_pending.proofs.RunBytesLaws.{joined_behind_room}
 use Rattle.jv_pending.proofs.run_bytes.RunBytes.write.Goals as goal
 

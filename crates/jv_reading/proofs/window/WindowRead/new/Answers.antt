@@ -54,9 +54,9 @@ returns-clause-named c =
     (needed_All (IsNamed list block) block pieces (pieces_named list block pieces c.requires.some c.in_ok-pieces.ensures.parts c.in_ok-pieces.ensures.named))
 
 pub returns-clause-reads : goal.returns-clause-reads
-returns-clause-reads c = λ told.
+returns-clause-reads c = λ known_bytes.
     let needed = c.into_vec-needed.result.items in
     let bytes = c.in_ok-bytes.bytes.items in
-    subst (λ (records : List Rec). ReadsAs told (record { list = records; from = c.args.from; to = c.args.to; block = c.args.block; left = needed; bytes = bytes })) (sym c.of.ensures)
-    (reads_none told c.args.block c.args.list.now c.args.from c.args.to c.in_ok-pieces.pieces needed bytes c.requires.some c.in_ok-pieces.ensures.plan c.in_ok-pieces.ensures.says
+    subst (λ (records : List Rec). ReadsAs known_bytes (record { list = records; from = c.args.from; to = c.args.to; block = c.args.block; left = needed; bytes = bytes })) (sym c.of.ensures)
+    (reads_none known_bytes c.args.block c.args.list.now c.args.from c.args.to c.in_ok-pieces.pieces needed bytes c.requires.some c.in_ok-pieces.ensures.plan c.in_ok-pieces.ensures.says
     (c.into_vec-needed.ensures ∙ c.in_ok-needs.ensures) c.in_ok-bytes.ensures.zeros)

@@ -1,6 +1,6 @@
 use Rattle.jv_model.specs.declared.row.Row.TheVariants.{OfDropped}
 use Rattle.jv_rows.specs.Tables.{dropped_row}
-use Rattle.jv_rows.proofs.ExactRows.{dropped_exact}
+use Rattle.jv_rows.proofs.ExactRowLaws.{dropped_exact}
 use Rattle.jv_rows.proofs.SpelledLaws.{spelled_row}
 use Rattle.jv_rows.proofs.grammar.DroppedSpelled.spell.Goals as goal
 

@@ -1,6 +1,6 @@
 use Rattle.jv_model.specs.declared.row.Row.TheVariants.{OfEdge}
 use Rattle.jv_rows.specs.Tables.{edge_row}
-use Rattle.jv_rows.proofs.ExactRows.{edge_exact}
+use Rattle.jv_rows.proofs.ExactRowLaws.{edge_exact}
 use Rattle.jv_rows.proofs.SpelledLaws.{spelled_row}
 use Rattle.jv_rows.proofs.grammar.EdgeSpelled.spell.Goals as goal
 

@@ -1,6 +1,6 @@
 use Rattle.jv_model.specs.declared.row.Row.TheVariants.{OfNode}
 use Rattle.jv_rows.specs.Tables.{node_row}
-use Rattle.jv_rows.proofs.ExactRows.{node_exact}
+use Rattle.jv_rows.proofs.ExactRowLaws.{node_exact}
 use Rattle.jv_rows.proofs.SpelledLaws.{spelled_row}
 use Rattle.jv_rows.proofs.grammar.NodeSpelled.spell.Goals as goal
 

@@ -1,6 +1,6 @@
 use Rattle.jv_model.specs.declared.row.Row.TheVariants.{OfSlice}
 use Rattle.jv_rows.specs.Tables.{slice_row}
-use Rattle.jv_rows.proofs.ExactRows.{slice_exact}
+use Rattle.jv_rows.proofs.ExactRowLaws.{slice_exact}
 use Rattle.jv_rows.proofs.SpelledLaws.{spelled_row}
 use Rattle.jv_rows.proofs.grammar.SliceRowSpelled.spell.Goals as goal
 

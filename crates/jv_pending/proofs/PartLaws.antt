@@ -4,8 +4,10 @@ use Rattle.std.proofs.lemmas.Bool.{cases_lt, cond-true, cond-false, lt-ltb, le-l
 use Rattle.std.proofs.lemmas.List.{append-nil}
 use Rattle.std.proofs.lemmas.Option.{none-some}
 use Rattle.std.proofs.lemmas.List.Elements.{filter-append}
+use Rattle.jv_model.specs.declared.limits.TheConstants.{FILE_END}
 use Rattle.jv_model.proofs.TestLaws.{some_same}
-use Rattle.jv_pending.specs.Runs.{Run, Before, start_place, end_place, Rise, InOrder, runs_before, runs_from, runs_within, first_of, last_of, first_place, with_runs}
+use Rattle.jv_model.specs.Lists.{first_item, last_item}
+use Rattle.jv_pending.specs.Runs.{Run, Before, start_place, end_place, Rise, InOrder, runs_before, runs_from, runs_within, first_place, with_runs}
 
 pub before_yes : (n : ℕ) (r : Run) (rs : List Run) → start_place r < n → runs_before n (r ∷ rs) ≡ r ∷ runs_before n rs
 before_yes n r rs h = cond-true (ltb (start_place r) n) (r ∷ runs_before n rs) (runs_before n rs) (lt-ltb (start_place r) n h)
@@ -84,7 +86,7 @@ whole n low (x ∷ rs) r =
     (λ g. let s : Rise n (x ∷ rs) = (r.0, g, r.2) in ap (λ (t : List Run). t ++ runs_from n (x ∷ rs)) (before_none n n (x ∷ rs) (omega arith) s) ∙ from_all n n (x ∷ rs) (omega arith) s)
     (cases_lt (start_place x) n)
 
-pub last_end : (xs : List Run) (r : Run) → last_of (xs ++ r ∷ []) ≡ Some r
+pub last_end : (xs : List Run) (r : Run) → last_item (xs ++ r ∷ []) ≡ Some r
 last_end [] r = refl
 last_end (x ∷ []) r = refl
 last_end (x ∷ y ∷ xs) r = last_end (y ∷ xs) r
@@ -102,7 +104,7 @@ pub Before-end : (n : ℕ) (xs : List Run) (r : Run) → Before n xs → start_p
 Before-end n [] r b h = (h, tt)
 Before-end n (x ∷ xs) r b h = (b.0, Before-end n xs r b.1 h)
 
-pub file_last : (low : ℕ) (xs : List Run) (r : Run) → Rise low (xs ++ r ∷ []) → r.0.from < 1099511627776
+pub file_last : (low : ℕ) (xs : List Run) (r : Run) → Rise low (xs ++ r ∷ []) → r.0.from < FILE_END
 file_last low [] r h = h.0
 file_last low (x ∷ xs) r h = file_last (start_place x + 1) xs r h.2
 
@@ -228,15 +230,15 @@ module _ (lo hi low : ℕ) (es : List Run) (h : lo ≤ hi) (e : Rise low es) whe
       (Before-weaker lo hi (runs_before lo es) h (Before-before lo es)) (Rise-from hi low es e)
 
 -- the first run from a place on
-pub first_split : (xs : List Run) (r : Run) → Some r ≡ first_of xs → (t : List Run) × (xs ≡ r ∷ t)
+pub first_split : (xs : List Run) (r : Run) → Some r ≡ first_item xs → (t : List Run) × (xs ≡ r ∷ t)
 first_split [] r h = absurd (none-some r (sym h))
 first_split (x ∷ xs) r h = (xs, ap (λ (y : Run). y ∷ xs) (let q : Some r ≡ Some x = h in sym (some_same r x q)))
 
-pub first_nothing : (xs : List Run) → None ≡ first_of xs → xs ≡ []
+pub first_nothing : (xs : List Run) → None ≡ first_item xs → xs ≡ []
 first_nothing [] h = refl
 first_nothing (x ∷ xs) h = absurd (none-some x h)
 
-pub first_at : (n low : ℕ) (es : List Run) (r : Run) (t : List Run) → Rise low es → runs_from n es ≡ r ∷ t → (r.0.from < 1099511627776) × (n ≤ start_place r) × (runs_from (start_place r) es ≡ r ∷ t)
+pub first_at : (n low : ℕ) (es : List Run) (r : Run) (t : List Run) → Rise low es → runs_from n es ≡ r ∷ t → (r.0.from < FILE_END) × (n ≤ start_place r) × (runs_from (start_place r) es ≡ r ∷ t)
 first_at n low es r t e h =
     let s : Rise n (r ∷ t) = subst (Rise n) h (Rise-from n low es e) in
     let k = s.1 in

@@ -3,7 +3,7 @@ use Rattle.std.proofs.Common.{[], true, refl, append_assoc, arith}
 use Rattle.std.proofs.lemmas.List.{append-nil}
 use Rattle.jv_model.specs.rows.RowGrammar.{is_setting, setting_bytes, setting_of, is_counters, counters_bytes, counters_of, is_node, node_bytes, node_of, is_edge, edge_bytes, edge_of, is_slice, slice_bytes, slice_of, is_session, session_bytes, session_of, sustained_of, dropped_bytes, dropped_of, dead_bytes, dead_of}
 use Rattle.jv_rows.specs.RoundTrips.{IsExact, SettingWidths, CountersWidths, NodeWidths, EdgeWidths, SliceWidths, SessionWidths, DroppedWidths, DeadWidths}
-use Rattle.jv_rows.proofs.Bounds.{name_bound, bucket_bound}
+use Rattle.jv_rows.proofs.BoundLaws.{name_bound, bucket_bound}
 use Rattle.jv_rows.proofs.FieldLaws.{byte_field, half_field, word_field, long_field}
 use Rattle.jv_rows.proofs.ReaderLaws.{field_then, text_then, finish, finish_with, exact}
 

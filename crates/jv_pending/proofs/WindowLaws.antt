@@ -2,30 +2,31 @@
 use Rattle.std.proofs.Common.{◌≡◌, ℕ, ◌+◌, ◌-◌, ◌*◌, ◌/◌, ◌%◌, ◌<◌, ◌≤◌, List, [], ◌∷◌, ◌++◌, length, take, drop, unwrap_or, Some, None, ◌⊎◌, inl, inr, refl, sym, ap, subst, ◌∙◌, ⊎_elim, arith}
 use Rattle.std.proofs.lemmas.List.{append-nil, length-append, length-drop, drop_all}
 use Rattle.std.proofs.lemmas.Bool.{cases_lt}
+use Rattle.jv_model.specs.declared.limits.TheConstants.{FILE_END, WINDOW}
 use Rattle.jv_model.specs.client.Pending.{PendingByte, written}
 use Rattle.jv_pending.specs.Runs.{Run, place, place_of, bytes_at, runs_before, runs_from, runs_within, Rise, placed, pending_bytes, end_place, gap, IsRun, InOrder, end_after, IsCut, IsTouched, BeginBy, Reaches, head_of, tail_of, joined_from, joined, joined_behind, Rewrites}
 use Rattle.jv_pending.specs.declared.run.RunStart.{RunStart}
-use Rattle.jv_pending.proofs.Order.{EndBy-weaker, InOrder-left, InOrder-right, pending_bytes-append, length-placed, Rises-runs}
-use Rattle.jv_pending.proofs.Joins.{gap_le, gap_tells, length_joined, BeginBy-weaker, written_joined, order_joined}
-use Rattle.jv_pending.proofs.Cuts.{one_cut, joined_in_file}
-use Rattle.jv_pending.proofs.Parts.{thirds, within_is, Rise-order}
-use Rattle.jv_pending.proofs.Entries.{within_cons, absent}
-use Rattle.jv_pending.proofs.Touched.{head_is, take_none}
+use Rattle.jv_pending.proofs.OrderLaws.{EndBy-weaker, InOrder-left, InOrder-right, pending_bytes-append, length-placed, Rises-runs}
+use Rattle.jv_pending.proofs.JoinLaws.{gap_le, gap_says, length_joined, BeginBy-weaker, written_joined, order_joined}
+use Rattle.jv_pending.proofs.CutLaws.{one_cut, joined_in_file}
+use Rattle.jv_pending.proofs.PartLaws.{thirds, within_is, Rise-order}
+use Rattle.jv_pending.proofs.EntryLaws.{within_cons, absent}
+use Rattle.jv_pending.proofs.TouchedLaws.{head_is, take_none}
 
 -- the touched runs end in the window of the write
-tail_in_window : (i q to low : ℕ) (mid : List Run) → q * 67108864 < to → to ≤ q * 67108864 + 67108864 → InOrder low mid → BeginBy i (to + gap to - 1) mid → to + length (tail_of to mid) ≤ q * 67108864 + 67108864
+tail_in_window : (i q to low : ℕ) (mid : List Run) → q * WINDOW < to → to ≤ q * WINDOW + WINDOW → InOrder low mid → BeginBy i (to + gap to - 1) mid → to + length (tail_of to mid) ≤ q * WINDOW + WINDOW
 tail_in_window i q to low [] g l o a = omega arith
 tail_in_window i q to low (x ∷ []) g l o a =
     let w = o.0.in_window in
     let b = a.1 in
     let n : length (drop (to - x.0.from) x.1) ≡ length x.1 - (to - x.0.from) = length-drop (to - x.0.from) x.1 in
-    let f : x.0.from / 67108864 ≤ q = ⊎_elim (λ z. let e = z.1 in omega arith) (λ z. let e = z.1 in let p = z.0 in omega arith) (gap_tells to) in
+    let f : x.0.from / WINDOW ≤ q = ⊎_elim (λ z. let e = z.1 in omega arith) (λ z. let e = z.1 in let p = z.0 in omega arith) (gap_says to) in
     omega arith
 tail_in_window i q to low (x ∷ y ∷ ms) g l o a = tail_in_window i q to (end_place x) (y ∷ ms) g l o.2 a.2
 
 -- the first of them begins there
-same_window : (f n from len : ℕ) → f ≤ from → from + 1 ≤ f + n + gap from → f % 67108864 + n ≤ 67108864 → 0 < len → from % 67108864 + len ≤ 67108864 → f / 67108864 ≡ from / 67108864
-same_window f n from len h r w s l = ⊎_elim (λ z. let e = z.1 in let p = z.0 in omega arith) (λ z. let e = z.1 in let p = z.0 in omega arith) (gap_tells from)
+same_window : (f n from len : ℕ) → f ≤ from → from + 1 ≤ f + n + gap from → f % WINDOW + n ≤ WINDOW → 0 < len → from % WINDOW + len ≤ WINDOW → f / WINDOW ≡ from / WINDOW
+same_window f n from len h r w s l = ⊎_elim (λ z. let e = z.1 in let p = z.0 in omega arith) (λ z. let e = z.1 in let p = z.0 in omega arith) (gap_says from)
 
 tail_joined : (i to low : ℕ) (x : Run) (rest : List Run) → InOrder low (x ∷ rest) → BeginBy i to (x ∷ rest) → drop (to - x.0.from) x.1 ++ tail_of to rest ≡ tail_of to (x ∷ rest)
 tail_joined i to low x [] o a = append-nil (drop (to - x.0.from) x.1)
@@ -44,7 +45,7 @@ cut_same i j f g xs ys rs ei ef ex c = subst (λ k. IsCut k g ys rs) ei (subst (
 abbrev pub AtFirst : RunStart → List ℕ → List Run → List Run → Type 0
 AtFirst first v rest mid = (mid ≡ (first, v) ∷ rest) ⊎ ((v ≡ []) × (mid ≡ rest))
 
-pub at_first : (k : RunStart) (high : ℕ) (es : List Run) → k.from < 1099511627776 → place_of k < high → Rise 0 es → AtFirst k (unwrap_or (bytes_at k es) []) (runs_within (place_of k + 1) high es) (runs_within (place_of k) high es)
+pub at_first : (k : RunStart) (high : ℕ) (es : List Run) → k.from < FILE_END → place_of k < high → Rise 0 es → AtFirst k (unwrap_or (bytes_at k es) []) (runs_within (place_of k + 1) high es) (runs_within (place_of k) high es)
 at_first k high es file h r =
     elim (bytes_at k es) as (λ o. bytes_at k es ≡ o → AtFirst k (unwrap_or o []) (runs_within (place_of k + 1) high es) (runs_within (place_of k) high es)) [
       | Some v ↦ λ e. inl (within_cons k high es v file h r e)
@@ -52,19 +53,19 @@ at_first k high es file h r =
     ] refl
 
 -- a write that no run reaches begins where they are put
-late_first : (i from low : ℕ) (mid : List Run) (first : RunStart) → first.inode ≡ i → first.from ≤ from → low ≡ place_of first + 1 → Rise low mid → BeginBy i 1099511627776 mid → joined_from from mid ≡ first.from → (first.from ≡ from) × (head_of from mid ≡ [])
+late_first : (i from low : ℕ) (mid : List Run) (first : RunStart) → first.inode ≡ i → first.from ≤ from → low ≡ place_of first + 1 → Rise low mid → BeginBy i FILE_END mid → joined_from from mid ≡ first.from → (first.from ≡ from) × (head_of from mid ≡ [])
 late_first i from low [] first e f l r b j = (omega arith, refl)
 late_first i from low (x ∷ mid) first e f l r b j =
     let k = r.1 in
     let n = b.0 in
     (omega arith, ap (λ m. take m x.1) (let z : from - x.0.from ≡ 0 = omega arith in z))
 
-joined_window : (from len : ℕ) (mid : List Run) (first : ℕ) → joined_from from mid ≡ first → Reaches from mid → (low : ℕ) → InOrder low mid → 0 < len → from % 67108864 + len ≤ 67108864 → first / 67108864 ≡ from / 67108864
+joined_window : (from len : ℕ) (mid : List Run) (first : ℕ) → joined_from from mid ≡ first → Reaches from mid → (low : ℕ) → InOrder low mid → 0 < len → from % WINDOW + len ≤ WINDOW → first / WINDOW ≡ from / WINDOW
 joined_window from len [] first j r low o some window = let e : from ≡ first = j in omega arith
 joined_window from len (x ∷ mid) first j r low o some window =
     ⊎_elim
-    (λ l. let e : x.0.from ≡ first = omega arith in ap (λ n. n / 67108864) (sym e) ∙ same_window x.0.from (length x.1) from len (omega arith) r o.0.in_window some window)
-    (λ g. let e : from ≡ first = omega arith in ap (λ n. n / 67108864) (sym e))
+    (λ l. let e : x.0.from ≡ first = omega arith in ap (λ n. n / WINDOW) (sym e) ∙ same_window x.0.from (length x.1) from len (omega arith) r o.0.in_window some window)
+    (λ g. let e : from ≡ first = omega arith in ap (λ n. n / WINDOW) (sym e))
     (cases_lt x.0.from from)
 
 of_inode_by : (i to : ℕ) (mid : List Run) → BeginBy i (to + gap to - 1) mid → BeginBy i to mid
@@ -77,7 +78,7 @@ count_parts low high rs r h =
     ∙ length-append (pending_bytes (runs_before low rs)) (pending_bytes (runs_within low high rs ++ runs_from high rs))
     ∙ ap (λ k. length (pending_bytes (runs_before low rs)) + k) (ap length (pending_bytes-append (runs_within low high rs) (runs_from high rs)) ∙ length-append (pending_bytes (runs_within low high rs)) (pending_bytes (runs_from high rs)))
 
-module _ (i from : ℕ) (bs : List ℕ) (first end : RunStart) (rs : List Run) (o : InOrder 0 rs) (some : 0 < length bs) (file : from + length bs ≤ 1099511627776) (t : IsTouched i from (from + length bs) rs first end) where
+module _ (i from : ℕ) (bs : List ℕ) (first end : RunStart) (rs : List Run) (o : InOrder 0 rs) (some : 0 < length bs) (file : from + length bs ≤ FILE_END) (t : IsTouched i from (from + length bs) rs first end) where
   abbrev to : ℕ
   to = from + length bs
 
@@ -150,15 +151,15 @@ module _ (i from : ℕ) (bs : List ℕ) (first end : RunStart) (rs : List Run) (
       omega arith
 
   -- one run in the place of those that are touched in one window
-  pub one_rewrites : (new : List Run) (all : List ℕ) → from % 67108864 + length bs ≤ 67108864 → all ≡ joined from bs mid → new ≡ front ++ ((first, all) ∷ behind) → Rewrites i from bs first end rs new
+  pub one_rewrites : (new : List Run) (all : List ℕ) → from % WINDOW + length bs ≤ WINDOW → all ≡ joined from bs mid → new ≡ front ++ ((first, all) ∷ behind) → Rewrites i from bs first end rs new
   one_rewrites new all window e h =
-      let q : first.from / 67108864 ≡ from / 67108864 = joined_window from (length bs) mid first.from t.begins t.reached (end_after 0 front) mid_order some window in
+      let q : first.from / WINDOW ≡ from / WINDOW = joined_window from (length bs) mid first.from t.begins t.reached (end_after 0 front) mid_order some window in
       let n = ap length e in
       let b = t.begins in
       let l : joined_from from mid + length (joined from bs mid) ≡ to + length (tail_of to mid) = length_joined from to bs mid refl t.reached in
-      let w : to + length (tail_of to mid) ≤ from / 67108864 * 67108864 + 67108864 = tail_in_window i (from / 67108864) to (end_after 0 front) mid (omega arith) (omega arith) mid_order t.of_inode in
+      let w : to + length (tail_of to mid) ≤ from / WINDOW * WINDOW + WINDOW = tail_in_window i (from / WINDOW) to (end_after 0 front) mid (omega arith) (omega arith) mid_order t.of_inode in
       let f = t.first_from in
-      let k : joined_from from mid + length (joined from bs mid) ≤ 1099511627776 = joined_in_file i from to (end_after 0 front) bs mid refl file mid_order (of_inode_by i to mid t.of_inode) t.reached in
+      let k : joined_from from mid + length (joined from bs mid) ≤ FILE_END = joined_in_file i from to (end_after 0 front) bs mid refl file mid_order (of_inode_by i to mid t.of_inode) t.reached in
       let run : IsRun (first, all) = record {
         some = omega arith;
         in_window = omega arith;
@@ -172,7 +173,7 @@ module _ (i from : ℕ) (bs : List ℕ) (first end : RunStart) (rs : List Run) (
 
   module _ (v : List ℕ) (rest : List Run) (at : AtFirst first v rest mid) (rise : Rise (place_of first + 1) rest) where
     late_here : mid ≡ rest → (first.from ≡ from) × (head_of from mid ≡ [])
-    late_here e = late_first i from (place_of first + 1) mid first t.first_inode t.first_from refl (subst (Rise (place_of first + 1)) (sym e) rise) (BeginBy-weaker i (to + gap to - 1) 1099511627776 mid (omega (arith, (gap_le to).0)) t.of_inode) t.begins
+    late_here e = late_first i from (place_of first + 1) mid first t.first_inode t.first_from refl (subst (Rise (place_of first + 1)) (sym e) rise) (BeginBy-weaker i (to + gap to - 1) FILE_END mid (omega (arith, (gap_le to).0)) t.of_inode) t.begins
 
     pub at_reaches : from - first.from ≤ length v
     at_reaches =
@@ -202,11 +203,11 @@ module _ (i from : ℕ) (bs : List ℕ) (first end : RunStart) (rs : List Run) (
         ∙ ap (λ (x : List ℕ). x ++ (bs ++ tail_of to mid)) head_here
 
     -- up to a border nothing is left behind the write
-    module _ (border : to % 67108864 ≡ 0) (window : from % 67108864 + length bs ≤ 67108864) where
+    module _ (border : to % WINDOW ≡ 0) (window : from % WINDOW + length bs ≤ WINDOW) where
       pub none_behind_border : tail_of to mid ≡ []
       none_behind_border =
           no_length (tail_of to mid)
-          (let w = tail_in_window i (from / 67108864) to (end_after 0 front) mid (omega arith) (omega arith) mid_order t.of_inode in omega arith)
+          (let w = tail_in_window i (from / WINDOW) to (end_after 0 front) mid (omega arith) (omega arith) mid_order t.of_inode in omega arith)
 
       pub ends_by_border : length v ≤ from - first.from + length bs
       ends_by_border =
@@ -215,7 +216,7 @@ module _ (i from : ℕ) (bs : List ℕ) (first end : RunStart) (rs : List Run) (
           let o = subst (InOrder (end_after 0 front)) e mid_order in
           let w = o.0.in_window in
           let f = t.first_from in
-          let q : first.from / 67108864 ≡ from / 67108864 = joined_window from (length bs) mid first.from t.begins t.reached (end_after 0 front) mid_order some window in
+          let q : first.from / WINDOW ≡ from / WINDOW = joined_window from (length bs) mid first.from t.begins t.reached (end_after 0 front) mid_order some window in
           omega arith)
           (λ e. let n = ap length e.0 in omega arith)
           at

@@ -8,7 +8,7 @@ use Rattle.jv_model.specs.journal.Past.{Past, Due, NoMore, Refusal, MayLack, ToA
 use Rattle.jv_model.specs.journal.Legal.{AllAllowed, may_stop}
 use Rattle.jv_laws.proofs.JournalGrowthLaws.{begun_to-begun, begun_frame, line_allowed, past-begun_to, AllAllowed-begun_to, count_past}
 use Rattle.jv_laws.specs.OnLines.{Leads, SameLine}
-use Rattle.jv_laws.proofs.BegunLines.{IsBegun}
+use Rattle.jv_laws.proofs.BegunLineLaws.{IsBegun}
 
 -- when a line with this due has all its entries
 abbrev pub MayEnd : Due → Past → Type 0

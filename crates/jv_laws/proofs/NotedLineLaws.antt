@@ -13,14 +13,14 @@ use Rattle.jv_model.specs.client.ModelClient.{ModelClient, Doing, Stage, Working
 use Rattle.jv_model.specs.client.Submission.{submission}
 use Rattle.jv_model.specs.journal.State.{State, answered_client, with_client, is_of_another, of_doing, effect}
 use Rattle.jv_model.specs.journal.Steps.{must_answer}
-use Rattle.jv_model.specs.journal.Past.{Past, Due, Refusal, CrashEntry, TickEntry, asks_clock, ends_in_step, line_reply, with_feed}
+use Rattle.jv_model.specs.journal.Past.{Past, Due, Refusal, CrashEntry, TickEntry, asks_clock, ends_in_step, line_reply}
 use Rattle.jv_model.specs.journal.Legal.{OfLine, Refuses, tick_of}
 use Rattle.jv_model.specs.journal.Stepping.{entry_of}
-use Rattle.jv_model.specs.script.ReplyText.{printed_line}
+use Rattle.jv_model.specs.script.ReplyText.{printed_line, with_feed}
 use Rattle.jv_laws.proofs.JournalGrowthLaws.{own_client, other_client}
 use Rattle.jv_laws.specs.OnLines.{IsAlone, IsNow, Leads, SameLine}
-use Rattle.jv_laws.proofs.EntriesOfLines.{moment_asked, stands_on, entered, after_asking, leads_one}
-use Rattle.jv_laws.proofs.StepsOnLines.{IsDone}
+use Rattle.jv_laws.proofs.LineEntryLaws.{moment_asked, stands_on, entered, after_asking, leads_one}
+use Rattle.jv_laws.proofs.LineStepLaws.{IsDone}
 
 -- the one entry of a line is allowed, and leads there; the line prints this
 pub record Notes (q : Past) (act : Act) (text : List ℕ) (r : Past) : Type 0 where

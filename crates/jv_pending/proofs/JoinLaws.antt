@@ -2,25 +2,26 @@
 use Rattle.std.proofs.Common.{◌≡◌, ℕ, ◌+◌, ◌-◌, ◌<◌, ◌≤◌, ◌%◌, min, eqb, List, [], ◌∷◌, ◌++◌, length, take, drop, subst, ◌⊎◌, inl, inr, ⊎_elim, sym, ap, ◌∙◌, arith}
 use Rattle.std.proofs.lemmas.Bool.{cases_lt, cases_eq, cond-true, cond-false, eq-eqb, ne_eqb}
 use Rattle.std.proofs.lemmas.List.{append_assoc, append-nil, length-append, length-take-le, length-drop}
+use Rattle.jv_model.specs.declared.limits.TheConstants.{FILE_END, WINDOW}
 use Rattle.jv_model.specs.client.Pending.{PendingByte, written}
 use Rattle.jv_pending.specs.Runs.{Run, place, placed, pending_bytes, end_of_run, end_place, start_place, gap, InOrder, Rise, end_after, IsCut, head_of, tail_of, joined_from, joined, EndBy, BeginBy, Reaches}
-use Rattle.jv_pending.proofs.Bytes.{Rises, Rises-weaker, front, back, front_from, back_from, written_is}
-use Rattle.jv_pending.proofs.Order.{EndBy-weaker, InOrder-weaker, InOrder-left, InOrder-right, InOrder-append, end_after_by, end_after_mono, pending_bytes-append, placed-append, Rises-runs, front_runs, back_runs, back_run, front_part, back_part}
+use Rattle.jv_pending.proofs.ByteLaws.{Rises, Rises-weaker, front, back, front_from, back_from, written_is}
+use Rattle.jv_pending.proofs.OrderLaws.{EndBy-weaker, InOrder-weaker, InOrder-left, InOrder-right, InOrder-append, end_after_by, end_after_mono, pending_bytes-append, placed-append, Rises-runs, front_runs, back_runs, back_run, front_part, back_part}
 
 -- a gap is 0 at the begin of a window, and 1 elsewhere
-pub gap_tells : (f : ℕ) → ((f % 67108864 ≡ 0) × (gap f ≡ 0)) ⊎ ((0 < f % 67108864) × (gap f ≡ 1))
-gap_tells f =
+pub gap_says : (f : ℕ) → ((f % WINDOW ≡ 0) × (gap f ≡ 0)) ⊎ ((0 < f % WINDOW) × (gap f ≡ 1))
+gap_says f =
     ⊎_elim
-    (λ e. inl (e, cond-true (eqb (f % 67108864) 0) 0 1 (eq-eqb (f % 67108864) 0 e)))
-    (λ n. inr (omega arith, cond-false (eqb (f % 67108864) 0) 0 1 (ne_eqb (f % 67108864) 0 n)))
-    (cases_eq (f % 67108864) 0)
+    (λ e. inl (e, cond-true (eqb (f % WINDOW) 0) 0 1 (eq-eqb (f % WINDOW) 0 e)))
+    (λ n. inr (omega arith, cond-false (eqb (f % WINDOW) 0) 0 1 (ne_eqb (f % WINDOW) 0 n)))
+    (cases_eq (f % WINDOW) 0)
 
 pub gap_le : (f : ℕ) → (gap f ≤ 1) × (gap f ≤ f)
 gap_le f =
     ⊎_elim
     (λ z. let e = z.1 in (omega arith, omega arith))
     (λ z. let e = z.1 in let l : 0 < f = omega (arith, z.0) in (omega arith, omega arith))
-    (gap_tells f)
+    (gap_says f)
 
 -- the bytes before the write
 head_from : (i from f : ℕ) (bs : List ℕ) → placed i f (take (from - f) bs) ≡ placed i (min f from) (take (from - f) bs)
@@ -32,7 +33,7 @@ head_from i from f bs =
     ∙ ap (λ k. placed i (min f from) (take k bs)) (let d : 0 ≡ from - f = omega arith in d))
     (cases_lt f from)
 
-pub front_joined : (i from low : ℕ) (mid after : List Run) → InOrder low (mid ++ after) → BeginBy i 1099511627776 mid → Reaches from mid → Rises (place i from) (pending_bytes after) → front (place i from) (pending_bytes mid ++ pending_bytes after) ≡ placed i (joined_from from mid) (head_of from mid)
+pub front_joined : (i from low : ℕ) (mid after : List Run) → InOrder low (mid ++ after) → BeginBy i FILE_END mid → Reaches from mid → Rises (place i from) (pending_bytes after) → front (place i from) (pending_bytes mid ++ pending_bytes after) ≡ placed i (joined_from from mid) (head_of from mid)
 front_joined i from low [] after o a h r = front_from (place i from) (pending_bytes after) r
 front_joined i from low (x ∷ ms) after o a h r =
     ap (front (place i from)) (append_assoc (placed x.0.inode x.0.from x.1) (pending_bytes ms) (pending_bytes after))
@@ -70,14 +71,14 @@ pub BeginBy-weaker : (i m n : ℕ) (mid : List Run) → m ≤ n → BeginBy i m 
 BeginBy-weaker i m n [] l a = tt
 BeginBy-weaker i m n (x ∷ ms) l a = (a.0, omega arith, BeginBy-weaker i m n ms l a.2)
 
-pub written_joined : (i from to low : ℕ) (bs : List ℕ) (before mid after : List Run) → to ≡ from + length bs → to ≤ 1099511627776 → InOrder low (before ++ (mid ++ after)) → EndBy (place i from) before → BeginBy i to mid → Reaches from mid → Rises (place i to) (pending_bytes after) → written i from bs (pending_bytes (before ++ (mid ++ after))) ≡ pending_bytes before ++ (placed i (joined_from from mid) (joined from bs mid) ++ pending_bytes after)
+pub written_joined : (i from to low : ℕ) (bs : List ℕ) (before mid after : List Run) → to ≡ from + length bs → to ≤ FILE_END → InOrder low (before ++ (mid ++ after)) → EndBy (place i from) before → BeginBy i to mid → Reaches from mid → Rises (place i to) (pending_bytes after) → written i from bs (pending_bytes (before ++ (mid ++ after))) ≡ pending_bytes before ++ (placed i (joined_from from mid) (joined from bs mid) ++ pending_bytes after)
 written_joined i from to low bs before mid after e l o b a h r =
     let rest = InOrder-right low before (mid ++ after) o in
     let first : (front (place i from) (pending_bytes (before ++ (mid ++ after))) ≡ pending_bytes before ++ placed i (joined_from from mid) (head_of from mid)) =
     ap (front (place i from)) (pending_bytes-append before (mid ++ after))
     ∙ front_runs (place i from) before (pending_bytes (mid ++ after)) b
     ∙ ap (λ (t : List PendingByte). pending_bytes before ++ front (place i from) t) (pending_bytes-append mid after)
-    ∙ ap (λ (t : List PendingByte). pending_bytes before ++ t) (front_joined i from (end_after low before) mid after rest (BeginBy-weaker i to 1099511627776 mid l a) h (Rises-weaker (place i to) (place i from) (pending_bytes after) (omega arith) r)) in
+    ∙ ap (λ (t : List PendingByte). pending_bytes before ++ t) (front_joined i from (end_after low before) mid after rest (BeginBy-weaker i to FILE_END mid l a) h (Rises-weaker (place i to) (place i from) (pending_bytes after) (omega arith) r)) in
     let last : (back (place i to) (pending_bytes (before ++ (mid ++ after))) ≡ placed i to (tail_of to mid) ++ pending_bytes after) =
     ap (back (place i to)) (pending_bytes-append before (mid ++ after))
     ∙ back_runs (place i to) before (pending_bytes (mid ++ after)) (EndBy-weaker (place i from) (place i to) before (omega arith) b)
@@ -93,7 +94,7 @@ written_joined i from to low bs before mid after e l o b a h r =
     ∙ ap (λ (t : List PendingByte). t ++ pending_bytes after) (sym (placed_joined i from to bs mid e h)))
 
 -- the runs in place of those that a write overlaps or touches stay in order with the others
-joined_low : (i from low : ℕ) (mid : List Run) → InOrder low mid → BeginBy i 1099511627776 mid → low ≤ place i from - gap from → low ≤ place i (joined_from from mid) - gap (joined_from from mid)
+joined_low : (i from low : ℕ) (mid : List Run) → InOrder low mid → BeginBy i FILE_END mid → low ≤ place i from - gap from → low ≤ place i (joined_from from mid) - gap (joined_from from mid)
 joined_low i from low [] o a l = l
 joined_low i from low (x ∷ ms) o a l =
     let g = gap_le x.0.from in let e = a.0 in
@@ -120,11 +121,11 @@ length_joined from to bs mid e h =
     let t : length (tail_of (from + length bs) mid) ≡ length (tail_of to mid) = ap (λ k. length (tail_of k mid)) (sym e) in
     omega (arith, length_head from mid h)
 
-pub order_joined : (i from to low : ℕ) (bs : List ℕ) (before mid after fresh : List Run) → to ≡ from + length bs → to ≤ 1099511627776 → InOrder low (before ++ (mid ++ after)) → low ≤ place i from - gap from → EndBy (place i from - gap from) before → BeginBy i to mid → Reaches from mid → InOrder (place i to) after → IsCut i (joined_from from mid) (joined from bs mid) fresh → InOrder low (before ++ (fresh ++ after))
+pub order_joined : (i from to low : ℕ) (bs : List ℕ) (before mid after fresh : List Run) → to ≡ from + length bs → to ≤ FILE_END → InOrder low (before ++ (mid ++ after)) → low ≤ place i from - gap from → EndBy (place i from - gap from) before → BeginBy i to mid → Reaches from mid → InOrder (place i to) after → IsCut i (joined_from from mid) (joined from bs mid) fresh → InOrder low (before ++ (fresh ++ after))
 order_joined i from to low bs before mid after fresh e l o m b a h p cut =
     let rest = InOrder-right low before (mid ++ after) o in
     let below : end_after low before ≤ place i (joined_from from mid) - gap (joined_from from mid) =
-    joined_low i from (end_after low before) mid (InOrder-left (end_after low before) mid after rest) (BeginBy-weaker i to 1099511627776 mid l a) (end_after_by low (place i from - gap from) before m b) in
+    joined_low i from (end_after low before) mid (InOrder-left (end_after low before) mid after rest) (BeginBy-weaker i to FILE_END mid l a) (end_after_by low (place i from - gap from) before m b) in
     let last : end_after (end_after low before) fresh ≤ place i (to + length (tail_of to mid)) =
     let c = cut.ends in let n = length_joined from to bs mid e h in
     let q : place i (joined_from from mid + length (joined from bs mid)) ≡ place i (to + length (tail_of to mid)) = ap (place i) n in
@@ -136,7 +137,7 @@ order_joined i from to low bs before mid after fresh e l o m b a h p cut =
     (tail_order i to (end_after low before) mid after a (InOrder-right (end_after low before) mid after rest) p)))
 
 -- what lies after the touched runs begins late enough
-pub order_after : (i to low : ℕ) (after : List Run) → InOrder low after → to ≤ 1099511627776 → Rise (place i (to + gap to)) after → InOrder (place i to) after
+pub order_after : (i to low : ℕ) (after : List Run) → InOrder low after → to ≤ FILE_END → Rise (place i (to + gap to)) after → InOrder (place i to) after
 order_after i to low [] o l r = tt
 order_after i to low (y ∷ ys) o l r =
     let g = gap_le to in
@@ -150,8 +151,8 @@ order_after i to low (y ∷ ys) o l r =
     (λ same. ⊎_elim
     (λ in_file. let q : gap to ≡ gap y.0.from = ap gap (let d : to ≡ y.0.from = omega arith in d) in omega arith)
     (λ past. let d : y.0.from ≡ 0 = omega arith in absurd (omega arith))
-    (cases_lt to 1099511627776))
+    (cases_lt to FILE_END))
     (λ n. omega arith)
     (cases_eq (place i to) (start_place y)))
-    (gap_tells y.0.from) in
+    (gap_says y.0.from) in
     (o.0, starts, o.2)

@@ -3,25 +3,27 @@ use Rattle.std.proofs.Common.{◌≡◌, ℕ, ◌+◌, ◌-◌, ◌%◌, ◌<◌
 use Rattle.std.proofs.lemmas.Bool.{cases_lt, cases_eq}
 use Rattle.std.proofs.lemmas.List.{append_assoc, append-nil}
 use Rattle.std.proofs.lemmas.List.Elements.{filter-append}
+use Rattle.jv_model.specs.declared.limits.TheConstants.{FILE_END, WINDOW}
 use Rattle.jv_model.specs.client.Pending.{PendingByte, written}
+use Rattle.jv_model.specs.Lists.{first_item}
 use Rattle.jv_pending.specs.declared.run.RunStart.{RunStart}
-use Rattle.jv_pending.specs.Runs.{Run, place, place_of, placed, start_place, end_place, end_of_run, gap, bytes_at, pending_bytes, InOrder, Rise, Before, EndBy, end_after, runs_before, runs_from, runs_within, first_of, with_runs, tail_of, joined_from, joined, BeginBy, Reaches, joined_behind, IsFirst, IsTouched, Starts, Writes}
-use Rattle.jv_pending.proofs.Bytes.{Rises, front, back, written_is, written-append}
-use Rattle.jv_pending.proofs.Order.{EndBy-weaker, InOrder-weaker, InOrder-left, InOrder-append, end_after_by, pending_bytes-append, Rises-runs, front_runs, back_runs}
-use Rattle.jv_pending.proofs.Joins.{gap_le, gap_tells}
-use Rattle.jv_pending.proofs.Parts.{Rise-order, Rise-weaker, Rise-before, Rise-from, Before-before, before_none, from_none, from_all, from_from, before_before, before_all, within_is, whole, with_before, with_here}
-use Rattle.jv_pending.proofs.Entries.{one_rises}
-use Rattle.jv_pending.proofs.Touched.{touched, late, end_early, InOrder-from, InOrder-before}
-use Rattle.jv_pending.proofs.Windows.{AtFirst, at_first, rewritten, rewritten_order, one_rewrites, at_reaches, joined_here, ends_by_border, joined_border}
+use Rattle.jv_pending.specs.Runs.{Run, place, place_of, placed, start_place, end_place, end_of_run, gap, bytes_at, pending_bytes, InOrder, Rise, Before, EndBy, end_after, runs_before, runs_from, runs_within, with_runs, tail_of, joined_from, joined, BeginBy, Reaches, joined_behind, IsFirst, IsTouched, Starts, Writes}
+use Rattle.jv_pending.proofs.ByteLaws.{Rises, front, back, written_is, written-append}
+use Rattle.jv_pending.proofs.OrderLaws.{EndBy-weaker, InOrder-weaker, InOrder-left, InOrder-append, end_after_by, pending_bytes-append, Rises-runs, front_runs, back_runs}
+use Rattle.jv_pending.proofs.JoinLaws.{gap_le, gap_says}
+use Rattle.jv_pending.proofs.PartLaws.{Rise-order, Rise-weaker, Rise-before, Rise-from, Before-before, before_none, from_none, from_all, from_from, before_before, before_all, within_is, whole, with_before, with_here}
+use Rattle.jv_pending.proofs.EntryLaws.{one_rises}
+use Rattle.jv_pending.proofs.TouchedLaws.{touched, late, end_early, InOrder-from, InOrder-before}
+use Rattle.jv_pending.proofs.WindowLaws.{AtFirst, at_first, rewritten, rewritten_order, one_rewrites, at_reaches, joined_here, ends_by_border, joined_border}
 
 InOrder-at : (m n : ℕ) (rs : List Run) → m ≡ n → InOrder m rs → InOrder n rs
 InOrder-at m n rs e o = subst (λ k. InOrder k rs) e o
 
-pub no_gap : (n : ℕ) → n % 67108864 ≡ 0 → gap n ≡ 0
-no_gap n e = ⊎_elim (λ z. z.1) (λ z. absurd (let p = z.0 in omega arith)) (gap_tells n)
+pub no_gap : (n : ℕ) → n % WINDOW ≡ 0 → gap n ≡ 0
+no_gap n e = ⊎_elim (λ z. z.1) (λ z. absurd (let p = z.0 in omega arith)) (gap_says n)
 
 -- a write changes nothing before it
-pub written_over : (i f low : ℕ) (bs : List ℕ) (xs : List Run) (q : List PendingByte) → f + length bs ≤ 1099511627776 → EndBy (place i f) xs → Rises low (pending_bytes xs ++ q) → Rises low q → written i f bs (pending_bytes xs ++ q) ≡ pending_bytes xs ++ written i f bs q
+pub written_over : (i f low : ℕ) (bs : List ℕ) (xs : List Run) (q : List PendingByte) → f + length bs ≤ FILE_END → EndBy (place i f) xs → Rises low (pending_bytes xs ++ q) → Rises low q → written i f bs (pending_bytes xs ++ q) ≡ pending_bytes xs ++ written i f bs q
 written_over i f low bs xs q file e r s =
     let to : ℕ = f + length bs in
     written_is i f to low bs (pending_bytes xs ++ q) refl file r
@@ -42,7 +44,7 @@ put_same first high rs mid all up before after =
     (sym (from_from (place_of first + 1) high mid (omega arith)) ∙ ap (runs_from high) after ∙ from_from (place_of first + 1) high rs (omega arith))
 
 -- runs that begin before a border end there or before it
-pub border_ends : (i b low : ℕ) (rs : List Run) → b % 67108864 ≡ 0 → b ≤ 1099511627776 → InOrder low rs → Before (place i b) rs → EndBy (place i b) rs
+pub border_ends : (i b low : ℕ) (rs : List Run) → b % WINDOW ≡ 0 → b ≤ FILE_END → InOrder low rs → Before (place i b) rs → EndBy (place i b) rs
 border_ends i b low [] z f o e = tt
 border_ends i b low (r ∷ rs) z f o e =
     let w = o.0.in_window in
@@ -50,7 +52,7 @@ border_ends i b low (r ∷ rs) z f o e =
     let l = e.0 in
     (ends_before r.0.inode i r.0.from b (length r.1) z f w k l, border_ends i b (end_place r) rs z f o.2 e.1)
   where
-    ends_before : (j i from b n : ℕ) → b % 67108864 ≡ 0 → b ≤ 1099511627776 → from % 67108864 + n ≤ 67108864 → from + n ≤ 1099511627776 → place j from < place i b → place j (from + n) ≤ place i b
+    ends_before : (j i from b n : ℕ) → b % WINDOW ≡ 0 → b ≤ FILE_END → from % WINDOW + n ≤ WINDOW → from + n ≤ FILE_END → place j from < place i b → place j (from + n) ≤ place i b
     ends_before j i from b n z f w k l =
         ⊎_elim
         (λ s. omega arith)
@@ -58,7 +60,7 @@ border_ends i b low (r ∷ rs) z f o e =
         (cases_lt j i)
 
 -- runs from a place on are in order from just before it
-pub low_order : (first : RunStart) (m : ℕ) (es : List Run) → first.from < 1099511627776 → InOrder m es → Rise (place_of first) es → InOrder (place_of first - gap first.from) es
+pub low_order : (first : RunStart) (m : ℕ) (es : List Run) → first.from < FILE_END → InOrder m es → Rise (place_of first) es → InOrder (place_of first - gap first.from) es
 low_order first m [] f o r = tt
 low_order first m (y ∷ ys) f o r =
     let g = gap_le first.from in
@@ -73,7 +75,7 @@ low_order first m (y ∷ ys) f o r =
       o.2,
     )
 
-module _ (from : ℕ) (bs : List ℕ) (first : RunStart) (rs : List Run) (rise : Rise 0 rs) (s : Starts from rs first) (some : 0 < length bs) (file : from + length bs ≤ 1099511627776) where
+module _ (from : ℕ) (bs : List ℕ) (first : RunStart) (rs : List Run) (rise : Rise 0 rs) (s : Starts from rs first) (some : 0 < length bs) (file : from + length bs ≤ FILE_END) where
   abbrev es : List Run
   es = runs_from (place_of first) rs
 
@@ -86,7 +88,7 @@ module _ (from : ℕ) (bs : List ℕ) (first : RunStart) (rs : List Run) (rise :
   order_es : InOrder 0 es
   order_es = InOrder-weaker (place_of first - gap first.from) 0 es (omega arith) s.order
 
-  pub first_file : first.from < 1099511627776
+  pub first_file : first.from < FILE_END
   first_file = let f = s.touches.from_is in omega arith
 
   module _ (end : RunStart) (ei : end.inode ≡ first.inode) (ef : end.from ≡ to + gap to) where
@@ -128,7 +130,7 @@ module _ (from : ℕ) (bs : List ℕ) (first : RunStart) (rs : List Run) (rise :
         (cases_eq first.from from)
 
     -- a write inside one window
-    pub window_written : (new : List Run) (v : List ℕ) → v ≡ unwrap_or (bytes_at first rs) [] → from % 67108864 + length bs ≤ 67108864
+    pub window_written : (new : List Run) (v : List ℕ) → v ≡ unwrap_or (bytes_at first rs) [] → from % WINDOW + length bs ≤ WINDOW
         → new ≡ with_runs ((first, joined_behind (from - first.from) v bs (tail_of to (runs_within (place_of first + 1) (place_of end) rs))) ∷ []) (place_of end) rs
         → Writes from bs first rs new
     window_written new v e window h =
@@ -147,7 +149,7 @@ module _ (from : ℕ) (bs : List ℕ) (first : RunStart) (rs : List Run) (rise :
         }
 
     -- a write up to a border, and another from there on
-    module _ (border : to % 67108864 ≡ 0) (window : from % 67108864 + length bs ≤ 67108864) where
+    module _ (border : to % WINDOW ≡ 0) (window : from % WINDOW + length bs ≤ WINDOW) where
       pub border_is : place_of end ≡ place first.inode to
       border_is = let g = no_gap to border in omega arith
 
@@ -155,7 +157,7 @@ module _ (from : ℕ) (bs : List ℕ) (first : RunStart) (rs : List Run) (rise :
       border_fits v e = ends_by_border first.inode from bs first end es order_es some file is_touched v (runs_within (place_of first + 1) (place_of end) rs) (at_here v e) rest_rises border window
 
       -- the runs behind the border, in a list that has the same there
-      pub starts_behind : (mid : List Run) → runs_from (place_of first + 1) mid ≡ runs_from (place_of first + 1) rs → end.from < 1099511627776 → Starts to mid end
+      pub starts_behind : (mid : List Run) → runs_from (place_of first + 1) mid ≡ runs_from (place_of first + 1) rs → end.from < FILE_END → Starts to mid end
       starts_behind mid after inside =
           let g = no_gap to border in
           let same : runs_from (place_of end) mid ≡ runs_from (place_of end) es =
@@ -170,7 +172,7 @@ module _ (from : ℕ) (bs : List ℕ) (first : RunStart) (rs : List Run) (rise :
             inode_is = refl;
             from_is = omega arith;
             before = subst (EndBy (place end.inode to - gap to)) (sym (before_none (place_of end) (place_of end) behind (omega arith) rises)) tt;
-            reached = subst (λ (t : List Run). IfSome (first_of t) (λ r. r.0.inode ≡ end.inode → to + 1 ≤ end_of_run r + gap to)) (sym whole_behind)
+            reached = subst (λ (t : List Run). IfSome (first_item t) (λ r. r.0.inode ≡ end.inode → to + 1 ≤ end_of_run r + gap to)) (sym whole_behind)
                 (late end.inode to (place_of end) behind order (subst (λ n. Rise n behind) (let d : place_of end ≡ place end.inode to = omega arith in d) rises));
             begins = λ l. absurd (omega arith);
           } in
@@ -183,7 +185,7 @@ module _ (from : ℕ) (bs : List ℕ) (first : RunStart) (rs : List Run) (rise :
       end_gap g = let e : gap end.from ≡ gap to = ap gap (let d : end.from ≡ to = omega arith in d) in omega arith
 
       pub border_written : (rest : List ℕ) (mid put new : List Run) (v all : List ℕ) → v ≡ unwrap_or (bytes_at first rs) []
-          → to + length rest ≤ 1099511627776
+          → to + length rest ≤ FILE_END
           → runs_before (place_of first) mid ≡ runs_before (place_of first) rs → runs_from (place_of first + 1) mid ≡ runs_from (place_of first + 1) rs
           → Rise 0 put → Writes to rest end mid put
           → all ≡ take (from - first.from) v ++ bs
@@ -265,7 +267,7 @@ module _ (from : ℕ) (bs : List ℕ) (first : RunStart) (rs : List Run) (rise :
           }
 
 -- a write to all runs, by the first of them that it touches
-module _ (inode from : ℕ) (bs : List ℕ) (first : RunStart) (rs : List Run) (order : InOrder 0 rs) (f : IsFirst inode from rs first) (file : from < 1099511627776) where
+module _ (inode from : ℕ) (bs : List ℕ) (first : RunStart) (rs : List Run) (order : InOrder 0 rs) (f : IsFirst inode from rs first) (file : from < FILE_END) where
   abbrev behind : List Run
   behind = runs_from (place_of first) rs
 
@@ -288,16 +290,16 @@ module _ (inode from : ℕ) (bs : List ℕ) (first : RunStart) (rs : List Run) (
           inode_is = refl;
           from_is = f.from_is;
           before = subst (EndBy (place first.inode from - gap from)) (sym (before_none (place_of first) (place_of first) behind (omega arith) rises_behind)) tt;
-          reached = subst (λ (t : List Run). IfSome (first_of t) (λ r. r.0.inode ≡ first.inode → from + 1 ≤ end_of_run r + gap from)) (sym again) here.reached;
-          begins = λ l. subst (λ (t : List Run). IsSomeAnd (first_of t) (λ r. r.0 ≡ first)) (sym again) (here.begins l);
+          reached = subst (λ (t : List Run). IfSome (first_item t) (λ r. r.0.inode ≡ first.inode → from + 1 ≤ end_of_run r + gap from)) (sym again) here.reached;
+          begins = λ l. subst (λ (t : List Run). IsSomeAnd (first_item t) (λ r. r.0 ≡ first)) (sym again) (here.begins l);
         };
       }
 
   -- the runs before it end early enough
-  begins_with : IsSomeAnd (first_of behind) (λ r. r.0 ≡ first) → (r : Run) × (t : List Run) × (r.0 ≡ first) × (behind ≡ r ∷ t)
+  begins_with : IsSomeAnd (first_item behind) (λ r. r.0 ≡ first) → (r : Run) × (t : List Run) × (r.0 ≡ first) × (behind ≡ r ∷ t)
   begins_with h = split behind h
     where
-      split : (es : List Run) → IsSomeAnd (first_of es) (λ r. r.0 ≡ first) → (r : Run) × (t : List Run) × (r.0 ≡ first) × (es ≡ r ∷ t)
+      split : (es : List Run) → IsSomeAnd (first_item es) (λ r. r.0 ≡ first) → (r : Run) × (t : List Run) × (r.0 ≡ first) × (es ≡ r ∷ t)
       split [] h = absurd h
       split (x ∷ xs) h = (x, xs, h, refl)
 
@@ -315,7 +317,7 @@ module _ (inode from : ℕ) (bs : List ℕ) (first : RunStart) (rs : List Run) (
       subst (λ n. EndBy (place first.inode n - gap n) (runs_before (place_of first) rs)) e here.before)
       (cases_lt first.from from)
 
-  module _ (fits : from + length bs ≤ 1099511627776) (new : List Run) (rise : Rise 0 new) (w : Writes from bs first rs new) where
+  module _ (fits : from + length bs ≤ FILE_END) (new : List Run) (rise : Rise 0 new) (w : Writes from bs first rs new) where
     parts : runs_before (place_of first) rs ++ runs_from (place_of first) new ≡ new
     parts = ap (λ (t : List Run). t ++ runs_from (place_of first) new) (sym w.before) ∙ whole (place_of first) 0 new rise
 

@@ -1,5 +1,5 @@
 -- Journals of cleanings that no POSIX tree allows, by the first entry that may not stand.
-use Rattle.std.proofs.Common.{◌≡◌, ℕ, Bool, true, false, IsTrue, List, [], ◌∷◌, ◌++◌, take, refl, sym, ap, codes, arith, lit≤, lit<, subst, ◌||◌, ◌==◌}
+use Rattle.std.proofs.Common.{◌≡◌, ℕ, Bool, false, IsTrue, List, [], ◌∷◌, ◌++◌, take, refl, sym, ap, codes, arith, lit≤, lit<, subst, ◌||◌, ◌==◌}
 use Rattle.jv_model.specs.declared.act.Act.{Act}
 use Rattle.jv_model.specs.declared.act.ActKind.TheVariants.{Mounted, Meta, Opened, Commit, Expired, Purged, Cleaned, Quiet, Ticked, Answered}
 use Rattle.jv_model.specs.declared.act.Told.{Told}
@@ -14,7 +14,7 @@ use Rattle.jv_model.specs.client.ModelClient.{ModelClient, Cleaning, Stage, Clea
 use Rattle.jv_model.specs.journal.State.{State, is_last}
 use Rattle.jv_model.specs.journal.Past.{Setup, at_start}
 use Rattle.jv_model.specs.journal.Legal.{AllAllowed}
-use Rattle.jv_examples.proofs.RefusalLaws.{entry_is_allowed, own_step, fine_at_once, never, settled_is_told, is_compacting}
+use Rattle.jv_examples.proofs.RefusalLaws.{entry_is_allowed, own_step, fine_at_once, never, settled_is_told, is_compacting, is_cleans}
 use Rattle.jv_examples.proofs.JournalRuns.{run_of, entry, entry_at, journals_compute, ◌∴◌}
 
 -- the end of a cleaning, by how far it is
@@ -25,10 +25,6 @@ record Ended (k : Cleaning) (told : Told) : Type 0 where
 abbrev cleaning_in : Cleaning → Stage → Cleaning
 cleaning_in other (Cleans k) = k
 cleaning_in other _ = other
-
-abbrev is_cleans : Stage → Bool
-is_cleans (Cleans k) = true
-is_cleans _ = false
 
 abbrev third_number : Told → ℕ
 third_number (Fine a b c d) = c

@@ -10,14 +10,14 @@ use Rattle.jv_model.specs.declared.op.Step.TheVariants.{More, Done, Broken}
 use Rattle.jv_model.specs.client.ModelClient.{ModelClient, Doing}
 use Rattle.jv_model.specs.journal.State.{State, of_doing, changed, effect}
 use Rattle.jv_model.specs.journal.Steps.{Start, IsEntry}
-use Rattle.jv_model.specs.journal.Past.{Past, Due, NoMore, ToAnswer, OneStep, lined, line_reply, reply_of, refusal_reply, requested, more_text, asks_clock, begins_in, ends_in_step}
+use Rattle.jv_model.specs.journal.Past.{Past, Due, NoMore, ToAnswer, OneStep, lined, line_reply, reply_of, refusal_reply, requested, asks_clock, begins_in, ends_in_step, says_more}
 use Rattle.jv_model.specs.journal.Legal.{Allowed, OfLine, tick_of}
 use Rattle.jv_model.specs.journal.Stepping.{entry_of, stepped, stepped_by, is_answer, answer_of, AllowsStep, GoesOn, AnswersAlone, AnswersAfter}
 use Rattle.jv_model.specs.script.ReplyText.{printed_line}
 use Rattle.jv_laws.proofs.JournalGrowthLaws.{others_kept}
 use Rattle.jv_laws.proofs.JournalLineLaws.{is_aside, not_aside}
 use Rattle.jv_laws.specs.OnLines.{IsAlone, IsNow, Leads, SameLine}
-use Rattle.jv_laws.proofs.EntriesOfLines.{leads_more, moment_asked, moment_kept, stands_on, entered, after_asking, after_kept, leads_one}
+use Rattle.jv_laws.proofs.LineEntryLaws.{leads_more, moment_asked, moment_kept, stands_on, entered, after_asking, after_kept, leads_one}
 
 -- what an entry does, on any line
 
@@ -44,12 +44,7 @@ no_ticks : (kind : ActKind) → is_aside kind ≡ false → tick_of kind ≡ 0
 no_ticks (Ticked by) e = absurd (cc)
 no_ticks _ e = refl
 
--- what a request makes of the line's text
-abbrev pub said_on : Due → List ℕ → List ℕ
-said_on (OneStep client) said = more_text
-said_on _ said = said
-
-lined_request : (q : Past) (act : Act) (kind : ActKind) → is_answer kind ≡ false → is_aside kind ≡ false → lined q act kind ≡ record q { due = requested q.due; said = said_on q.due q.said }
+lined_request : (q : Past) (act : Act) (kind : ActKind) → is_answer kind ≡ false → is_aside kind ≡ false → lined q act kind ≡ record q { due = requested q.due; said = says_more q.due q.said }
 lined_request q act (Answered told) a b = absurd (cc)
 lined_request q act Crashed a b = absurd (cc)
 lined_request q act (Ticked by) a b = absurd (cc)
@@ -60,12 +55,12 @@ abbrev pub moved : Past → Due → List ℕ → ℕ → ℕ → State → Past
 moved q due said now asked state = record q { due = due; said = said; at = now; asked = asked; state = state }
 
 request_leaves : (q : Past) (now client : ℕ) (kind : ActKind) (before : Due) (asked : ℕ) → q.due ≡ before → is_answer kind ≡ false → is_aside kind ≡ false
-    → entered q (entry_of q.line now client kind) asked ≡ moved q (requested before) (said_on before q.said) now asked (stepped q.state client now kind)
+    → entered q (entry_of q.line now client kind) asked ≡ moved q (requested before) (says_more before q.said) now asked (stepped q.state client now kind)
 request_leaves q now client kind before asked due a b =
     let act = entry_of q.line now client kind in
     ap (λ (p : Past). record p { asked = asked; at = now; state = effect q.state act }) (lined_request q act kind a b)
-    ∙ ap (λ d. moved q (requested d) (said_on d q.said) now asked (effect q.state act)) due
-    ∙ ap (moved q (requested before) (said_on before q.said) now asked) (effect-line q.state q.line now client kind)
+    ∙ ap (λ d. moved q (requested d) (says_more d q.said) now asked (effect q.state act)) due
+    ∙ ap (moved q (requested before) (says_more before q.said) now asked) (effect-line q.state q.line now client kind)
 
 answer_leaves : (q : Past) (now client : ℕ) (told : Told) (reply : Reply) (asked : ℕ) → line_reply q told ≡ reply
     → entered q (entry_of q.line now client (Answered told)) asked ≡ moved q NoMore (printed_line q.state.tree.setting reply) now asked (stepped q.state client now (Answered told))
@@ -145,8 +140,8 @@ end_allowed q client now kind due alone complete runs at moment h = record {
 }
 
 request_ran : (q : Past) (client now : ℕ) (kind : ActKind) (due : Due) → IsAlone q → q.complete ≡ true → RunsClient client due → q.due ≡ due → IsNow q q.ticks now → IsEntryOf q client now kind true → is_answer kind ≡ false
-    → Leads q (entry_of q.line now client kind ∷ []) (moved q (requested due) (said_on due q.said) now (q.asked + 1) (stepped q.state client now kind))
-request_ran q client now kind due alone complete runs at moment h a = leads_one q (entry_of q.line now client kind) (moved q (requested due) (said_on due q.said) now (q.asked + 1) (stepped q.state client now kind))
+    → Leads q (entry_of q.line now client kind ∷ []) (moved q (requested due) (says_more due q.said) now (q.asked + 1) (stepped q.state client now kind))
+request_ran q client now kind due alone complete runs at moment h a = leads_one q (entry_of q.line now client kind) (moved q (requested due) (says_more due q.said) now (q.asked + 1) (stepped q.state client now kind))
     (begin_allowed q client now kind due alone complete runs at moment h)
     (after_asking q (entry_of q.line now client kind) alone (asks_first q client now kind due runs at h) ∙ request_leaves q now client kind due (q.asked + 1) at a (aside_not q client now kind true h))
 
@@ -169,7 +164,7 @@ answer_after_ran q client now told reply due alone complete runs at moment h say
 -- the operation goes on after it
 pub record IsLeft (due : Due) (client : ℕ) (said : List ℕ) (r : Past) : Type 0 where
   pub due_is : r.due ≡ requested due
-  pub said_is : r.said ≡ said_on due said
+  pub said_is : r.said ≡ says_more due said
   pub goes_on : ends_in_step (r.state.clients client) ≡ false
 
 -- the line is done, and prints its reply
@@ -199,7 +194,7 @@ HasRun due q client now kinds step = (r : Past) × StepsOn due q client now kind
 went_on : (q : Past) (client now : ℕ) (kind : ActKind) (due : Due) → IsAlone q → q.complete ≡ true → RunsClient client due → q.due ≡ due → IsNow q q.ticks now → IsEntryOf q client now kind true → is_answer kind ≡ false
     → ends_in_step ((stepped q.state client now kind).clients client) ≡ false → HasRun due q client now (kind ∷ []) More
 went_on q client now kind due alone complete runs at moment h a open_yet = (
-  moved q (requested due) (said_on due q.said) now (q.asked + 1) (stepped q.state client now kind),
+  moved q (requested due) (says_more due q.said) now (q.asked + 1) (stepped q.state client now kind),
   record {
     leads = request_ran q client now kind due alone complete runs at moment h a;
     same = record { line = refl; run = refl; rest = refl; printed = refl; complete = refl };
@@ -230,7 +225,7 @@ answered_after : (q : Past) (client now : ℕ) (kind : ActKind) (told : Told) (r
     → IsEntryOf q client now kind true → is_answer kind ≡ false → IsEntry q.run.start (q.run.uploads == 0) (stepped q.state client now kind) client now (Answered told) false
     → answer_of ((stepped q.state client now kind).clients client) told ≡ Some reply → HasRun due q client now (kind ∷ Answered told ∷ []) (Done reply)
 answered_after q client now kind told reply due alone complete runs at moment h a g says =
-    let m = moved q (requested due) (said_on due q.said) now (q.asked + 1) (stepped q.state client now kind) in
+    let m = moved q (requested due) (says_more due q.said) now (q.asked + 1) (stepped q.state client now kind) in
     let r = moved m NoMore (printed_line m.state.tree.setting reply) now m.asked (stepped m.state client now (Answered told)) in (
       r,
       record {

@@ -11,6 +11,7 @@ use Rattle.jv_outside.specs.declared.batch.Change.{Change}
 use Rattle.jv_outside.specs.Store.{Store}
 use Rattle.jv_rows.specs.Transactions.{TransactionCounts, FaultCause, BadFault}
 use Rattle.jv_volume.specs.TypedRows.{typed}
+use Rattle.jv_volume.proofs.WalkShapeLaws.{same_Ok}
 use Rattle.jv_changes.specs.Drafting.{Minds, Led, LeadsTo, Drafting}
 
 -- what holds of the tree of each rows in mind that a step begins with
@@ -19,14 +20,11 @@ OfMinds ready was before Holds = (known : RowMap) → before.rows ≡ Some known
     → Minds known was bytes t → ready t → Holds t
 
 -- a step that the model makes, and the tree after it
-same_left : (u v : Tree) → ◌≡◌ {A = Result Tree Fault} (Ok u) (Ok v) → u ≡ v
-same_left u v e = cc
-
 pub led_minds : (known : RowMap) (changes : List Change) (bytes : ℕ → ℕ → ℕ) (model : Result Tree Fault) (t : Tree)
     → model ≡ Ok t → Led known changes bytes model
     → Minds known changes bytes t
 led_minds known changes bytes model t is led = subst (Minds known changes bytes)
-    (same_left led.left t (sym led.is ∙ is)) led.minds
+    (same_Ok led.left t (sym led.is ∙ is)) led.minds
 
 module _ {A B : Type 0} (ready : Tree → Type 0) (was middle now : List Change) (before between after : Store) (x : A)
     (first : Tree → Result Tree Fault) (next : Tree → Tree)

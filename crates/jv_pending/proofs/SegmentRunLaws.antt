@@ -5,17 +5,19 @@ use Rattle.std.proofs.lemmas.Bool.Decides.{nat_tests}
 use Rattle.std.proofs.lemmas.Option.{none-some}
 use Rattle.std.proofs.lemmas.List.{append-nil, length-append}
 use Rattle.std.proofs.lemmas.List.Elements.{filter-append}
+use Rattle.jv_model.specs.declared.limits.TheConstants.{FILE_END, WINDOW}
 use Rattle.jv_model.specs.client.Pending.{PendingByte, Segment, stands_at, comes_before, all_after, is_rising, is_in_range, without_range, pending_of, run_length, first_segment, bytes_in_range, pending_end}
 use Rattle.jv_model.proofs.TestLaws.{some_same}
+use Rattle.jv_model.specs.Lists.{first_item, last_item}
 use Rattle.jv_pending.specs.declared.run.RunStart.{RunStart}
-use Rattle.jv_pending.specs.Runs.{Run, place, place_of, placed, pending_bytes, bytes_at, end_of_run, start_place, end_place, segment_of_run, IsRun, InOrder, Rise, Before, runs_before, runs_from, without_run, first_of, last_of}
-use Rattle.jv_pending.proofs.Places.{byte_place, stands_here, stands_apart, after_true}
-use Rattle.jv_pending.proofs.Bytes.{Rises, Rises-weaker, Rises-placed}
-use Rattle.jv_pending.proofs.Order.{Rises-runs, InOrder-weaker, pending_bytes-append, length-placed}
-use Rattle.jv_pending.proofs.Joins.{gap_tells}
-use Rattle.jv_pending.proofs.Parts.{Rise-order, Rise-before, Rise-from, Before-before, Before-weaker, Before-last, Before-end, from_all, whole, first_split, first_nothing, first_at}
-use Rattle.jv_pending.proofs.Entries.{there, present}
-use Rattle.jv_pending.proofs.Touched.{InOrder-from, last_split, last_nothing, last_file, last_is_run}
+use Rattle.jv_pending.specs.Runs.{Run, place, place_of, placed, pending_bytes, bytes_at, end_of_run, start_place, end_place, segment_of_run, IsRun, InOrder, Rise, Before, runs_before, runs_from, without_run}
+use Rattle.jv_pending.proofs.PlaceLaws.{byte_place, stands_here, stands_apart, after_true}
+use Rattle.jv_pending.proofs.ByteLaws.{Rises, Rises-weaker, Rises-placed}
+use Rattle.jv_pending.proofs.OrderLaws.{Rises-runs, InOrder-weaker, pending_bytes-append, length-placed}
+use Rattle.jv_pending.proofs.JoinLaws.{gap_says}
+use Rattle.jv_pending.proofs.PartLaws.{Rise-order, Rise-before, Rise-from, Before-before, Before-weaker, Before-last, Before-end, from_all, whole, first_split, first_nothing, first_at}
+use Rattle.jv_pending.proofs.EntryLaws.{there, present}
+use Rattle.jv_pending.proofs.TouchedLaws.{InOrder-from, last_split, last_nothing, last_file, last_is_run}
 
 -- bytes that rise are rising
 after_all : (b : PendingByte) (low : ℕ) (bs : List PendingByte) → byte_place b < low → Rises low bs → all_after b.inode b.position bs ≡ true
@@ -29,13 +31,13 @@ rising low [] r = refl
 rising low (b ∷ bs) r = and_from (all_after b.inode b.position bs) (is_rising bs) (after_all b (byte_place b + 1) bs (omega arith) r.2) (rising (byte_place b + 1) bs r.2)
 
 -- tests that no byte of a list passes, or that all pass
-pub filter_none : (q : PendingByte → Bool) (low : ℕ) (bs : List PendingByte) → Rises low bs → ((b : PendingByte) → low ≤ byte_place b → b.position < 1099511627776 → q b ≡ false) → filter q bs ≡ []
+pub filter_none : (q : PendingByte → Bool) (low : ℕ) (bs : List PendingByte) → Rises low bs → ((b : PendingByte) → low ≤ byte_place b → b.position < FILE_END → q b ≡ false) → filter q bs ≡ []
 filter_none q low [] r f = refl
 filter_none q low (b ∷ bs) r f =
     cond-false (q b) (b ∷ filter q bs) (filter q bs) (f b r.1 r.0)
     ∙ filter_none q (byte_place b + 1) bs r.2 (λ x l p. f x (let k = r.1 in omega arith) p)
 
-pub filter_all : (q : PendingByte → Bool) (low : ℕ) (bs : List PendingByte) → Rises low bs → ((b : PendingByte) → low ≤ byte_place b → b.position < 1099511627776 → q b ≡ true) → filter q bs ≡ bs
+pub filter_all : (q : PendingByte → Bool) (low : ℕ) (bs : List PendingByte) → Rises low bs → ((b : PendingByte) → low ≤ byte_place b → b.position < FILE_END → q b ≡ true) → filter q bs ≡ bs
 filter_all q low [] r f = refl
 filter_all q low (b ∷ bs) r f =
     cond-true (q b) (b ∷ filter q bs) (filter q bs) (f b r.1 r.0)
@@ -119,30 +121,30 @@ run_length_none : (i f : ℕ) (t : List PendingByte) → Rises (place i f + 1) t
 run_length_none i f [] r = refl
 run_length_none i f (x ∷ t) r = cond-false (stands_at i f x) _ 0 (stands_apart i f x (λ e. let k = r.1 in omega arith))
 
-pub run_length_placed : (i f : ℕ) (bs : List ℕ) (t : List PendingByte) → 0 < length bs → f % 67108864 + length bs ≤ 67108864 → f + length bs ≤ 1099511627776 → (0 < (f + length bs) % 67108864 → Rises (place i (f + length bs) + 1) t) → run_length i f (placed i f bs ++ t) ≡ length bs
+pub run_length_placed : (i f : ℕ) (bs : List ℕ) (t : List PendingByte) → 0 < length bs → f % WINDOW + length bs ≤ WINDOW → f + length bs ≤ FILE_END → (0 < (f + length bs) % WINDOW → Rises (place i (f + length bs) + 1) t) → run_length i f (placed i f bs ++ t) ≡ length bs
 run_length_placed i f [] t s w l r = absurd (omega arith)
 run_length_placed i f (b ∷ []) t s w l r =
     cond-true (stands_at i f (record { inode = i; position = f; byte = b })) _ 0 (stands_here i f (record { inode = i; position = f; byte = b }) (omega arith) (omega arith) refl)
     ∙ ⊎_elim
-    (λ z. cond-true (eqb ((f + 1) % 67108864) 0) 1 (1 + run_length i (f + 1) t) (eq-eqb ((f + 1) % 67108864) 0 z))
-    (λ n. cond-false (eqb ((f + 1) % 67108864) 0) 1 (1 + run_length i (f + 1) t) (ne_eqb ((f + 1) % 67108864) 0 n) ∙ ap (λ k. 1 + k) (run_length_none i (f + 1) t (r (omega arith))))
-    (cases_eq ((f + 1) % 67108864) 0)
+    (λ z. cond-true (eqb ((f + 1) % WINDOW) 0) 1 (1 + run_length i (f + 1) t) (eq-eqb ((f + 1) % WINDOW) 0 z))
+    (λ n. cond-false (eqb ((f + 1) % WINDOW) 0) 1 (1 + run_length i (f + 1) t) (ne_eqb ((f + 1) % WINDOW) 0 n) ∙ ap (λ k. 1 + k) (run_length_none i (f + 1) t (r (omega arith))))
+    (cases_eq ((f + 1) % WINDOW) 0)
 run_length_placed i f (b ∷ c ∷ bs) t s w l r =
-    let n : (f + 1) % 67108864 ≡ f % 67108864 + 1 = omega arith in
+    let n : (f + 1) % WINDOW ≡ f % WINDOW + 1 = omega arith in
     cond-true (stands_at i f (record { inode = i; position = f; byte = b })) _ 0 (stands_here i f (record { inode = i; position = f; byte = b }) (omega arith) (omega arith) refl)
-    ∙ cond-false (eqb ((f + 1) % 67108864) 0) 1 (1 + run_length i (f + 1) (placed i (f + 1) (c ∷ bs) ++ t)) (ne_eqb ((f + 1) % 67108864) 0 (λ e. omega arith))
-    ∙ ap (λ k. 1 + k) (run_length_placed i (f + 1) (c ∷ bs) t (omega arith) (omega arith) (omega arith) (λ m. Rises-weaker (place i (f + length (b ∷ c ∷ bs)) + 1) (place i (f + 1 + length (c ∷ bs)) + 1) t (omega arith) (r (subst (λ k. 0 < k % 67108864) (let d : f + 1 + length (c ∷ bs) ≡ f + length (b ∷ c ∷ bs) = omega arith in d) m))))
+    ∙ cond-false (eqb ((f + 1) % WINDOW) 0) 1 (1 + run_length i (f + 1) (placed i (f + 1) (c ∷ bs) ++ t)) (ne_eqb ((f + 1) % WINDOW) 0 (λ e. omega arith))
+    ∙ ap (λ k. 1 + k) (run_length_placed i (f + 1) (c ∷ bs) t (omega arith) (omega arith) (omega arith) (λ m. Rises-weaker (place i (f + length (b ∷ c ∷ bs)) + 1) (place i (f + 1 + length (c ∷ bs)) + 1) t (omega arith) (r (subst (λ k. 0 < k % WINDOW) (let d : f + 1 + length (c ∷ bs) ≡ f + length (b ∷ c ∷ bs) = omega arith in d) m))))
     ∙ omega arith
 
-first_run : (i f : ℕ) (bs : List ℕ) (t : List PendingByte) → 0 < length bs → f % 67108864 + length bs ≤ 67108864 → f + length bs ≤ 1099511627776 → (0 < (f + length bs) % 67108864 → Rises (place i (f + length bs) + 1) t) → first_segment (placed i f bs ++ t) ≡ Some (record { inode = i; from = f; len = length bs })
+first_run : (i f : ℕ) (bs : List ℕ) (t : List PendingByte) → 0 < length bs → f % WINDOW + length bs ≤ WINDOW → f + length bs ≤ FILE_END → (0 < (f + length bs) % WINDOW → Rises (place i (f + length bs) + 1) t) → first_segment (placed i f bs ++ t) ≡ Some (record { inode = i; from = f; len = length bs })
 first_run i f [] t s w l n = absurd (omega arith)
 first_run i f (b ∷ bs) t s w l n = ap (λ k. Some (record { inode = i; from = f; len = k })) (run_length_placed i f (b ∷ bs) t s w l n)
 
-pub first_placed : (r : Run) (t : List PendingByte) → IsRun r → (0 < end_of_run r % 67108864 → Rises (end_place r + 1) t) → first_segment (placed r.0.inode r.0.from r.1 ++ t) ≡ Some (segment_of_run r)
+pub first_placed : (r : Run) (t : List PendingByte) → IsRun r → (0 < end_of_run r % WINDOW → Rises (end_place r + 1) t) → first_segment (placed r.0.inode r.0.from r.1 ++ t) ≡ Some (segment_of_run r)
 first_placed r t h n = first_run r.0.inode r.0.from r.1 t h.some h.in_window h.in_file n
 
 -- the bytes after a run lie apart from it, but where its window ends
-pub apart : (r : Run) (rs : List Run) → InOrder (end_place r) rs → 0 < end_of_run r % 67108864 → Rises (end_place r + 1) (pending_bytes rs)
+pub apart : (r : Run) (rs : List Run) → InOrder (end_place r) rs → 0 < end_of_run r % WINDOW → Rises (end_place r + 1) (pending_bytes rs)
 apart r [] o h = tt
 apart r (x ∷ rs) o h =
     let starts : end_place r + 1 ≤ start_place x =
@@ -150,7 +152,7 @@ apart r (x ∷ rs) o h =
     ⊎_elim
     (λ z. let e = z.0 in let c = z.1 in omega arith)
     (λ z. let c = z.1 in omega arith)
-    (gap_tells x.0.from) in
+    (gap_says x.0.from) in
     Rises-placed x.0.inode x.0.from (end_place r + 1) (end_of_run x) x.1 (pending_bytes rs) refl o.0.in_file starts (Rises-runs (end_place x) rs o.2)
 
 -- the runs are of other inodes
@@ -196,16 +198,16 @@ first_here i low r rs o e =
     ∙ first_placed r (pending_of i (pending_bytes rs)) o.0 (λ m. Rises-filter (λ b. eqb b.inode i) (end_place r + 1) (pending_bytes rs) (apart r rs o.2 m))
 
 -- the first segment of an inode, by the first run from its first place on
-pub own_first : (i : ℕ) (rs : List Run) (r : Run) → InOrder 0 rs → Some r ≡ first_of (runs_from (place i 0) rs) → r.0.inode ≡ i → first_segment (pending_of i (pending_bytes rs)) ≡ Some (segment_of_run r)
+pub own_first : (i : ℕ) (rs : List Run) (r : Run) → InOrder 0 rs → Some r ≡ first_item (runs_from (place i 0) rs) → r.0.inode ≡ i → first_segment (pending_of i (pending_bytes rs)) ≡ Some (segment_of_run r)
 own_first i rs r o h e =
     let s = first_split (runs_from (place i 0) rs) r h in
     let q = InOrder-from (place i 0) 0 rs o in
     ap first_segment (of_from i rs o) ∙ ap (λ (t : List Run). first_segment (pending_of i (pending_bytes t))) s.1 ∙ first_here i q.0 r s.0 (subst (InOrder q.0) s.1 q.1) e
 
-pub own_none : (i : ℕ) (rs : List Run) → InOrder 0 rs → None ≡ first_of (runs_from (place i 0) rs) → pending_of i (pending_bytes rs) ≡ []
+pub own_none : (i : ℕ) (rs : List Run) → InOrder 0 rs → None ≡ first_item (runs_from (place i 0) rs) → pending_of i (pending_bytes rs) ≡ []
 own_none i rs o h = of_from i rs o ∙ ap (λ (t : List Run). pending_of i (pending_bytes t)) (first_nothing (runs_from (place i 0) rs) h)
 
-pub own_other : (i : ℕ) (rs : List Run) (r : Run) → InOrder 0 rs → Some r ≡ first_of (runs_from (place i 0) rs) → (r.0.inode ≡ i → ⊥) → pending_of i (pending_bytes rs) ≡ []
+pub own_other : (i : ℕ) (rs : List Run) (r : Run) → InOrder 0 rs → Some r ≡ first_item (runs_from (place i 0) rs) → (r.0.inode ≡ i → ⊥) → pending_of i (pending_bytes rs) ≡ []
 own_other i rs r o h n =
     let low = Rise-order 0 rs o in
     let s = first_split (runs_from (place i 0) rs) r h in
@@ -216,21 +218,21 @@ own_other i rs r o h n =
     of_from i rs o ∙ of_none i (runs_from (place i 0) rs) (subst (NoneOf i) (sym s.1) (none_from i (start_place r) (r ∷ s.0) (omega arith) rise))
 
 -- the first run of all is the first segment
-pub first_of_all : (rs : List Run) (r : Run) → InOrder 0 rs → Some r ≡ first_of (runs_from 0 rs) → first_segment (pending_bytes rs) ≡ Some (segment_of_run r)
+pub first_of_all : (rs : List Run) (r : Run) → InOrder 0 rs → Some r ≡ first_item (runs_from 0 rs) → first_segment (pending_bytes rs) ≡ Some (segment_of_run r)
 first_of_all rs r o h =
-    let s = first_split rs r (h ∙ ap first_of (from_all 0 0 rs (omega arith) (Rise-order 0 rs o))) in
+    let s = first_split rs r (h ∙ ap first_item (from_all 0 0 rs (omega arith) (Rise-order 0 rs o))) in
     let q = subst (InOrder 0) s.1 o in
     ap (λ (t : List Run). first_segment (pending_bytes t)) s.1 ∙ first_placed r (pending_bytes s.0) q.0 (apart r s.0 q.2)
 
-pub first_is_own : (rs : List Run) (r : Run) → InOrder 0 rs → Some r ≡ first_of (runs_from 0 rs) → first_segment (pending_of r.0.inode (pending_bytes rs)) ≡ Some (segment_of_run r)
+pub first_is_own : (rs : List Run) (r : Run) → InOrder 0 rs → Some r ≡ first_item (runs_from 0 rs) → first_segment (pending_of r.0.inode (pending_bytes rs)) ≡ Some (segment_of_run r)
 first_is_own rs r o h =
-    let s = first_split rs r (h ∙ ap first_of (from_all 0 0 rs (omega arith) (Rise-order 0 rs o))) in
+    let s = first_split rs r (h ∙ ap first_item (from_all 0 0 rs (omega arith) (Rise-order 0 rs o))) in
     ap (λ (t : List Run). first_segment (pending_of r.0.inode (pending_bytes t))) s.1 ∙ first_here r.0.inode 0 r s.0 (subst (InOrder 0) s.1 o) refl
 
-pub none_of_all : (rs : List Run) → InOrder 0 rs → None ≡ first_of (runs_from 0 rs) → pending_bytes rs ≡ []
-none_of_all rs o h = ap pending_bytes (first_nothing rs (h ∙ ap first_of (from_all 0 0 rs (omega arith) (Rise-order 0 rs o))))
+pub none_of_all : (rs : List Run) → InOrder 0 rs → None ≡ first_item (runs_from 0 rs) → pending_bytes rs ≡ []
+none_of_all rs o h = ap pending_bytes (first_nothing rs (h ∙ ap first_item (from_all 0 0 rs (omega arith) (Rise-order 0 rs o))))
 
-pub first_is_run : (n : ℕ) (rs : List Run) (r : Run) → InOrder 0 rs → Some r ≡ first_of (runs_from n rs) → IsRun r
+pub first_is_run : (n : ℕ) (rs : List Run) (r : Run) → InOrder 0 rs → Some r ≡ first_item (runs_from n rs) → IsRun r
 first_is_run n rs r o h = let s = first_split (runs_from n rs) r h in let q = InOrder-from n 0 rs o in (subst (InOrder q.0) s.1 q.1).0
 
 -- an inode's last pending position
@@ -245,10 +247,10 @@ end_placed i f [] h = absurd (omega arith)
 end_placed i f (b ∷ []) h = refl
 end_placed i f (b ∷ c ∷ bs) h = end_placed i (f + 1) (c ∷ bs) (omega arith) ∙ omega arith
 
-pub end_is : (i : ℕ) (rs : List Run) (r : Run) → InOrder 0 rs → Some r ≡ last_of (runs_before (place i 1099511627776) rs) → r.0.inode ≡ i → pending_end (pending_of i (pending_bytes rs)) ≡ end_of_run r
+pub end_is : (i : ℕ) (rs : List Run) (r : Run) → InOrder 0 rs → Some r ≡ last_item (runs_before (place i FILE_END) rs) → r.0.inode ≡ i → pending_end (pending_of i (pending_bytes rs)) ≡ end_of_run r
 end_is i rs r o h e =
     let low = Rise-order 0 rs o in
-    let n : ℕ = place i 1099511627776 in
+    let n : ℕ = place i FILE_END in
     let s = last_split (runs_before n rs) r h in
     let some = (last_is_run n rs r o h).some in
     let last = end_placed r.0.inode r.0.from r.1 some in
@@ -263,36 +265,36 @@ end_is i rs r o h e =
     ∙ end_append (pending_of i (pending_bytes s.0)) (placed r.0.inode r.0.from r.1) (omega arith)
     ∙ last
 
-no_end : (i : ℕ) (rs : List Run) → InOrder 0 rs → NoneOf i (runs_before (place i 1099511627776) rs) → pending_end (pending_of i (pending_bytes rs)) ≡ 0
+no_end : (i : ℕ) (rs : List Run) → InOrder 0 rs → NoneOf i (runs_before (place i FILE_END) rs) → pending_end (pending_of i (pending_bytes rs)) ≡ 0
 no_end i rs o h =
     let low = Rise-order 0 rs o in
-    let n : ℕ = place i 1099511627776 in
+    let n : ℕ = place i FILE_END in
     ap (λ (t : List Run). pending_end (pending_of i (pending_bytes t))) (sym (whole n 0 rs low))
     ∙ ap pending_end (of_append i (runs_before n rs) (runs_from n rs)
     ∙ ap (λ (t : List PendingByte). t ++ pending_of i (pending_bytes (runs_from n rs))) (of_none i (runs_before n rs) h)
     ∙ of_none i (runs_from n rs) (none_from i n (runs_from n rs) (omega arith) (Rise-from n 0 rs low)))
 
-pub end_none : (i : ℕ) (rs : List Run) → InOrder 0 rs → None ≡ last_of (runs_before (place i 1099511627776) rs) → pending_end (pending_of i (pending_bytes rs)) ≡ 0
-end_none i rs o h = no_end i rs o (subst (NoneOf i) (sym (last_nothing (runs_before (place i 1099511627776) rs) h)) tt)
+pub end_none : (i : ℕ) (rs : List Run) → InOrder 0 rs → None ≡ last_item (runs_before (place i FILE_END) rs) → pending_end (pending_of i (pending_bytes rs)) ≡ 0
+end_none i rs o h = no_end i rs o (subst (NoneOf i) (sym (last_nothing (runs_before (place i FILE_END) rs) h)) tt)
 
-pub end_other : (i : ℕ) (rs : List Run) (r : Run) → InOrder 0 rs → Some r ≡ last_of (runs_before (place i 1099511627776) rs) → (r.0.inode ≡ i → ⊥) → pending_end (pending_of i (pending_bytes rs)) ≡ 0
+pub end_other : (i : ℕ) (rs : List Run) (r : Run) → InOrder 0 rs → Some r ≡ last_item (runs_before (place i FILE_END) rs) → (r.0.inode ≡ i → ⊥) → pending_end (pending_of i (pending_bytes rs)) ≡ 0
 end_other i rs r o h n =
     let low = Rise-order 0 rs o in
-    let s = last_split (runs_before (place i 1099511627776) rs) r h in
-    let f = last_file (place i 1099511627776) rs r low h in
+    let s = last_split (runs_before (place i FILE_END) rs) r h in
+    let f = last_file (place i FILE_END) rs r low h in
     let k = f.1 in
-    let front = Before-last 0 s.0 r (subst (Rise 0) s.1 (Rise-before (place i 1099511627776) 0 rs low)) in
+    let front = Before-last 0 s.0 r (subst (Rise 0) s.1 (Rise-before (place i FILE_END) 0 rs low)) in
     no_end i rs o (subst (NoneOf i) (sym s.1) (none_before i (s.0 ++ r ∷ []) (Before-end (place i 0) s.0 r (Before-weaker (start_place r) (place i 0) s.0 (omega arith) front.0) (omega arith))))
 
 -- the run that an inode's first segment names
 pub record Named (start : RunStart) (len : ℕ) (rs : List Run) : Type 0 where
   pub bytes : List ℕ
-  pub file : start.from < 1099511627776
+  pub file : start.from < FILE_END
   pub len_is : length bytes ≡ len
   pub found : bytes_at start rs ≡ Some bytes
   pub all : rs ≡ runs_before (place_of start) rs ++ (start, bytes) ∷ runs_from (place_of start + 1) rs
 
-named_run : (rs : List Run) (r : Run) (n : ℕ) → InOrder 0 rs → Some r ≡ first_of (runs_from n rs) → Named r.0 (length r.1) rs
+named_run : (rs : List Run) (r : Run) (n : ℕ) → InOrder 0 rs → Some r ≡ first_item (runs_from n rs) → Named r.0 (length r.1) rs
 named_run rs r n o h =
     let low = Rise-order 0 rs o in
     let t = first_split (runs_from n rs) r h in
@@ -308,7 +310,7 @@ named_run rs r n o h =
 
 pub named : (start : RunStart) (s : Segment) (rs : List Run) → InOrder 0 rs → start.inode ≡ s.inode → start.from ≡ s.from → first_segment (pending_of s.inode (pending_bytes rs)) ≡ Some s → Named start s.len rs
 named start s rs o ei ef h =
-    elim (first_of (runs_from (place s.inode 0) rs)) as (λ x. first_of (runs_from (place s.inode 0) rs) ≡ x → Named start s.len rs) [
+    elim (first_item (runs_from (place s.inode 0) rs)) as (λ x. first_item (runs_from (place s.inode 0) rs) ≡ x → Named start s.len rs) [
       | None ↦ λ e. absurd (none-some s (sym (ap first_segment (own_none s.inode rs o (sym e))) ∙ h))
       | Some r ↦ λ e. ⊎_elim
           (λ same.

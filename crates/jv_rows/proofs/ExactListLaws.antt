@@ -5,6 +5,7 @@ use Rattle.std.specs.List.{flat_map}
 use Rattle.std.proofs.lemmas.List.{append-nil, length-append}
 use Rattle.std.proofs.Math.Nat.{mul-div_cancel}
 use Rattle.std.proofs.lemmas.List.Concat.{flat_map-cons}
+use Rattle.jv_model.specs.declared.tables.TheConstants.{RECORD_LENGTH}
 use Rattle.jv_model.specs.declared.slice.Rec.{Rec}
 use Rattle.jv_model.specs.rows.RowFields.{◌>>=◌, whole}
 use Rattle.jv_model.specs.rows.RowGrammar.{record_bytes, record_at, records_at, is_list, list_bytes, list_of}
@@ -39,11 +40,11 @@ record_field =
     (λ x f. record { pos = f.0; id = f.1.0; size = f.1.1.0; off = f.1.1.1.0; len = f.1.1.1.1.0 })
     (λ x w. (w.pos, (w.id, (w.size, (w.off, (w.len, tt))))))
 
-record_length : (r : Rec) → length (record_bytes r) ≡ 24
+record_length : (r : Rec) → length (record_bytes r) ≡ RECORD_LENGTH
 unfolding record_bytes
 record_length r = refl
 
-list_length : (rs : List Rec) → length (flat_map record_bytes rs) ≡ length rs * 24
+list_length : (rs : List Rec) → length (flat_map record_bytes rs) ≡ length rs * RECORD_LENGTH
 list_length [] = refl
 list_length (r ∷ rs) = rw flat_map-cons (omega (arith, length-append (record_bytes r) (flat_map record_bytes rs), record_length r, list_length rs))
 
@@ -74,17 +75,17 @@ records_again (r ∷ rs) rest w =
 list_takes : (bytes : List ℕ) (rs : List Rec) → AreBytes bytes → list_of bytes ≡ Some rs → ListWidths rs × (IsTrue (is_list rs) × (bytes ≡ list_bytes rs))
 unfolding list_of list_bytes
 list_takes bytes rs h e =
-    let a = bind_some (records_at (length bytes / 24) bytes) (λ records. whole is_list records.0 records.1) rs e in
+    let a = bind_some (records_at (length bytes / RECORD_LENGTH) bytes) (λ records. whole is_list records.0 records.1) rs e in
     let w = whole_is is_list a.0.0 rs a.0.1 a.2 in
-    let t = records_take (length bytes / 24) bytes a.0 h a.1 in
+    let t = records_take (length bytes / RECORD_LENGTH) bytes a.0 h a.1 in
     let parted : bytes ≡ flat_map record_bytes a.0.0 = t.parts ∙ ap (λ (r : List ℕ). flat_map record_bytes a.0.0 ++ r) w.0 ∙ append-nil (flat_map record_bytes a.0.0) in
     subst (λ (l : List Rec). ListWidths l × (IsTrue (is_list l) × (bytes ≡ flat_map record_bytes l))) w.1.1 (t.widths, (w.1.0, parted))
 
 list_again : (rs : List Rec) → ListWidths rs → IsTrue (is_list rs) → list_of (list_bytes rs) ≡ Some rs
 unfolding list_of list_bytes
 list_again rs w a =
-    let count : length (flat_map record_bytes rs) / 24 ≡ length rs = ap (λ (n : ℕ). n / 24) (list_length rs) ∙ mul-div_cancel (length rs) (lit< tt) in
-    let read : records_at (length (flat_map record_bytes rs) / 24) (flat_map record_bytes rs) ≡ Some (rs, []) =
+    let count : length (flat_map record_bytes rs) / RECORD_LENGTH ≡ length rs = ap (λ (n : ℕ). n / RECORD_LENGTH) (list_length rs) ∙ mul-div_cancel (length rs) (lit< tt) in
+    let read : records_at (length (flat_map record_bytes rs) / RECORD_LENGTH) (flat_map record_bytes rs) ≡ Some (rs, []) =
     ap (λ (n : ℕ). records_at n (flat_map record_bytes rs)) count ∙ ap (records_at (length rs)) (sym (append-nil (flat_map record_bytes rs))) ∙ records_again rs [] w in
     ap (λ (o : Option (List Rec × List ℕ)). o >>= λ records. whole is_list records.0 records.1) read ∙ lets_through (is_list rs) rs a
 

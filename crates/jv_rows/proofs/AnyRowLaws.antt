@@ -8,8 +8,8 @@ use Rattle.jv_model.specs.rows.RowGrammar.{row_of, row_bytes, is_row}
 use Rattle.jv_rows.specs.declared.misread.Misread.{Misread}
 use Rattle.jv_rows.specs.Reads.{ReadsAs, IsSpelled}
 use Rattle.jv_rows.specs.RoundTrips.{AreBytes, IsExact}
-use Rattle.jv_rows.proofs.ExactRows.{setting_exact, counters_exact, node_exact, edge_exact, slice_exact, session_exact, sustained_exact, dropped_exact, dead_exact}
-use Rattle.jv_rows.proofs.ExactLists.{list_exact}
+use Rattle.jv_rows.proofs.ExactRowLaws.{setting_exact, counters_exact, node_exact, edge_exact, slice_exact, session_exact, sustained_exact, dropped_exact, dead_exact}
+use Rattle.jv_rows.proofs.ExactListLaws.{list_exact}
 
 -- where a row was read, it is allowed and the bytes are its spelling
 abbrev Spells : List ℕ → Option Row → Type 0

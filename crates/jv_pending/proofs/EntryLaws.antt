@@ -9,10 +9,11 @@ use Rattle.std.specs.BTreeMap.{is_at, insert_entry}
 use Rattle.std.specs.BTreeMap.Range.{entries_between}
 use Rattle.std.proofs.lemmas.List.Elements.{filter-append}
 use Rattle.std.specs.Map.{lookup, remove_entry, set_value}
+use Rattle.jv_model.specs.declared.limits.TheConstants.{FILE_END}
 use Rattle.jv_model.proofs.TestLaws.{some_same, nat_less}
 use Rattle.jv_pending.specs.declared.run.RunStart.{RunStart}
 use Rattle.jv_pending.specs.Runs.{Run, start_cmp, bytes_at, place_of, start_place, Rise, runs_before, runs_from, runs_within, with_runs, without_run, given_back}
-use Rattle.jv_pending.proofs.Parts.{before_yes, before_no, from_yes, from_no, before_none, from_all, Rise-from, whole, within_is, cut_before, cut_rest, cut_rise, with_before, with_from, with_here, with_rise, with_with}
+use Rattle.jv_pending.proofs.PartLaws.{before_yes, before_no, from_yes, from_no, before_none, from_all, Rise-from, whole, within_is, cut_before, cut_rest, cut_rise, with_before, with_from, with_here, with_rise, with_with}
 
 -- starts go as their places do
 cmp_equal : (m n : ℕ) → m ≡ n → nat_cmp m n ≡ Equal
@@ -21,32 +22,32 @@ cmp_equal m n e = cond-false (ltb m n) Less (cond (eqb m n) Equal Greater) (le-l
 cmp_greater : (m n : ℕ) → n < m → nat_cmp m n ≡ Greater
 cmp_greater m n h = cond-false (ltb m n) Less (cond (eqb m n) Equal Greater) (le-ltb m n (omega arith)) ∙ cond-false (eqb m n) Equal Greater (ne_eqb m n (λ e. omega arith))
 
-pub starts_less : (s t : RunStart) → s.from ≤ 1099511627776 → t.from < 1099511627776 → place_of s < place_of t → start_cmp s t ≡ Less
+pub starts_less : (s t : RunStart) → s.from ≤ FILE_END → t.from < FILE_END → place_of s < place_of t → start_cmp s t ≡ Less
 starts_less s t a b h =
     ⊎_elim
     (λ e. ap (λ o. ordering_then o (nat_cmp s.from t.from)) (cmp_equal s.inode t.inode e) ∙ nat_less s.from t.from (omega arith))
     (λ o. ⊎_elim (λ l. ap (λ o. ordering_then o (nat_cmp s.from t.from)) (nat_less s.inode t.inode l)) (λ g. absurd (omega arith)) o)
     (cases_order s.inode t.inode)
 
-pub starts_greater : (s t : RunStart) → s.from ≤ 1099511627776 → t.from < 1099511627776 → place_of t < place_of s → start_cmp s t ≡ Greater
+pub starts_greater : (s t : RunStart) → s.from ≤ FILE_END → t.from < FILE_END → place_of t < place_of s → start_cmp s t ≡ Greater
 starts_greater s t a b h =
     ⊎_elim
     (λ e. ap (λ o. ordering_then o (nat_cmp s.from t.from)) (cmp_equal s.inode t.inode e) ∙ cmp_greater s.from t.from (omega arith))
     (λ o. ⊎_elim (λ l. absurd (omega arith)) (λ g. ap (λ o. ordering_then o (nat_cmp s.from t.from)) (cmp_greater s.inode t.inode g)) o)
     (cases_order s.inode t.inode)
 
-pub same_start : (s t : RunStart) → s.from < 1099511627776 → t.from < 1099511627776 → place_of s ≡ place_of t → s ≡ t
+pub same_start : (s t : RunStart) → s.from < FILE_END → t.from < FILE_END → place_of s ≡ place_of t → s ≡ t
 same_start s t a b h =
     let i : s.inode ≡ t.inode = omega arith in
     let f : s.from ≡ t.from = omega arith in
     λ k. record { inode = i k; from = f k }
 
-pub starts_equal : (s t : RunStart) → s.from < 1099511627776 → t.from < 1099511627776 → place_of s ≡ place_of t → start_cmp s t ≡ Equal
+pub starts_equal : (s t : RunStart) → s.from < FILE_END → t.from < FILE_END → place_of s ≡ place_of t → start_cmp s t ≡ Equal
 starts_equal s t a b h =
     let i : s.inode ≡ t.inode = omega arith in
     ap (λ o. ordering_then o (nat_cmp s.from t.from)) (cmp_equal s.inode t.inode i) ∙ cmp_equal s.from t.from (omega arith)
 
-pub starts_le : (s t : RunStart) → s.from ≤ 1099511627776 → t.from < 1099511627776 → is_le (start_cmp s t) ≡ leb (place_of s) (place_of t)
+pub starts_le : (s t : RunStart) → s.from ≤ FILE_END → t.from < FILE_END → is_le (start_cmp s t) ≡ leb (place_of s) (place_of t)
 starts_le s t a b =
     ⊎_elim
     (λ l. ap is_le (starts_less s t a b l) ∙ sym (le-leb (place_of s) (place_of t) (omega arith)))
@@ -55,12 +56,12 @@ starts_le s t a b =
     (λ e. ⊎_elim
     (λ in_file. ap is_le (starts_equal s t in_file b (omega arith)) ∙ sym (le-leb (place_of s) (place_of t) (omega arith)))
     (λ past. ap is_le (ap (λ o. ordering_then o (nat_cmp s.from t.from)) (nat_less s.inode t.inode (omega arith))) ∙ sym (le-leb (place_of s) (place_of t) (omega arith)))
-    (cases_lt s.from 1099511627776))
+    (cases_lt s.from FILE_END))
     (cases_lt (place_of t) (place_of s)))
     (cases_lt (place_of s) (place_of t))
 
 -- the ranges of a map
-pub between_from : (s : RunStart) (low : ℕ) (es : List Run) → s.from ≤ 1099511627776 → Rise low es → entries_between start_cmp (Included s) Unbounded es ≡ runs_from (place_of s) es
+pub between_from : (s : RunStart) (low : ℕ) (es : List Run) → s.from ≤ FILE_END → Rise low es → entries_between start_cmp (Included s) Unbounded es ≡ runs_from (place_of s) es
 between_from s low [] h r = refl
 between_from s low (e ∷ es) h r =
     let rest = between_from s (start_place e + 1) es h r.2 in
@@ -70,7 +71,7 @@ between_from s low (e ∷ es) h r =
     (λ g. ap (λ b. cond (b && true) (e ∷ entries_between start_cmp (Included s) Unbounded es) (entries_between start_cmp (Included s) Unbounded es)) (test ∙ le-leb (place_of s) (start_place e) g) ∙ ap (λ (t : List Run). e ∷ t) rest ∙ sym (from_yes (place_of s) e es g))
     (cases_lt (start_place e) (place_of s))
 
-pub between_before : (s : RunStart) (low : ℕ) (es : List Run) → s.from ≤ 1099511627776 → Rise low es → entries_between start_cmp Unbounded (Excluded s) es ≡ runs_before (place_of s) es
+pub between_before : (s : RunStart) (low : ℕ) (es : List Run) → s.from ≤ FILE_END → Rise low es → entries_between start_cmp Unbounded (Excluded s) es ≡ runs_before (place_of s) es
 between_before s low [] h r = refl
 between_before s low (e ∷ es) h r =
     let rest = between_before s (start_place e + 1) es h r.2 in
@@ -80,7 +81,7 @@ between_before s low (e ∷ es) h r =
     (λ g. ap (λ b. cond (not b) (e ∷ entries_between start_cmp Unbounded (Excluded s) es) (entries_between start_cmp Unbounded (Excluded s) es)) (test ∙ le-leb (place_of s) (start_place e) g) ∙ rest ∙ sym (before_no (place_of s) e es g))
     (cases_lt (start_place e) (place_of s))
 
-pub between_within : (s t : RunStart) (low : ℕ) (es : List Run) → s.from ≤ 1099511627776 → t.from ≤ 1099511627776 → Rise low es → entries_between start_cmp (Included s) (Excluded t) es ≡ runs_within (place_of s) (place_of t) es
+pub between_within : (s t : RunStart) (low : ℕ) (es : List Run) → s.from ≤ FILE_END → t.from ≤ FILE_END → Rise low es → entries_between start_cmp (Included s) (Excluded t) es ≡ runs_within (place_of s) (place_of t) es
 between_within s t low [] h k r = refl
 between_within s t low (e ∷ es) h k r =
     let rest = between_within s t (start_place e + 1) es h k r.2 in
@@ -110,11 +111,11 @@ first_bytes [] = None
 first_bytes (r ∷ rs) = Some r.1
 
 -- what a map has at a start
-module _ (k : RunStart) (file : k.from < 1099511627776) where
-  at_less : (e : Run) → e.0.from < 1099511627776 → start_place e < place_of k → start_cmp k e.0 ≡ Greater
+module _ (k : RunStart) (file : k.from < FILE_END) where
+  at_less : (e : Run) → e.0.from < FILE_END → start_place e < place_of k → start_cmp k e.0 ≡ Greater
   at_less e h l = starts_greater k e.0 (omega arith) h l
 
-  at_more : (e : Run) → e.0.from < 1099511627776 → place_of k < start_place e → start_cmp k e.0 ≡ Less
+  at_more : (e : Run) → e.0.from < FILE_END → place_of k < start_place e → start_cmp k e.0 ≡ Less
   at_more e h l = starts_less k e.0 (omega arith) h l
 
   -- the runs that begin from there on
@@ -226,7 +227,7 @@ module _ (k : RunStart) (file : k.from < 1099511627776) where
       (cases_order (place_of k) (start_place e))
 
 -- a place that is made where there is no run, and one that is given up
-module _ (k : RunStart) (file : k.from < 1099511627776) (es : List Run) (r : Rise 0 es) where
+module _ (k : RunStart) (file : k.from < FILE_END) (es : List Run) (r : Rise 0 es) where
   pub one_rises : (v : List ℕ) → Rise 0 ((k, v) ∷ [])
   one_rises v = (file, omega arith, tt)
 
@@ -272,7 +273,7 @@ module _ (k : RunStart) (file : k.from < 1099511627776) (es : List Run) (r : Ris
   swap_over w v high h = with_with ((k, v) ∷ []) ((k, w) ∷ []) high (place_of k + 1) 0 es (one_rises w) (omega arith, tt) r (omega arith) (omega arith)
 
 -- the runs within two places, by the run at the first
-pub within_cons : (k : RunStart) (high : ℕ) (es : List Run) (v : List ℕ) → k.from < 1099511627776 → place_of k < high → Rise 0 es → bytes_at k es ≡ Some v → runs_within (place_of k) high es ≡ (k, v) ∷ runs_within (place_of k + 1) high es
+pub within_cons : (k : RunStart) (high : ℕ) (es : List Run) (v : List ℕ) → k.from < FILE_END → place_of k < high → Rise 0 es → bytes_at k es ≡ Some v → runs_within (place_of k) high es ≡ (k, v) ∷ runs_within (place_of k + 1) high es
 within_cons k high es v file h r e =
     within_is (place_of k) high es
     ∙ ap (runs_before high) (present k file 0 es v r e)
@@ -280,7 +281,7 @@ within_cons k high es v file h r e =
     ∙ ap (λ (t : List Run). (k, v) ∷ t) (sym (within_is (place_of k + 1) high es))
 
 -- other bytes in a run change none before it
-pub kept_there : (k s : RunStart) (es : List Run) (v w : List ℕ) → k.from < 1099511627776 → s.from < 1099511627776 → place_of k < place_of s → Rise 0 es → bytes_at k es ≡ Some v → bytes_at k (with_runs ((s, w) ∷ []) (place_of s + 1) es) ≡ Some v
+pub kept_there : (k s : RunStart) (es : List Run) (v w : List ℕ) → k.from < FILE_END → s.from < FILE_END → place_of k < place_of s → Rise 0 es → bytes_at k es ≡ Some v → bytes_at k (with_runs ((s, w) ∷ []) (place_of s + 1) es) ≡ Some v
 kept_there k s es v w f g h r e =
     there k f 0 (with_runs ((s, w) ∷ []) (place_of s + 1) es)
     (runs_within (place_of k + 1) (place_of s) es ++ runs_from (place_of k) ((s, w) ∷ runs_from (place_of s + 1) es)) v
@@ -289,7 +290,7 @@ kept_there k s es v w f g h r e =
     ∙ ap (λ (t : List Run). t ++ runs_from (place_of k) ((s, w) ∷ runs_from (place_of s + 1) es)) (within_cons k (place_of s) es v f h r e))
 
 -- a run that is given back to the place that it was taken out of
-pub given_back_is : (is_new : Bool) (k : RunStart) (old made mid : List Run) (v w : List ℕ) → k.from < 1099511627776 → Rise 0 made → bytes_at k made ≡ Some v → mid ≡ with_runs ((k, w) ∷ []) (place_of k + 1) made
+pub given_back_is : (is_new : Bool) (k : RunStart) (old made mid : List Run) (v w : List ℕ) → k.from < FILE_END → Rise 0 made → bytes_at k made ≡ Some v → mid ≡ with_runs ((k, w) ∷ []) (place_of k + 1) made
     → old ≡ (if is_new then without_run k made else made) → given_back k is_new v mid ≡ old
 given_back_is true k old made mid v w f r e m h =
     ap (without_run k) m
@@ -303,7 +304,7 @@ given_back_is false k old made mid v w f r e m h =
     ∙ sym h
 
 -- a run before a place stays where those before it do
-pub there_before : (k : RunStart) (high : ℕ) (es fs : List Run) (v : List ℕ) → k.from < 1099511627776 → place_of k < high → Rise 0 es → Rise 0 fs → runs_before high fs ≡ runs_before high es → bytes_at k es ≡ Some v → bytes_at k fs ≡ Some v
+pub there_before : (k : RunStart) (high : ℕ) (es fs : List Run) (v : List ℕ) → k.from < FILE_END → place_of k < high → Rise 0 es → Rise 0 fs → runs_before high fs ≡ runs_before high es → bytes_at k es ≡ Some v → bytes_at k fs ≡ Some v
 there_before k high es fs v f h r q same e =
     there k f 0 fs (runs_within (place_of k + 1) high es ++ runs_from (place_of k) (runs_from high fs)) v q
     (ap (runs_from (place_of k)) (sym (whole high 0 fs q))

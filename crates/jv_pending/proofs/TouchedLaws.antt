@@ -4,16 +4,18 @@ use Rattle.std.proofs.lemmas.Bool.{cases_lt, cases_eq, cases_order}
 use Rattle.std.proofs.lemmas.Option.{none-some}
 use Rattle.std.proofs.lemmas.List.{append_assoc, append-nil, take_all}
 use Rattle.std.proofs.lemmas.List.Elements.{filter-append}
+use Rattle.jv_model.specs.declared.limits.TheConstants.{FILE_END}
 use Rattle.jv_model.proofs.TestLaws.{some_same}
+use Rattle.jv_model.specs.Lists.{first_item, last_item}
 use Rattle.jv_pending.specs.declared.run.RunStart.{RunStart}
-use Rattle.jv_pending.specs.Runs.{Run, place, place_of, start_place, end_place, end_of_run, gap, bytes_at, IsRun, InOrder, Rise, Before, EndBy, BeginBy, Reaches, IsFirst, IsTouched, runs_before, runs_from, runs_within, first_of, last_of, head_of, tail_of, joined_from}
-use Rattle.jv_pending.proofs.Order.{EndBy-weaker, InOrder-left}
-use Rattle.jv_pending.proofs.Joins.{BeginBy-weaker, gap_le, gap_tells, order_after}
-use Rattle.jv_pending.proofs.Parts.{before_yes, before_no, before_none, before_all, from_yes, from_no, from_none, from_all, Rise-order, Rise-before, Rise-from, Before-before, Before-weaker, Before-last, file_last, last_early, before_before, within_is, whole}
-use Rattle.jv_pending.proofs.Entries.{present, absent, there}
+use Rattle.jv_pending.specs.Runs.{Run, place, place_of, start_place, end_place, end_of_run, gap, bytes_at, IsRun, InOrder, Rise, Before, EndBy, BeginBy, Reaches, IsFirst, IsTouched, runs_before, runs_from, runs_within, head_of, tail_of, joined_from}
+use Rattle.jv_pending.proofs.OrderLaws.{EndBy-weaker, InOrder-left}
+use Rattle.jv_pending.proofs.JoinLaws.{BeginBy-weaker, gap_le, gap_says, order_after}
+use Rattle.jv_pending.proofs.PartLaws.{before_yes, before_no, before_none, before_all, from_yes, from_no, from_none, from_all, Rise-order, Rise-before, Rise-from, Before-before, Before-weaker, Before-last, file_last, last_early, before_before, within_is, whole}
+use Rattle.jv_pending.proofs.EntryLaws.{present, absent, there}
 
 -- the last run
-pub last_split : (xs : List Run) (r : Run) → Some r ≡ last_of xs → (t : List Run) × (xs ≡ t ++ r ∷ [])
+pub last_split : (xs : List Run) (r : Run) → Some r ≡ last_item xs → (t : List Run) × (xs ≡ t ++ r ∷ [])
 last_split [] r h = absurd (none-some r (sym h))
 last_split (x ∷ []) r h = ([], ap (λ (y : Run). y ∷ []) (some_same x r (sym h)))
 last_split (x ∷ y ∷ xs) r h = let q = last_split (y ∷ xs) r h in (x ∷ q.0, ap (λ (t : List Run). x ∷ t) q.1)
@@ -21,12 +23,12 @@ last_split (x ∷ y ∷ xs) r h = let q = last_split (y ∷ xs) r h in (x ∷ q.
 cons_none : (x : Run) (xs : List Run) → x ∷ xs ≡ [] → ⊥
 cons_none x xs h = let n = ap length h in absurd (omega arith)
 
-pub last_nothing : (xs : List Run) → None ≡ last_of xs → xs ≡ []
+pub last_nothing : (xs : List Run) → None ≡ last_item xs → xs ≡ []
 last_nothing [] h = refl
 last_nothing (x ∷ []) h = absurd (none-some x h)
 last_nothing (x ∷ y ∷ xs) h = absurd (cons_none y xs (last_nothing (y ∷ xs) h))
 
-pub last_file : (n : ℕ) (rs : List Run) (r : Run) → Rise 0 rs → Some r ≡ last_of (runs_before n rs) → (r.0.from < 1099511627776) × (start_place r < n)
+pub last_file : (n : ℕ) (rs : List Run) (r : Run) → Rise 0 rs → Some r ≡ last_item (runs_before n rs) → (r.0.from < FILE_END) × (start_place r < n)
 last_file n rs r o h =
     let s = last_split (runs_before n rs) r h in
     (file_last 0 s.0 r (subst (Rise 0) s.1 (Rise-before n 0 rs o)), last_early n s.0 r (subst (Before n) s.1 (Before-before n rs)))
@@ -37,14 +39,14 @@ tail_end to (x ∷ []) r = refl
 tail_end to (x ∷ y ∷ xs) r = tail_end to (y ∷ xs) r
 
 -- the bytes behind a write, by the last run that begins before a place
-pub tail_there : (first end to : ℕ) (rs : List Run) (r : Run) → Rise 0 rs → Some r ≡ last_of (runs_before end rs) → first ≤ start_place r → tail_of to (runs_within first end rs) ≡ drop (to - r.0.from) r.1
+pub tail_there : (first end to : ℕ) (rs : List Run) (r : Run) → Rise 0 rs → Some r ≡ last_item (runs_before end rs) → first ≤ start_place r → tail_of to (runs_within first end rs) ≡ drop (to - r.0.from) r.1
 tail_there first end to rs r o h l =
     let s = last_split (runs_before end rs) r h in
     ap (λ (t : List Run). tail_of to (runs_from first t)) s.1
     ∙ ap (tail_of to) (filter-append (λ x. leb first (start_place x)) s.0 (r ∷ []) ∙ ap (λ (t : List Run). runs_from first s.0 ++ t) (from_yes first r [] l))
     ∙ tail_end to (runs_from first s.0) r
 
-pub tail_early : (first end to : ℕ) (rs : List Run) (r : Run) → Rise 0 rs → Some r ≡ last_of (runs_before end rs) → start_place r < first → tail_of to (runs_within first end rs) ≡ []
+pub tail_early : (first end to : ℕ) (rs : List Run) (r : Run) → Rise 0 rs → Some r ≡ last_item (runs_before end rs) → start_place r < first → tail_of to (runs_within first end rs) ≡ []
 tail_early first end to rs r o h l =
     let s = last_split (runs_before end rs) r h in
     let rise : Rise 0 (s.0 ++ r ∷ []) = subst (Rise 0) s.1 (Rise-before end 0 rs o) in
@@ -53,7 +55,7 @@ tail_early first end to rs r o h l =
     ∙ ap (λ (t : List Run). t ++ runs_from first (r ∷ [])) (from_none first s.0 (Before-weaker (start_place r) first s.0 (omega arith) (Before-last 0 s.0 r rise).0))
     ∙ from_no first r [] l)
 
-pub tail_none : (first end to : ℕ) (rs : List Run) → None ≡ last_of (runs_before end rs) → tail_of to (runs_within first end rs) ≡ []
+pub tail_none : (first end to : ℕ) (rs : List Run) → None ≡ last_item (runs_before end rs) → tail_of to (runs_within first end rs) ≡ []
 tail_none first end to rs h = ap (λ (t : List Run). tail_of to (runs_from first t)) (last_nothing (runs_before end rs) h)
 
 -- the runs within two places
@@ -67,28 +69,28 @@ within_before first end rs = subst (Before end) (sym (within_is first end rs)) (
 pub take_none : (n : ℕ) → take {A = ℕ} n [] ≡ []
 take_none n = take_all n [] (omega arith)
 
-head_late : (i from low : ℕ) (mid : List Run) (first : RunStart) → first.inode ≡ i → low ≡ place_of first + 1 → Rise low mid → BeginBy i 1099511627776 mid → joined_from from mid ≡ first.from → head_of from mid ≡ []
+head_late : (i from low : ℕ) (mid : List Run) (first : RunStart) → first.inode ≡ i → low ≡ place_of first + 1 → Rise low mid → BeginBy i FILE_END mid → joined_from from mid ≡ first.from → head_of from mid ≡ []
 head_late i from low [] first e l r b j = refl
 head_late i from low (x ∷ mid) first e l r b j =
     let k = r.1 in
     let n = b.0 in
     ap (λ m. take m x.1) (let z : from - x.0.from ≡ 0 = omega arith in z)
 
-pub head_is : (i from to : ℕ) (rs : List Run) (first end : RunStart) → Rise 0 rs → to ≤ 1099511627776 → from < to → IsTouched i from to rs first end → head_of from (runs_within (place_of first) (place_of end) rs) ≡ take (from - first.from) (unwrap_or (bytes_at first rs) [])
+pub head_is : (i from to : ℕ) (rs : List Run) (first end : RunStart) → Rise 0 rs → to ≤ FILE_END → from < to → IsTouched i from to rs first end → head_of from (runs_within (place_of first) (place_of end) rs) ≡ take (from - first.from) (unwrap_or (bytes_at first rs) [])
 head_is i from to rs first end o file lt t =
     let ff = t.first_from in
     let fi = t.first_inode in
     let ei = t.end_inode in
     let ef = t.end_from in
     let g = gap_le to in
-    let here : first.from < 1099511627776 = omega arith in
+    let here : first.from < FILE_END = omega arith in
     let up : place_of first < place_of end = omega arith in
     elim (bytes_at first rs) as (λ b. bytes_at first rs ≡ b → head_of from (runs_within (place_of first) (place_of end) rs) ≡ take (from - first.from) (unwrap_or b [])) [
       | None ↦ λ e.
           let m : runs_within (place_of first) (place_of end) rs ≡ runs_within (place_of first + 1) (place_of end) rs =
           within_is (place_of first) (place_of end) rs ∙ ap (runs_before (place_of end)) (absent first here 0 rs o e) ∙ sym (within_is (place_of first + 1) (place_of end) rs) in
           head_late i from (place_of first + 1) (runs_within (place_of first) (place_of end) rs) first fi refl (subst (Rise (place_of first + 1)) (sym m) (within_rise (place_of first + 1) (place_of end) rs o))
-          (BeginBy-weaker i (to + gap to - 1) 1099511627776 (runs_within (place_of first) (place_of end) rs) (omega arith) t.of_inode) t.begins
+          (BeginBy-weaker i (to + gap to - 1) FILE_END (runs_within (place_of first) (place_of end) rs) (omega arith) t.of_inode) t.begins
           ∙ sym (take_none (from - first.from))
       | Some v ↦ λ e.
           ap (head_of from) (within_is (place_of first) (place_of end) rs ∙ ap (runs_before (place_of end)) (present first here 0 rs v o e) ∙ before_yes (place_of end) (first, v) (runs_from (place_of first + 1) rs) up)
@@ -131,7 +133,7 @@ end_is_run low (x ∷ xs) r o = end_is_run (end_place x) xs r o.2
 pub InOrder-before : (n : ℕ) (rs : List Run) → InOrder 0 rs → InOrder 0 (runs_before n rs)
 InOrder-before n rs o = InOrder-left 0 (runs_before n rs) (runs_from n rs) (subst (InOrder 0) (sym (whole n 0 rs (Rise-order 0 rs o))) o)
 
-pub last_is_run : (n : ℕ) (rs : List Run) (r : Run) → InOrder 0 rs → Some r ≡ last_of (runs_before n rs) → IsRun r
+pub last_is_run : (n : ℕ) (rs : List Run) (r : Run) → InOrder 0 rs → Some r ≡ last_item (runs_before n rs) → IsRun r
 last_is_run n rs r o h = let s = last_split (runs_before n rs) r h in end_is_run 0 s.0 r (subst (InOrder 0) s.1 (InOrder-before n rs o))
 
 Rise-split : (low : ℕ) (xs : List Run) (r : Run) (ys : List Run) → Rise low (xs ++ r ∷ ys) → Before (start_place r) xs × Rise (start_place r) (r ∷ ys) × (low ≤ start_place r)
@@ -139,7 +141,7 @@ Rise-split low [] r ys h = (tt, (h.0, omega arith, h.2), h.1)
 Rise-split low (x ∷ xs) r ys h = let q = Rise-split (start_place x + 1) xs r ys h.2 in let k = h.1 in let e = q.2 in ((omega arith, q.0), q.1, omega arith)
 
 -- the last run before a place is in the map
-pub last_there : (n : ℕ) (rs : List Run) (r : Run) → Rise 0 rs → Some r ≡ last_of (runs_before n rs) → bytes_at r.0 rs ≡ Some r.1
+pub last_there : (n : ℕ) (rs : List Run) (r : Run) → Rise 0 rs → Some r ≡ last_item (runs_before n rs) → bytes_at r.0 rs ≡ Some r.1
 last_there n rs r o h =
     let s = last_split (runs_before n rs) r h in
     let after : List Run = runs_from n rs in
@@ -153,12 +155,12 @@ last_there n rs r o h =
     there r.0 (last_file n rs r o h).0 0 rs after r.1 o here
 
 -- a run that begins at a position or later reaches it
-pub late : (i from low : ℕ) (rs : List Run) → InOrder low rs → Rise (place i from) rs → IfSome (first_of rs) (λ r. r.0.inode ≡ i → from + 1 ≤ end_of_run r + gap from)
+pub late : (i from low : ℕ) (rs : List Run) → InOrder low rs → Rise (place i from) rs → IfSome (first_item rs) (λ r. r.0.inode ≡ i → from + 1 ≤ end_of_run r + gap from)
 late i from low [] o r = tt
 late i from low (x ∷ rs) o r = λ e. let s = o.0.some in let k = r.1 in omega arith
 
 -- the run that begins last up to a position and reaches it is the first that a write touches
-pub first_reaches : (i from : ℕ) (rs : List Run) (r : Run) → InOrder 0 rs → Some r ≡ last_of (runs_before (place i from + 1) rs) → from < 1099511627776 → r.0.inode ≡ i → from + 1 ≤ end_of_run r + gap from → IsFirst i from rs r.0
+pub first_reaches : (i from : ℕ) (rs : List Run) (r : Run) → InOrder 0 rs → Some r ≡ last_item (runs_before (place i from + 1) rs) → from < FILE_END → r.0.inode ≡ i → from + 1 ≤ end_of_run r + gap from → IsFirst i from rs r.0
 first_reaches i from rs r o h file e reach =
     let low = Rise-order 0 rs o in
     let s = last_split (runs_before (place i from + 1) rs) r h in
@@ -187,8 +189,8 @@ first_reaches i from rs r o h file e reach =
       inode_is = e;
       from_is = omega arith;
       before = subst (EndBy (place i from - gap from)) (sym before) (EndBy-weaker (start_place r - gap r.0.from) (place i from - gap from) s.0 below (end_early 0 s.0 r after (subst (InOrder 0) all o)).0);
-      reached = subst (λ (t : List Run). IfSome (first_of t) (λ x. x.0.inode ≡ i → from + 1 ≤ end_of_run x + gap from)) (sym here) (λ _. reach);
-      begins = λ _. subst (λ (t : List Run). IsSomeAnd (first_of t) (λ x. x.0 ≡ r.0)) (sym here) refl;
+      reached = subst (λ (t : List Run). IfSome (first_item t) (λ x. x.0.inode ≡ i → from + 1 ≤ end_of_run x + gap from)) (sym here) (λ _. reach);
+      begins = λ _. subst (λ (t : List Run). IsSomeAnd (first_item t) (λ x. x.0 ≡ r.0)) (sym here) refl;
     }
 
 -- where no run reaches it, the write itself is the first
@@ -204,10 +206,10 @@ first_here i from rs o b =
       begins = λ l. absurd (omega arith);
     }
 
-pub first_none : (i from : ℕ) (rs : List Run) → InOrder 0 rs → None ≡ last_of (runs_before (place i from + 1) rs) → IsFirst i from rs (record { inode = i; from = from })
+pub first_none : (i from : ℕ) (rs : List Run) → InOrder 0 rs → None ≡ last_item (runs_before (place i from + 1) rs) → IsFirst i from rs (record { inode = i; from = from })
 first_none i from rs o h = first_here i from rs o (subst (EndBy (place i from - gap from)) (sym (last_nothing (runs_before (place i from + 1) rs) h)) tt)
 
-pub first_apart : (i from : ℕ) (rs : List Run) (r : Run) → InOrder 0 rs → Some r ≡ last_of (runs_before (place i from + 1) rs) → from < 1099511627776 → (r.0.inode ≡ i → end_of_run r + gap from ≤ from) → IsFirst i from rs (record { inode = i; from = from })
+pub first_apart : (i from : ℕ) (rs : List Run) (r : Run) → InOrder 0 rs → Some r ≡ last_item (runs_before (place i from + 1) rs) → from < FILE_END → (r.0.inode ≡ i → end_of_run r + gap from ≤ from) → IsFirst i from rs (record { inode = i; from = from })
 first_apart i from rs r o h file apart =
     let s = last_split (runs_before (place i from + 1) rs) r h in
     let early = last_early (place i from + 1) s.0 r (subst (Before (place i from + 1)) s.1 (Before-before (place i from + 1) rs)) in
@@ -222,7 +224,7 @@ first_apart i from rs r o h file apart =
     first_here i from rs o (subst (EndBy (place i from - gap from)) (sym s.1) (end_by_last 0 (place i from - gap from) s.0 r front ends))
 
 -- the runs that a write touches, by the first of them
-begin_by : (i low to : ℕ) (mid : List Run) → i * 1099511627776 ≤ low → to ≤ 1099511627776 → Rise low mid → Before (place i to) mid → BeginBy i (to - 1) mid
+begin_by : (i low to : ℕ) (mid : List Run) → i * FILE_END ≤ low → to ≤ FILE_END → Rise low mid → Before (place i to) mid → BeginBy i (to - 1) mid
 begin_by i low to [] l h r b = tt
 begin_by i low to (x ∷ mid) l h r b =
     let k = r.1 in
@@ -230,11 +232,11 @@ begin_by i low to (x ∷ mid) l h r b =
     let f = r.0 in
     (omega arith, omega arith, begin_by i (start_place x + 1) to mid (omega arith) h r.2 b.1)
 
-reaches_by : (i from : ℕ) (mid : List Run) → IfSome (first_of mid) (λ r. r.0.inode ≡ i → from + 1 ≤ end_of_run r + gap from) → BeginBy i 1099511627776 mid → Reaches from mid
+reaches_by : (i from : ℕ) (mid : List Run) → IfSome (first_item mid) (λ r. r.0.inode ≡ i → from + 1 ≤ end_of_run r + gap from) → BeginBy i FILE_END mid → Reaches from mid
 reaches_by i from [] h b = tt
 reaches_by i from (x ∷ mid) h b = h b.0
 
-begins_by : (i from low : ℕ) (mid : List Run) (first : RunStart) → first.inode ≡ i → first.from ≤ from → place_of first ≤ low → Rise low mid → BeginBy i 1099511627776 mid → (first.from < from → IsSomeAnd (first_of mid) (λ r. r.0 ≡ first)) → joined_from from mid ≡ first.from
+begins_by : (i from low : ℕ) (mid : List Run) (first : RunStart) → first.inode ≡ i → first.from ≤ from → place_of first ≤ low → Rise low mid → BeginBy i FILE_END mid → (first.from < from → IsSomeAnd (first_item mid) (λ r. r.0 ≡ first)) → joined_from from mid ≡ first.from
 begins_by i from low [] first e l k r b h = ⊎_elim (λ lt. absurd (h lt)) (λ ge. omega arith) (cases_lt first.from from)
 begins_by i from low (x ∷ mid) first e l k r b h =
     let m = r.1 in
@@ -245,33 +247,33 @@ begins_by i from low (x ∷ mid) first e l k r b h =
     (cases_lt first.from from)
 
 -- the first run from a place on is the first of those within two places, where any are
-first_within : (n : ℕ) (rs : List Run) (P : Run → Type 0) → (low : ℕ) → Rise low rs → IfSome (first_of rs) P → IfSome (first_of (runs_before n rs)) P
+first_within : (n : ℕ) (rs : List Run) (P : Run → Type 0) → (low : ℕ) → Rise low rs → IfSome (first_item rs) P → IfSome (first_item (runs_before n rs)) P
 first_within n [] P low r h = tt
 first_within n (x ∷ rs) P low r h =
     ⊎_elim
-    (λ l. subst (λ (t : List Run). IfSome (first_of t) P) (sym (before_yes n x rs l)) h)
-    (λ g. let s : Rise (start_place x) (x ∷ rs) = (r.0, omega arith, r.2) in subst (λ (t : List Run). IfSome (first_of t) P) (sym (before_none n (start_place x) (x ∷ rs) g s)) tt)
+    (λ l. subst (λ (t : List Run). IfSome (first_item t) P) (sym (before_yes n x rs l)) h)
+    (λ g. let s : Rise (start_place x) (x ∷ rs) = (r.0, omega arith, r.2) in subst (λ (t : List Run). IfSome (first_item t) P) (sym (before_none n (start_place x) (x ∷ rs) g s)) tt)
     (cases_lt (start_place x) n)
 
-first_kept : (n : ℕ) (rs : List Run) (first : RunStart) → place_of first < n → IsSomeAnd (first_of rs) (λ r. r.0 ≡ first) → IsSomeAnd (first_of (runs_before n rs)) (λ r. r.0 ≡ first)
+first_kept : (n : ℕ) (rs : List Run) (first : RunStart) → place_of first < n → IsSomeAnd (first_item rs) (λ r. r.0 ≡ first) → IsSomeAnd (first_item (runs_before n rs)) (λ r. r.0 ≡ first)
 first_kept n [] first l h = absurd h
-first_kept n (x ∷ rs) first l h = subst (λ (t : List Run). IsSomeAnd (first_of t) (λ r. r.0 ≡ first)) (sym (before_yes n x rs (let q : place_of x.0 ≡ place_of first = ap place_of h in omega arith))) h
+first_kept n (x ∷ rs) first l h = subst (λ (t : List Run). IsSomeAnd (first_item t) (λ r. r.0 ≡ first)) (sym (before_yes n x rs (let q : place_of x.0 ≡ place_of first = ap place_of h in omega arith))) h
 
-pub touched : (i from to : ℕ) (rs : List Run) (first end : RunStart) → InOrder 0 rs → from < to → to ≤ 1099511627776 → IsFirst i from rs first → end.inode ≡ i → end.from ≡ to + gap to → IsTouched i from to rs first end
+pub touched : (i from to : ℕ) (rs : List Run) (first end : RunStart) → InOrder 0 rs → from < to → to ≤ FILE_END → IsFirst i from rs first → end.inode ≡ i → end.from ≡ to + gap to → IsTouched i from to rs first end
 touched i from to rs first end o lt file f ei ef =
     let low = Rise-order 0 rs o in
     let g = gap_le to in
     let fi = f.inode_is in
     let ff = f.from_is in
     let up : place_of first < place_of end = omega arith in
-    let top : to + gap to ≤ 1099511627776 = ⊎_elim (λ z. let e = z.1 in omega arith) (λ z. let p = z.0 in ⊎_elim (λ l. omega arith) (λ s. absurd (omega arith)) (cases_lt to 1099511627776)) (gap_tells to) in
+    let top : to + gap to ≤ FILE_END = ⊎_elim (λ z. let e = z.1 in omega arith) (λ z. let p = z.0 in ⊎_elim (λ l. omega arith) (λ s. absurd (omega arith)) (cases_lt to FILE_END)) (gap_says to) in
     let mid : List Run = runs_within (place_of first) (place_of end) rs in
     let behind : List Run = runs_from (place_of first) rs in
     let same : mid ≡ runs_before (place_of end) behind = within_is (place_of first) (place_of end) rs in
     let last : place_of end ≡ place i (to + gap to) = omega arith in
     let rises : Rise (place_of first) mid = within_rise (place_of first) (place_of end) rs low in
     let all : BeginBy i (to + gap to - 1) mid = begin_by i (place_of first) (to + gap to) mid (omega arith) top rises (subst (λ n. Before n mid) last (within_before (place_of first) (place_of end) rs)) in
-    let wide : BeginBy i 1099511627776 mid = BeginBy-weaker i (to + gap to - 1) 1099511627776 mid (omega arith) all in
+    let wide : BeginBy i FILE_END mid = BeginBy-weaker i (to + gap to - 1) FILE_END mid (omega arith) all in
     let q = InOrder-from (place_of end) 0 rs o in
     record {
       first_inode = fi;
@@ -279,10 +281,10 @@ touched i from to rs first end o lt file f ei ef =
       end_inode = ei;
       end_from = ef;
       begins = begins_by i from (place_of first) mid first fi ff (omega arith) rises wide
-          (λ l. subst (λ (t : List Run). IsSomeAnd (first_of t) (λ r. r.0 ≡ first)) (sym same) (first_kept (place_of end) behind first up (f.begins l)));
+          (λ l. subst (λ (t : List Run). IsSomeAnd (first_item t) (λ r. r.0 ≡ first)) (sym same) (first_kept (place_of end) behind first up (f.begins l)));
       before = f.before;
       of_inode = all;
-      reached = reaches_by i from mid (subst (λ (t : List Run). IfSome (first_of t) (λ r. r.0.inode ≡ i → from + 1 ≤ end_of_run r + gap from)) (sym same)
+      reached = reaches_by i from mid (subst (λ (t : List Run). IfSome (first_item t) (λ r. r.0.inode ≡ i → from + 1 ≤ end_of_run r + gap from)) (sym same)
           (first_within (place_of end) behind (λ r. r.0.inode ≡ i → from + 1 ≤ end_of_run r + gap from) (place_of first) (Rise-from (place_of first) 0 rs low) f.reached)) wide;
       after = order_after i to q.0 (runs_from (place_of end) rs) q.1 file (subst (λ n. Rise n (runs_from (place_of end) rs)) last (Rise-from (place_of end) 0 rs low));
     }

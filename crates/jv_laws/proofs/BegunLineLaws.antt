@@ -7,7 +7,8 @@ use Rattle.jv_model.specs.declared.op.Line.{Line}
 use Rattle.jv_model.specs.declared.op.Line.TheVariants.{Do, Begin, Step, Run, Crash, Tick}
 use Rattle.jv_model.specs.client.Submission.{submission, submitted}
 use Rattle.jv_model.specs.journal.State.{State, set_client}
-use Rattle.jv_model.specs.journal.Past.{Past, Due, NoMore, Refusal, MayLack, ToAnswer, OneStep, CrashEntry, TickEntry, begun, begun_by_due, begun_to, begin_next, begin_from, turned, is_busy, is_over, idle_text, with_feed}
+use Rattle.jv_model.specs.journal.Past.{Past, Due, NoMore, Refusal, MayLack, ToAnswer, OneStep, CrashEntry, TickEntry, begun, begun_by_due, begun_to, begin_next, begin_from, turned, is_busy, is_over, idle_text}
+use Rattle.jv_model.specs.script.ReplyText.{with_feed}
 use Rattle.jv_laws.proofs.JournalGrowthLaws.{begun_to-next}
 
 -- between two lines, of which the next one is this

@@ -9,10 +9,10 @@ use Rattle.jv_client.specs.declared.made.Made.TheVariants.{Answer}
 use Rattle.jv_client.specs.ClientValue.{ClientValue}
 use Rattle.jv_client.specs.Ending.{ended}
 use Rattle.jv_client.specs.Stats.{numbers_in}
-use Rattle.jv_client.specs.UnderWay.{tells_stats}
+use Rattle.jv_client.specs.UnderWay.{says_stats}
 use Rattle.jv_client.proofs.AnswerLaws.{makes-as}
 use Rattle.jv_client.proofs.AtOnceLaws.{stats_told}
-use Rattle.jv_client.proofs.client.Client.tell_stats.Goals as goal
+use Rattle.jv_client.proofs.client.Client.say_stats.Goals as goal
 
 pub returns-clause-made : goal.returns-clause-made
 returns-clause-made c now entry v =
@@ -34,7 +34,7 @@ returns-clause-made c now entry v =
     (Answer (Fine hits misses cached (length h.pending)) (CacheStats hits misses cached (length h.pending))) after refl
     (ap (λ n. Answer (Fine hits misses cached n) (CacheStats hits misses cached n)) pending)
     (stats_told now entry h v doing.0 doing.1 c.requires.ready c.requires.flushed
-    (subst (λ o. IfSome o (λ (d : Doing). IsTrue (tells_stats d.does))) doing.1 c.requires.tells) hits misses cached
+    (subst (λ o. IfSome o (λ (d : Doing). IsTrue (says_stats d.does))) doing.1 c.requires.says) hits misses cached
     (ap (λ a. Answer (Fine a misses cached n) (CacheStats a misses cached n)) same_hits
     ∙ ap (λ a. Answer (Fine m.hits a cached n) (CacheStats m.hits a cached n)) same_misses
     ∙ ap (λ a. Answer (Fine m.hits m.misses a n) (CacheStats m.hits m.misses a n)) same_cached))

@@ -1,14 +1,15 @@
 -- Pending bytes in rising order, and what a write leaves of them.
 use Rattle.std.proofs.Common.{◌≡◌, ℕ, ◌+◌, ◌<◌, ◌≤◌, true, false, cond, ltb, List, [], ◌∷◌, ◌++◌, length, ⊎_elim, refl, sym, ap, ◌∙◌, arith, nat_lt, if◌then◌else◌}
 use Rattle.std.proofs.lemmas.Bool.{cases_order, cases_lt, cond-true, cond-false, lt-ltb, le-ltb}
+use Rattle.jv_model.specs.declared.limits.TheConstants.{FILE_END}
 use Rattle.jv_model.specs.client.Pending.{PendingByte, stands_at, comes_before, byte_set, written}
 use Rattle.jv_pending.specs.Runs.{place, placed}
-use Rattle.jv_pending.proofs.Places.{byte_place, stands_here, stands_apart, after_true, after_false}
+use Rattle.jv_pending.proofs.PlaceLaws.{byte_place, stands_here, stands_apart, after_true, after_false}
 
 -- the bytes rise strictly from a place on
 abbrev pub Rises : ℕ → List PendingByte → Type 0
 Rises low [] = Unit {0}
-Rises low (b ∷ bs) = (b.position < 1099511627776) × (low ≤ byte_place b) × Rises (byte_place b + 1) bs
+Rises low (b ∷ bs) = (b.position < FILE_END) × (low ≤ byte_place b) × Rises (byte_place b + 1) bs
 
 -- the bytes at the front that lie below a place, and what follows them
 abbrev pub front : ℕ → List PendingByte → List PendingByte
@@ -56,26 +57,26 @@ byte_set_front i f b (x ∷ t) r =
     let a : comes_before i f x ≡ true = after_true i f x r.0 (omega arith) in
     cond-false (stands_at i f x) _ _ s ∙ cond-true (comes_before i f x) _ _ a
 
-byte_set_past : (i f b : ℕ) (x : PendingByte) (t : List PendingByte) → f < 1099511627776 → byte_place x < place i f → byte_set i f b (x ∷ t) ≡ x ∷ byte_set i f b t
+byte_set_past : (i f b : ℕ) (x : PendingByte) (t : List PendingByte) → f < FILE_END → byte_place x < place i f → byte_set i f b (x ∷ t) ≡ x ∷ byte_set i f b t
 byte_set_past i f b x t l h =
     let s : stands_at i f x ≡ false = stands_apart i f x (λ e. omega arith) in
     let a : comes_before i f x ≡ false = after_false i f x l h in
     cond-false (stands_at i f x) _ _ s ∙ cond-false (comes_before i f x) _ _ a
 
-byte_set_here : (i f b : ℕ) (x : PendingByte) (t : List PendingByte) → f < 1099511627776 → x.position < 1099511627776 → byte_place x ≡ place i f → byte_set i f b (x ∷ t) ≡ record { inode = i; position = f; byte = b } ∷ t
+byte_set_here : (i f b : ℕ) (x : PendingByte) (t : List PendingByte) → f < FILE_END → x.position < FILE_END → byte_place x ≡ place i f → byte_set i f b (x ∷ t) ≡ record { inode = i; position = f; byte = b } ∷ t
 byte_set_here i f b x t l h e = cond-true (stands_at i f x) _ _ (stands_here i f x h l e)
 
-written_past : (i f : ℕ) (bs : List ℕ) (x : PendingByte) (t : List PendingByte) → f + length bs ≤ 1099511627776 → byte_place x < place i f → written i f bs (x ∷ t) ≡ x ∷ written i f bs t
+written_past : (i f : ℕ) (bs : List ℕ) (x : PendingByte) (t : List PendingByte) → f + length bs ≤ FILE_END → byte_place x < place i f → written i f bs (x ∷ t) ≡ x ∷ written i f bs t
 written_past i f [] x t l h = refl
 written_past i f (b ∷ bs) x t l h =
     ap (byte_set i f b) (written_past i (f + 1) bs x t (omega arith) (omega arith)) ∙ byte_set_past i f b x (written i (f + 1) bs t) (omega arith) h
 
-pub Rises-placed : (i f low to : ℕ) (bs : List ℕ) (t : List PendingByte) → to ≡ f + length bs → to ≤ 1099511627776 → low ≤ place i f → Rises (place i to) t → Rises low (placed i f bs ++ t)
+pub Rises-placed : (i f low to : ℕ) (bs : List ℕ) (t : List PendingByte) → to ≡ f + length bs → to ≤ FILE_END → low ≤ place i f → Rises (place i to) t → Rises low (placed i f bs ++ t)
 Rises-placed i f low to [] t e l h r = Rises-weaker (place i to) low t (omega arith) r
 Rises-placed i f low to (b ∷ bs) t e l h r =
     (omega arith, h, Rises-placed i (f + 1) (place i f + 1) to bs t (omega arith) l (omega arith) r)
 
-written_from : (i f to : ℕ) (bs : List ℕ) (q : List PendingByte) → to ≡ f + length bs → to ≤ 1099511627776 → Rises (place i f) q → written i f bs q ≡ placed i f bs ++ back (place i to) q
+written_from : (i f to : ℕ) (bs : List ℕ) (q : List PendingByte) → to ≡ f + length bs → to ≤ FILE_END → Rises (place i f) q → written i f bs q ≡ placed i f bs ++ back (place i to) q
 written_from i f to [] q e l r = let h : Rises (place i to) q = Rises-weaker (place i f) (place i to) q (omega arith) r in sym (back_from (place i to) q h)
 written_from i f to (b ∷ bs) [] e l r =
     ap (byte_set i f b) (written_from i (f + 1) to bs [] (omega arith) l tt)
@@ -93,7 +94,7 @@ written_from i f to (b ∷ bs) (x ∷ q) e l r =
     (cases_order (byte_place x) (place i f))
 
 -- a write leaves what lies before it, its own bytes, and what lies after it
-pub written_is : (i f to low : ℕ) (bs : List ℕ) (p : List PendingByte) → to ≡ f + length bs → to ≤ 1099511627776 → Rises low p → written i f bs p ≡ front (place i f) p ++ (placed i f bs ++ back (place i to) p)
+pub written_is : (i f to low : ℕ) (bs : List ℕ) (p : List PendingByte) → to ≡ f + length bs → to ≤ FILE_END → Rises low p → written i f bs p ≡ front (place i f) p ++ (placed i f bs ++ back (place i to) p)
 written_is i f to low bs [] e l r = written_from i f to bs [] e l tt
 written_is i f to low bs (x ∷ p) e l r =
     ⊎_elim

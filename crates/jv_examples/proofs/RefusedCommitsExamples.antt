@@ -10,25 +10,17 @@ use Rattle.jv_model.specs.declared.op.Line.TheVariants.{Do, Begin, Step, Tick, D
 use Rattle.jv_model.specs.declared.op.Op.TheVariants.{Mount, Create, Open, Close, Flush, Read, Write, Upload}
 use Rattle.jv_model.specs.journal.Steps.{Start, MayAnswer, owes_none, is_owed_by, Fails, Settles, AtOnce, CountsCache, ReadsViews, CleanedUp, HasCompacted, HasCollected, HasUploaded, Owes, Sent, FoundNone, TooShort, HasReplaced, BlockOwed, InReading, Refuses as IsRefusedBy}
 use Rattle.jv_model.specs.declared.profile.Does.TheVariants.{Uploads}
-use Rattle.jv_model.specs.client.ModelClient.{ModelClient, Stage, Working, Cleans, Compacting, is_replying, Flush as ToFlush}
+use Rattle.jv_model.specs.client.ModelClient.{ModelClient, Working, is_replying, Flush as ToFlush}
 use Rattle.jv_model.specs.journal.State.{State}
 use Rattle.jv_model.specs.journal.Past.{Setup, at_start}
 use Rattle.jv_model.specs.journal.Legal.{AllAllowed, Sends, Ends, Drains, Fails as IsFailed}
-use Rattle.jv_examples.proofs.RefusalLaws.{entry_is_allowed, own_step, refused_by_cause, try_again_after_look, timed_out_late, never}
+use Rattle.jv_examples.proofs.RefusalLaws.{entry_is_allowed, own_step, refused_by_cause, try_again_after_look, timed_out_late, never, is_compacting, is_cleans}
 use Rattle.jv_examples.proofs.JournalRuns.{run_of, entry, entry_at, journals_compute, ◌∴◌}
 
-abbrev is_cleans : Stage → Bool
-is_cleans (Cleans k) = true
-is_cleans _ = false
-
-abbrev is_compacts : Stage → Bool
-is_compacts (Compacting k) = true
-is_compacts _ = false
-
 -- an upload that finds no block, where no threads upload, has none that is owed
-abbrev tells_none : Told → Bool
-tells_none (Fine a b c d) = d == 0
-tells_none _ = false
+abbrev says_none : Told → Bool
+says_none (Fine a b c d) = d == 0
+says_none _ = false
 
 none_is_owed : {start : Start} {s : State} {client now : ℕ} {c : ModelClient} {o : Op} {flush : ToFlush} → MayAnswer start true s client now c (record { op = o; does = Uploads; flush = flush; stage = Working 0 0; moved = false }) (Fine 0 0 0 0)
     → owes_none s client ≡ false → ⊥
@@ -38,10 +30,10 @@ none_is_owed (AtOnce h) owed = let never = h.same in absurd (cc)
 none_is_owed (CountsCache hits misses cached ready first does e) owed = absurd (cc)
 none_is_owed (ReadsViews h) owed = let never = h.same in absurd (cc)
 none_is_owed (CleanedUp h) owed = let never = ap is_cleans h.stage in absurd (cc)
-none_is_owed (HasCompacted (TooShort k records stage quiets on few e)) owed = let never = ap is_compacts stage in absurd (cc)
-none_is_owed (HasCompacted (HasReplaced k before after stage replaced two e)) owed = let never = ap is_compacts stage in absurd (cc)
+none_is_owed (HasCompacted (TooShort k records stage quiets on few e)) owed = let never = ap is_compacting stage in absurd (cc)
+none_is_owed (HasCompacted (HasReplaced k before after stage replaced two e)) owed = let never = ap is_compacting stage in absurd (cc)
 none_is_owed (HasCollected count bytes judged e) owed = absurd (cc)
-none_is_owed (HasUploaded does (Sent id index size stage e)) owed = let never = ap tells_none e in absurd (cc)
+none_is_owed (HasUploaded does (Sent id index size stage e)) owed = let never = ap says_none e in absurd (cc)
 none_is_owed (HasUploaded does (FoundNone ready first none_owed e)) owed = let never = sym owed ∙ none_owed in absurd (cc)
 none_is_owed (IsRefusedBy fault moved h e) owed = absurd (cc)
 

@@ -2,9 +2,10 @@
 use Rattle.std.proofs.Common.{◌≡◌, ℕ, suc, ◌+◌, ◌-◌, ◌≤◌, List, [], ◌∷◌, ◌++◌, length, take, drop, ⊎_elim, refl, sym, ap, ◌∙◌, arith}
 use Rattle.std.proofs.lemmas.Bool.{cases_lt}
 use Rattle.std.proofs.lemmas.List.{append_assoc, take_all, drop_all}
+use Rattle.jv_model.specs.declared.limits.TheConstants.{FILE_END}
 use Rattle.jv_model.specs.client.Pending.{PendingByte}
 use Rattle.jv_pending.specs.Runs.{Run, place, placed, pending_bytes, end_of_run, end_place, InOrder, end_after, EndBy}
-use Rattle.jv_pending.proofs.Bytes.{Rises, Rises-weaker, Rises-placed, front, back, front_below, front_from, back_below, back_here, back_from}
+use Rattle.jv_pending.proofs.ByteLaws.{Rises, Rises-weaker, Rises-placed, front, back, front_below, front_from, back_below, back_here, back_from}
 
 pub EndBy-weaker : (m n : ℕ) (rs : List Run) → m ≤ n → EndBy m rs → EndBy n rs
 EndBy-weaker m n [] h e = tt
@@ -81,7 +82,7 @@ back_runs n [] t e = refl
 back_runs n (r ∷ rs) t e = back_run n r rs t e.0 ∙ back_runs n rs t e.1
 
 -- bytes in a row, cut at a position
-pub front_part : (n i f from : ℕ) (bs : List ℕ) (t : List PendingByte) → n ≡ place i from → f + length bs ≤ 1099511627776 → from ≤ f + length bs → Rises (place i (f + length bs)) t → front n (placed i f bs ++ t) ≡ placed i f (take (from - f) bs)
+pub front_part : (n i f from : ℕ) (bs : List ℕ) (t : List PendingByte) → n ≡ place i from → f + length bs ≤ FILE_END → from ≤ f + length bs → Rises (place i (f + length bs)) t → front n (placed i f bs ++ t) ≡ placed i f (take (from - f) bs)
 front_part n i f from [] t e l h r = front_from n t (Rises-weaker (place i (f + 0)) n t (omega arith) r) ∙ ap (placed i f) (sym (take_all (from - f) [] (omega arith)))
 front_part n i f from (b ∷ bs) t e l h r =
     ⊎_elim

@@ -1,6 +1,7 @@
 -- What a rename answers of what it replaced, and how a rename goes on after readings.
-use Rattle.std.proofs.Common.{◌≡◌, ℕ, ◌≤◌, Bool, true, false, not, ◌&&◌, Option, None, Some, Result, Ok, Err, refl, ap, subst, ◌∙◌}
+use Rattle.std.proofs.Common.{◌≡◌, ℕ, ◌≤◌, true, not, ◌&&◌, Option, None, Some, Result, Ok, Err, refl, ap, subst, ◌∙◌}
 use Rattle.std.specs.Prelude.{IfErr, IfSome, OnErr, is_some}
+use Rattle.std.proofs.Math.Bool.{and-not_self}
 use Rattle.std.proofs.lemmas.Bool.{le-leb}
 use Rattle.jv_model.specs.declared.limits.TheConstants.{MAX_LINKS}
 use Rattle.jv_model.specs.declared.fault.Fault.{Fault}
@@ -26,7 +27,7 @@ use Rattle.jv_volume.specs.Views.{row_in, node_in}
 use Rattle.jv_volume.specs.Whole.{Whole}
 use Rattle.jv_volume.proofs.StoredLaws.{HasNode, found_node, whole-stored}
 use Rattle.jv_links.specs.declared.fates.Removed.{Removed}
-use Rattle.jv_links.specs.Removals.{TellsSustained, renamed_in, keeps_removed}
+use Rattle.jv_links.specs.Removals.{SaysSustained, is_inode, kept_of, renamed_in}
 use Rattle.jv_links.specs.Moves.{Renames}
 
 -- ---- a row that was read
@@ -47,18 +48,14 @@ links_low t inode place byte n low = le-leb (link_count t inode) MAX_LINKS (subs
 
 -- ---- what is answered
 
-gained : (b : Bool) → (b && not b) ≡ false
-gained true = refl
-gained false = refl
-
 -- nothing is kept anew where what is kept stays
-pub tells_none : (t : Tree) (sid : ℕ) (r : Result Outcome Fault)
+pub says_none : (t : Tree) (sid : ℕ) (r : Result Outcome Fault)
     → ((d : Outcome) → r ≡ Ok d → d.tree.sustained ≡ t.sustained) → (inode : ℕ)
-    → (is_sustained (outcome t r).tree sid inode && not (is_sustained t sid inode)) ≡ keeps_removed None inode
-tells_none t sid (Ok d) same inode =
+    → (is_sustained (outcome t r).tree sid inode && not (is_sustained t sid inode)) ≡ is_inode (kept_of None) inode
+says_none t sid (Ok d) same inode =
     ap (λ m. is_some (get m (record { sid = sid; inode = inode })) && not (is_sustained t sid inode)) (same d refl)
-    ∙ gained (is_sustained t sid inode)
-tells_none t sid (Err fault) same inode = gained (is_sustained t sid inode)
+    ∙ and-not_self (is_sustained t sid inode)
+says_none t sid (Err fault) same inode = and-not_self (is_sustained t sid inode)
 
 -- ---- after readings
 
@@ -85,8 +82,8 @@ module _ (sid : ℕ) (ready more : Tree → Type 0) (before middle after : Store
   undone_past (Ok x) h = tt
   undone_past (Err fault) h = h ∙ p.rows_are
 
-  told_past : (told : Option (Option Removed)) → TellsSustained sid ready middle told rest
-      → TellsSustained sid more before told act
+  told_past : (told : Option (Option Removed)) → SaysSustained sid ready middle told rest
+      → SaysSustained sid more before told act
   told_past None h = tt
   told_past (Some removed) h = λ known is whole bytes m inode. (let t = tree_of bytes (typed known) in
       ap (λ r. is_sustained (outcome t r).tree sid inode && not (is_sustained t sid inode))
@@ -104,5 +101,5 @@ module _ (sid : ℕ) (ready more : Tree → Type 0) (before middle after : Store
           (r.does.lands known (p.rows_are ∙ is) whole bytes (is_ready known is whole bytes m));
       bad = subst (λ o. IfErr result (λ fault. IfSome o (λ known. BadFault (typed known) fault))) p.rows_are r.does.bad;
     };
-    tells = told_past (renamed_in result) r.tells;
+    says = told_past (renamed_in result) r.says;
   }

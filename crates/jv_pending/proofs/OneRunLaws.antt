@@ -1,17 +1,19 @@
 -- A write that touches one run alone.
 use Rattle.std.proofs.Common.{◌≡◌, ℕ, ◌+◌, ◌-◌, ◌%◌, ◌<◌, ◌≤◌, List, [], ◌∷◌, ◌++◌, length, Some, Option, is_some, unwrap_or, refl, sym, ap, subst, ◌∙◌, arith}
 use Rattle.std.proofs.lemmas.List.{length-append}
+use Rattle.jv_model.specs.declared.limits.TheConstants.{FILE_END, WINDOW}
 use Rattle.jv_model.specs.client.Pending.{written}
+use Rattle.jv_model.specs.Lists.{last_item}
 use Rattle.jv_pending.specs.declared.run.RunStart.{RunStart}
-use Rattle.jv_pending.specs.Runs.{Run, place, place_of, placed, start_place, end_of_run, gap, bytes_at, pending_bytes, InOrder, Rise, Before, runs_before, runs_from, runs_within, last_of, with_runs, tail_of, joined_behind, IsFirst, IsOnly, Starts, Writes}
-use Rattle.jv_pending.proofs.Order.{pending_bytes-append, length-placed}
-use Rattle.jv_pending.proofs.Parts.{Rise-order, Rise-before, Rise-from, Before-weaker, Before-last, Before-end, before_all, before_before, from_none, from_from, within_is, whole}
-use Rattle.jv_pending.proofs.Entries.{put_back, swap_rises}
-use Rattle.jv_pending.proofs.Touched.{last_split, last_there, first_reaches}
-use Rattle.jv_pending.proofs.Written.{starts, reaches_here, window_written, all_order, all_written}
+use Rattle.jv_pending.specs.Runs.{Run, place, place_of, placed, start_place, end_of_run, gap, bytes_at, pending_bytes, InOrder, Rise, Before, runs_before, runs_from, runs_within, with_runs, tail_of, joined_behind, IsFirst, IsOnly, Starts, Writes}
+use Rattle.jv_pending.proofs.OrderLaws.{pending_bytes-append, length-placed}
+use Rattle.jv_pending.proofs.PartLaws.{Rise-order, Rise-before, Rise-from, Before-weaker, Before-last, Before-end, before_all, before_before, from_none, from_from, within_is, whole}
+use Rattle.jv_pending.proofs.EntryLaws.{put_back, swap_rises}
+use Rattle.jv_pending.proofs.TouchedLaws.{last_split, last_there, first_reaches}
+use Rattle.jv_pending.proofs.WrittenLaws.{starts, reaches_here, window_written, all_order, all_written}
 
 -- the last run before a place, where it begins early enough, is the only one that a write touches
-module _ (n : ℕ) (rs : List Run) (r : Run) (o : InOrder 0 rs) (h : Some r ≡ last_of (runs_before n rs)) where
+module _ (n : ℕ) (rs : List Run) (r : Run) (o : InOrder 0 rs) (h : Some r ≡ last_item (runs_before n rs)) where
   before_it : (t : List Run) × (runs_before n rs ≡ t ++ r ∷ []) × Before (start_place r + 1) (t ++ r ∷ [])
   before_it =
       let s = last_split (runs_before n rs) r h in
@@ -23,7 +25,7 @@ module _ (n : ℕ) (rs : List Run) (r : Run) (o : InOrder 0 rs) (h : Some r ≡ 
       let s = before_it in
       ap (runs_from (start_place r + 1)) s.1 ∙ from_none (start_place r + 1) (s.0 ++ r ∷ []) s.2
 
-  first_it : (from : ℕ) → place r.0.inode from + 1 ≤ n → from < 1099511627776 → r.0.from ≤ from → from + 1 ≤ end_of_run r + gap from → IsFirst r.0.inode from rs r.0
+  first_it : (from : ℕ) → place r.0.inode from + 1 ≤ n → from < FILE_END → r.0.from ≤ from → from + 1 ≤ end_of_run r + gap from → IsFirst r.0.inode from rs r.0
   first_it from up file begins reach =
       let s = before_it in
       let m : ℕ = place r.0.inode from + 1 in
@@ -31,9 +33,9 @@ module _ (n : ℕ) (rs : List Run) (r : Run) (o : InOrder 0 rs) (h : Some r ≡ 
       sym (before_before m n rs up) ∙ ap (runs_before m) s.1
       ∙ before_all m (s.0 ++ r ∷ []) (Before-weaker (start_place r + 1) m (s.0 ++ r ∷ []) (omega arith) s.2)
       ∙ sym s.1 in
-      first_reaches r.0.inode from rs r o (subst (λ (t : List Run). Some r ≡ last_of t) (sym same) h) file refl reach
+      first_reaches r.0.inode from rs r o (subst (λ (t : List Run). Some r ≡ last_item t) (sym same) h) file refl reach
 
-  pub only_it : (from count : ℕ) → n ≡ place r.0.inode (from + count + gap (from + count)) → 0 < count → from + count ≤ 1099511627776 → r.0.from ≤ from → from + 1 ≤ end_of_run r + gap from → from % 67108864 + count ≤ 67108864 → IsOnly from count rs r.0
+  pub only_it : (from count : ℕ) → n ≡ place r.0.inode (from + count + gap (from + count)) → 0 < count → from + count ≤ FILE_END → r.0.from ≤ from → from + 1 ≤ end_of_run r + gap from → from % WINDOW + count ≤ WINDOW → IsOnly from count rs r.0
   only_it from count e some file begins reach window = record {
     is_first = first_it from (omega arith) (omega arith) begins reach;
     there = ap is_some (last_there n rs r (Rise-order 0 rs o) h);
@@ -49,7 +51,7 @@ count_with k v high rs =
     ∙ ap (λ m. length (pending_bytes (runs_before (place_of k) rs)) + m)
     (length-append (placed k.inode k.from v) (pending_bytes (runs_from high rs)) ∙ ap (λ m. m + length (pending_bytes (runs_from high rs))) (length-placed k.inode k.from v))
 
-module _ (from : ℕ) (bs : List ℕ) (first : RunStart) (rs : List Run) (order : InOrder 0 rs) (some : 0 < length bs) (file : from + length bs ≤ 1099511627776) (only : IsOnly from (length bs) rs first) (v : List ℕ) (there : bytes_at first rs ≡ Some v) where
+module _ (from : ℕ) (bs : List ℕ) (first : RunStart) (rs : List Run) (order : InOrder 0 rs) (some : 0 < length bs) (file : from + length bs ≤ FILE_END) (only : IsOnly from (length bs) rs first) (v : List ℕ) (there : bytes_at first rs ≡ Some v) where
   abbrev to : ℕ
   to = from + length bs
 
@@ -65,7 +67,7 @@ module _ (from : ℕ) (bs : List ℕ) (first : RunStart) (rs : List Run) (order 
   value : v ≡ unwrap_or (bytes_at first rs) []
   value = sym (ap (λ (o : Option (List ℕ)). unwrap_or o []) there)
 
-  pub file_only : first.from < 1099511627776
+  pub file_only : first.from < FILE_END
   file_only = let f = only.is_first.from_is in omega arith
 
   pub reaches_only : from - first.from ≤ length v

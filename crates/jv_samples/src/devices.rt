@@ -1,0 +1,25 @@
+//! Devices and the setting of a volume.
+use jv_model::{Sequence, Setting, copied};
+use jv_outside::Fails;
+use std::alloc::{AllocError, Global};
+
+/// A volume `test` with blocks of the least length.
+pub fn setting(alloc: Global) -> Result<Setting, AllocError> {
+    Ok(Setting {
+        version: 1,
+        block: 65_536,
+        trash_days: 1,
+        capacity: 0,
+        inodes: 0,
+        hash: 0,
+        name: copied(alloc, b"test")?,
+        bucket: copied(alloc, b"/tmp")?,
+    })
+}
+
+/// The number of a device's only call that fails, or 0.
+pub fn failing_at(alloc: Global, number: u64) -> Result<Fails, AllocError> {
+    let mut numbers = Sequence::new(alloc);
+    numbers.push(number)?;
+    Ok(Fails::At(numbers))
+}
