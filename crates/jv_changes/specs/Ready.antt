@@ -30,7 +30,8 @@ pub record MayStandAt (t : Tree) (place : EntryKey) (inode : ℕ) : Type 0 where
 -- the tree with one more entry, where the link counts of directory and node can be stored
 abbrev pub entry_put : ℕ → EntryKey → ℕ → Tree → Result Tree Fault
 entry_put now place inode t = do
-  _ ← require (links_fit (put_entry t now place inode) place.dir && links_fit (put_entry t now place inode) inode)
+  _ ← require (links_fit (put_entry t now place inode) place.dir
+      && links_fit (put_entry t now place inode) inode)
       NoSpace
   Ok (put_entry t now place inode)
 
@@ -47,7 +48,8 @@ pub record MayGo (t : Tree) (inode : ℕ) : Type 0 where
 
 -- a file that a session keeps
 abbrev pub sustaining : ℕ → ℕ → Tree → Tree
-sustaining sid inode t = record t { sustained = insert t.sustained (record { sid = sid; inode = inode }) tt }
+sustaining sid inode t =
+    record t { sustained = insert t.sustained (record { sid = sid; inode = inode }) tt }
 
 -- The directory of an hour is there, or may come: the trash is there, no entry has its place, none names it, and none
 -- is in it.
@@ -55,10 +57,13 @@ sustaining sid inode t = record t { sustained = insert t.sustained (record { sid
 pub record MayHaveHour (t : Tree) (hour : ℕ) : Type 0 where
   pub trash : is_directory t TRASH_ROOT ≡ true
   pub free : node_at t (hour_inode hour) ≡ None → get t.entries (hour_place hour) ≡ None
-  pub unnamed : node_at t (hour_inode hour) ≡ None → (at : EntryKey) → get t.entries at ≢ Some (hour_inode hour)
-  pub empty : node_at t (hour_inode hour) ≡ None → (at : EntryKey) (inode : ℕ) → get t.entries at ≡ Some inode
+  pub unnamed : node_at t (hour_inode hour) ≡ None → (at : EntryKey)
+      → get t.entries at ≢ Some (hour_inode hour)
+  pub empty : node_at t (hour_inode hour) ≡ None → (at : EntryKey) (inode : ℕ)
+      → get t.entries at ≡ Some inode
       → at.dir ≢ hour_inode hour
-  pub hours : (at : EntryKey) (inode : ℕ) → get t.entries at ≡ Some inode → at.dir ≡ TRASH_ROOT → NamesHour at inode
+  pub hours : (at : EntryKey) (inode : ℕ) → get t.entries at ≡ Some inode → at.dir ≡ TRASH_ROOT
+      → NamesHour at inode
   pub below : t.next_inode ≤ TRASH_ROOT
 
 -- the row of an hour's directory, as it comes
