@@ -137,7 +137,7 @@ fn walk_names<K: Keeper>(
     follow: bool,
 ) -> Result<Place, TxFault>
     ensures { Comes (K.seen k.old) (K.seen k.new) result
-        (λ t. walked MAX_SYMLINKS t follow root names) }
+        (λ t. walked MAX_SYMLINKS t follow ROOT names) }
 {
     let mut place = top(alloc, k, ROOT)?;
     let mut names = names;
