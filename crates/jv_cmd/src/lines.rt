@@ -142,8 +142,8 @@ fn run_next<S: Source, O: Sink, K: Keeper, D: Depot, H: Shelf, C: Clock>(
         (before : StageValue)
         → Going (prepend_known reader.old (seen stage.old).source.content) before (seen stage.old)
         done schedule.old
-        → NextLine (prepend_known reader.new (seen stage.new).source.content) before (seen stage.new)
-        done schedule.new result }
+        → NextLine (prepend_known reader.new (seen stage.new).source.content) before
+        (seen stage.new) done schedule.new result }
     ensures more { OnOk result (done < MAX_LINES) }
     ensures yard { let given = ⟦<Alone<D, H> as YardDoor<D, H>>⟧.given in
         IsSomeAnd (given stage.new.door) (IsYardOf schedule.new) }
