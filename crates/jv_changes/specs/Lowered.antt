@@ -25,5 +25,5 @@ with_lowered node c rows = insert rows counters_key (Ok (OfCounters (lowered nod
 abbrev pub with_dropped : ℕ → Node → Rows → Rows
 with_dropped inode node rows =
     (if node.kind == 1
-        then insert rows (dropped_key inode) (Ok (OfDropped (record { length = node.length })))
+    then insert rows (dropped_key inode) (Ok (OfDropped (record { length = node.length })))
     else rows)

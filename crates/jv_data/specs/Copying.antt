@@ -71,7 +71,7 @@ ShowPart rows c done shown =
 abbrev pub rows_added : Rows → CopyCourse → ℕ → List Rec → Rows → Rows
 rows_added rows c done shown middle =
     alter middle (list_key c.target (window_at c done))
-        (Some (Ok (OfList (lists_of rows c.target (window_at c done) ++ shown))))
+    (Some (Ok (OfList (lists_of rows c.target (window_at c done) ++ shown))))
 
 -- The changes add a part to a window's list; the answer is its records.
 pub record CopiesPart (c : CopyCourse) (done : ℕ) (before after : Store)

@@ -39,8 +39,8 @@ abbrev pub rows_ended : ℕ → ℕ → ℕ → List Rec → Rows → Rows
 rows_ended inode window pos [] rows = rows
 rows_ended inode window pos (r ∷ rs) rows =
     (if pos == 0 then rows
-        else alter rows (list_key inode window)
-            (Some (Ok (OfList ((r ∷ rs) ++ zero_record pos ∷ [])))))
+    else alter rows (list_key inode window)
+    (Some (Ok (OfList ((r ∷ rs) ++ zero_record pos ∷ [])))))
 
 -- rows without lists of a file, the latest first, each with its window
 abbrev pub rows_without : ℕ → List (ℕ × List Rec) → Rows → Rows

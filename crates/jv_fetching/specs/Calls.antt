@@ -57,7 +57,7 @@ abbrev pub Asks : Need → ℕ → Cached → Cached → Type 0
 Asks (Look window) most before after = LooksUpFew most before after
 Asks (Block b) most before after =
     (middle : Cached) × LooksUpFew most before middle × (after ≡ noted_in middle (cache_key b))
-        × IsMissing before b
+    × IsMissing before b
 Asks Nothing most before after = LooksUpFew most before after
 
 -- a block that came is kept, or not where memory is out

@@ -31,8 +31,12 @@ pub data IsReadBy (known_bytes : KnownBytes) (views : SeenViews) (parts : List A
   Two : (asked other : Asked) → (view next : View) → parts ≡ asked ∷ other ∷ []
       → view_at views asked.window ≡ Some view
       → asked.to ≤ view.length → view_at views other.window ≡ Some next
-      → read ≡ (view.entry, next.entry, shown_bytes known_bytes view asked
-      ++ shown_bytes known_bytes next other)
+      → read ≡ (
+        view.entry,
+        next.entry,
+        shown_bytes known_bytes view asked
+            ++ shown_bytes known_bytes next other,
+      )
       → IsReadBy known_bytes views parts read
 
 -- the first window without a view, where the views of all parts before it show all that is asked of them

@@ -84,5 +84,5 @@ SaysSustained sid ready before result act =
     → Whole (typed known) → (bytes : ℕ → ℕ → ℕ)
     → ready (tree_of bytes (typed known)) → (inode : ℕ)
     → (is_sustained (outcome (tree_of bytes (typed known)) (act (tree_of bytes (typed known)))).tree sid
-        inode && not (is_sustained (tree_of bytes (typed known)) sid inode))
-        ≡ is_inode (kept_of removed) inode)
+    inode && not (is_sustained (tree_of bytes (typed known)) sid inode))
+    ≡ is_inode (kept_of removed) inode)

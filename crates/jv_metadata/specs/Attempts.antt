@@ -84,8 +84,8 @@ KeepsOne who o before kept = (known : RowMap) → before.rows ≡ Some known →
     → (bytes : ℕ → ℕ → ℕ) → HoldsFiles who.held (tree_of bytes (typed known))
     → (inode : ℕ)
     → (is_sustained (outcome (tree_of bytes (typed known))
-        (attempt (tree_of bytes (typed known)) who o)).tree who.sid inode
-        && not (is_sustained (tree_of bytes (typed known)) who.sid inode)) ≡ is_inode kept inode
+    (attempt (tree_of bytes (typed known)) who o)).tree who.sid inode
+    && not (is_sustained (tree_of bytes (typed known)) who.sid inode)) ≡ is_inode kept inode
 
 abbrev pub SaysKept : Caller → Op → Store → Result Answer TxFault → Type 0
 SaysKept who o before result =

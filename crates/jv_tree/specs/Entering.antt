@@ -68,8 +68,11 @@ has_room setting c = nat_lt c.inode FULL_COUNT
 -- the counters with one more node
 abbrev pub one_more : Counters → Counters
 one_more c =
-    record c { inode = c.inode + 1; used_space = c.used_space + SPACE_UNIT;
-    used_inodes = c.used_inodes + 1 }
+    record c {
+      inode = c.inode + 1;
+      used_space = c.used_space + SPACE_UNIT;
+      used_inodes = c.used_inodes + 1;
+    }
 
 -- counters grow where the limits allow it
 abbrev pub Grows : Setting → Counters → Result Counters Fault → Type 0

@@ -11,7 +11,7 @@ use Rattle.jv_contents.specs.Blocks.{Blocks}
 abbrev pub is_block : ℕ → BlockId → Bool
 is_block block_size block =
     nat_le 1 block.id && nat_lt block.id (2 ^ 64) && nat_lt block.index MAX_BLOCKS
-        && nat_le 1 block.size && nat_le block.size block_size
+    && nat_le 1 block.size && nat_le block.size block_size
 
 -- the blocks of the volume among objects: names are spelled for other numbers too, which no block has
 abbrev pub blocks_in : Setting → ObjectMap → Blocks

@@ -22,8 +22,14 @@ pub record YardValue : Type 0 where
 abbrev pub yard_value : Holding ObjectMap → Holding StagedMap → Setting → Staging → ℕ → List Note
     → YardValue
 yard_value depot shelf setting staged last log =
-    record { depot = depot; shelf = shelf; setting = setting; staged = staged; last = last;
-        log = log }
+    record {
+      depot = depot;
+      shelf = shelf;
+      setting = setting;
+      staged = staged;
+      last = last;
+      log = log;
+    }
 
 -- a name is one of a block of the volume
 pub record NamesBlock (setting : Setting) (name : List ℕ) : Type 0 where
