@@ -18,8 +18,9 @@ impl Client {
     /// Makes one step of the operation in progress: at most one transaction or one request, and the answer with the
     /// last one. Appends the step's entries for this line. Where memory runs out the answer is `NoMemory`, where a
     /// device failed it is `DeviceFailed`: the operation has ended, and in a read the cache has changed by its looks and
-    /// by a block that was got. `Broken` if a row that the step reads is malformed, names one that isn't there, or is
-    /// absent where each volume has one: nothing has changed but that a read may have begun, and there is no entry.
+    /// by the needed block, where that came. `Broken` if a row that the step reads is malformed, names one that isn't
+    /// there, or is absent where each volume has one: nothing has changed but that a read may have begun, and there is
+    /// no entry.
     /// JuiceFS, Architecture: clients; Cache: a close stores what was written.
     pub fn step<K: Keeper, D: Depot, H: Shelf>(
         &mut self,
