@@ -97,7 +97,7 @@ class Client:
         self.sustaining = set()  # inodes that it has open, and whose last name it took away itself
         self.operation = None
         self.operation_name = ''
-        self.at_request = False  # whether the operation has come to its first request
+        self.at_request = False  # whether the operation has reached its first request
 
     def handles_of(self, inode):
         """The handles by which an inode is open."""

@@ -17,7 +17,7 @@ from draw import Drawing
 from model import Model
 
 SCENES = Path(__file__).resolve().parent.parent / 'crates/scenes/out/scenes'
-BATCH = 20  # so many scripts are in memory at once
+BATCH = 20  # how many scripts are in memory at once
 # The first words of the lines that are compared of what a scene prints.
 COMPARED = 'out', 'status', 'entries', 'object', 'row'
 
@@ -107,13 +107,13 @@ def compare_batch(words, seeds):
         yield drawing, difference(drawing.lines, found, wanted)
 
 
-def report(words, drawing, told):
+def report(words, drawing, shown):
     """Prints a script that shows a difference."""
     settings, lines = drawing.settings, drawing.lines
     if words.shrink:
         lines = shrink(words.program, settings, lines)
-        told = compare_lines(words.program, settings, lines)
-    print(f'seed {drawing.seed}: {settings}', *lines, f'It differs at: {told}', sep='\n')
+        shown = compare_lines(words.program, settings, lines)
+    print(f'seed {drawing.seed}: {settings}', *lines, f'It differs at: {shown}', sep='\n')
 
 
 def main():
@@ -121,12 +121,12 @@ def main():
     refusals, lines, differences = Counter(), 0, 0
     last = words.seed + words.scripts
     for first in range(words.seed, last, BATCH):
-        for drawing, told in compare_batch(words, range(first, min(last, first + BATCH))):
+        for drawing, shown in compare_batch(words, range(first, min(last, first + BATCH))):
             refusals += drawing.model.refusals
             lines += len(drawing.lines)
-            if told:
+            if shown:
                 differences += 1
-                report(words, drawing, told)
+                report(words, drawing, shown)
     pairs = f'{len(refusals)} pairs of operation and refusal'
     print(f'oracle: {words.scripts} scripts, {lines} lines, {pairs}, {differences} differences')
     sys.exit(1 if differences else 0)

@@ -6,7 +6,7 @@ from model import Model
 from rows import DIRECTORY, LAST_MOMENT, LONGEST_FILE, ROOT, SYMLINK, TRASH, WINDOW, Refusal, Settings
 from script import CLIENTS, print_text
 
-LINES = 60  # A scene prints at most so many answers whole.
+LINES = 60  # the most answers that a scene prints whole
 GIB = 1 << 30
 LARGEST_NUMBER = (1 << 64) - 1
 NAMES = [b'a', b'b', b'c', b'd']

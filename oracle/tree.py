@@ -91,7 +91,7 @@ class Tree(Volume):
         return number
 
     def print_attributes(self, number):
-        """The answer that tells an inode's attributes."""
+        """The answer that has an inode's attributes."""
         inode = self.inodes[number]
         head = f"{'?fdl'[inode.kind]} {inode.mode:04o} {inode.links} {inode.user} {inode.group}"
         return f'ok {number} {head} {inode.length} {inode.modified} {inode.changed}'

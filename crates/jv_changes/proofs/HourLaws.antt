@@ -4,7 +4,7 @@ use Rattle.std.specs.Prelude.{◌==◌, ◌&&◌, ◌||◌, not, if◌then◌els
 use Rattle.std.specs.Option.{option_map}
 use Rattle.std.proofs.lemmas.Bool.{le-ltb, le-leb}
 use Rattle.jv_model.specs.declared.fault.Fault.TheVariants.{NoSpace}
-use Rattle.jv_model.specs.declared.limits.TheConstants.{MAX_LINKS, READ_ONLY_MODE}
+use Rattle.jv_model.specs.declared.limits.TheConstants.{MAX_LINKS, READ_ONLY_MODE, TRASH_ROOT, ROOT}
 use Rattle.jv_model.specs.declared.row.Counters.{Counters}
 use Rattle.jv_model.specs.declared.row.Node.{Node as NodeRow}
 use Rattle.jv_model.specs.FiniteMap.{number_key, insert}
@@ -14,7 +14,7 @@ use Rattle.jv_model.specs.tree.Attempt.{◌>>=◌, require}
 use Rattle.jv_model.specs.tree.Changes.{put_node, put_entry, with_node}
 use Rattle.jv_model.specs.tree.HourNames.{Date, date_of, date_text, day_hours, hour_name, two_digits}
 use Rattle.jv_model.specs.tree.Trash.{hour_inode, hour_place, with_hour}
-use Rattle.jv_model.specs.tree.Tree.{Tree, Node, Directory, trash_root, root, new_node, node_at, is_directory, is_counted, node_space, node_count, link_count, links_fit}
+use Rattle.jv_model.specs.tree.Tree.{Tree, Node, Directory, new_node, node_at, is_directory, is_counted, node_space, node_count, link_count, links_fit}
 use Rattle.jv_model.proofs.TestLaws.{and_false}
 use Rattle.jv_volume.specs.TypedRows.{Cell, Rows, is_entry_name}
 use Rattle.jv_volume.specs.Views.{counters_at, node_row_at, dropped_at}
@@ -40,7 +40,7 @@ use Rattle.jv_changes.proofs.HourLinkLaws.{trash_links}
 
 -- the directory of an hour, as it comes
 abbrev pub hour_dir : ℕ → Node
-hour_dir now = new_node (Directory trash_root) READ_ONLY_MODE now
+hour_dir now = new_node (Directory TRASH_ROOT) READ_ONLY_MODE now
 
 pub with_hour-there : (t : Tree) (now hour : ℕ) (node : Node) → node_at t (hour_inode hour) ≡ Some node
     → with_hour t now hour ≡ t
@@ -59,9 +59,9 @@ with_hour-comes t now hour none = ap (λ (o : Option Node). elim o as (λ _. Tre
   | Some node ↦ t
 ]) none
 
-uncounted : (inode : ℕ) → trash_root < inode → is_counted inode ≡ false
-uncounted inode high = ap (λ b. not (inode == root) && b) (le-ltb inode trash_root (omega arith))
-    ∙ and_false (not (inode == root))
+uncounted : (inode : ℕ) → TRASH_ROOT < inode → is_counted inode ≡ false
+uncounted inode high = ap (λ b. not (inode == ROOT) && b) (le-ltb inode TRASH_ROOT (omega arith))
+    ∙ and_false (not (inode == ROOT))
 
 -- names of hours are those of entries
 digit_is_text : (n : ℕ) → not ((48 + n == 47) || (48 + n == 0)) ≡ true
@@ -93,16 +93,16 @@ module _ (t : Tree) (now hour : ℕ) (may : MayHaveHour t hour) (low : hour ≤ 
   abbrev pub with_dir : Tree
   with_dir = put_node t (hour_inode hour) (hour_dir now)
 
-  high : trash_root < hour_inode hour
+  high : TRASH_ROOT < hour_inode hour
   high = hour_inode_high hour low
 
   pub hour_free : IsFree t (hour_inode hour)
   hour_free = record { absent = none; unnamed = may.unnamed none; empty = may.empty none }
 
-  trash_stays : is_directory (put_node t (hour_inode hour) (hour_dir now)) trash_root ≡ true
-  trash_stays = is_directory-put_apart t dir (hour_dir now) trash_root (λ same. absurd (ends same)) ∙ may.trash
+  trash_stays : is_directory (put_node t (hour_inode hour) (hour_dir now)) TRASH_ROOT ≡ true
+  trash_stays = is_directory-put_apart t dir (hour_dir now) TRASH_ROOT (λ same. absurd (ends same)) ∙ may.trash
     where
-      ends : trash_root ≡ hour_inode hour → ⊥
+      ends : TRASH_ROOT ≡ hour_inode hour → ⊥
       ends same = (let more = high in omega (arith, more, same))
 
   dir_there : is_directory (put_node t (hour_inode hour) (hour_dir now)) (hour_inode hour) ≡ true
@@ -117,15 +117,15 @@ module _ (t : Tree) (now hour : ℕ) (may : MayHaveHour t hour) (low : hour ≤ 
     apart = λ same. absurd (let more = high in omega (arith, more, same));
   }
 
-  trash_fits : links_fit (put_entry with_dir now (hour_place hour) dir) trash_root ≡ true
+  trash_fits : links_fit (put_entry with_dir now (hour_place hour) dir) TRASH_ROOT ≡ true
   trash_fits =
-      let one = link_count-put_entry-dir with_dir now (hour_place hour) dir trash_root (may.free none) dir_there
+      let one = link_count-put_entry-dir with_dir now (hour_place hour) dir TRASH_ROOT (may.free none) dir_there
       trash_stays in
-      let same = link_count-put_unnamed t dir (hour_dir now) trash_root (may.unnamed none)
+      let same = link_count-put_unnamed t dir (hour_dir now) TRASH_ROOT (may.unnamed none)
       (λ same. absurd (let more = high in omega (arith, more, same))) in
-      let few = trash_links t may.hours (sym (dirs-shape t trash_root) ∙ may.trash) in
-      le-leb (link_count (put_entry with_dir now (hour_place hour) dir) trash_root) MAX_LINKS
-      (omega (arith, one, same, few, standing_here trash_root (hour_place hour) refl))
+      let few = trash_links t may.hours (sym (dirs-shape t TRASH_ROOT) ∙ may.trash) in
+      le-leb (link_count (put_entry with_dir now (hour_place hour) dir) TRASH_ROOT) MAX_LINKS
+      (omega (arith, one, same, few, standing_here TRASH_ROOT (hour_place hour) refl))
 
   dir_fits : links_fit (put_entry with_dir now (hour_place hour) dir) dir ≡ true
   dir_fits =

@@ -2,9 +2,10 @@
 use Rattle.std.proofs.Common.{◌≡◌, ◌≢◌, ℕ, zero, suc, ◌+◌, ◌-◌, ◌<◌, ◌≤◌, Bool, true, false, Option, None, Some, inl, inr, refl, sym, ap, subst, ◌∙◌, arith}
 use Rattle.std.specs.Prelude.{◌==◌, ◌&&◌, if◌then◌else◌, nat_lt, nat_le}
 use Rattle.std.proofs.lemmas.Bool.{cases_eq, cond-false, ne_eqb, leb-true, and_parts}
+use Rattle.jv_model.specs.declared.limits.TheConstants.{TRASH_ROOT}
 use Rattle.jv_model.specs.declared.lifetimes.TheConstants.{FIRST_HOUR}
 use Rattle.jv_model.specs.FiniteMap.{Map, get, remove, sum_over}
-use Rattle.jv_model.specs.tree.Tree.{Tree, EntryKey, entry_key, trash_root, link_count, name_count}
+use Rattle.jv_model.specs.tree.Tree.{Tree, EntryKey, entry_key, link_count, name_count}
 use Rattle.jv_model.specs.tree.Trash.{hour_of, hour_place}
 use Rattle.jv_model.proofs.TestLaws.{at_most_one}
 use Rattle.jv_volume.specs.Shape.{NamesHour, shape_of}
@@ -79,29 +80,29 @@ hour_small at inode n = elim (cases_eq inode FIRST_HOUR) [
   | inl same ↦ subst (λ i. hour_of i < hours_end) (sym same) (omega arith)
   | inr apart ↦
       let high : inode ≤ FIRST_HOUR =
-      leb-true inode FIRST_HOUR (and_parts (nat_lt trash_root inode) (nat_le inode FIRST_HOUR) n.hour).1 in
-      let is : hour_of inode ≡ inode - trash_root = cond-false _ _ _ (ne_eqb inode FIRST_HOUR apart) in
+      leb-true inode FIRST_HOUR (and_parts (nat_lt TRASH_ROOT inode) (nat_le inode FIRST_HOUR) n.hour).1 in
+      let is : hour_of inode ≡ inode - TRASH_ROOT = cond-false _ _ _ (ne_eqb inode FIRST_HOUR apart) in
       omega (arith, high, is)
 ]
 
-adds_few : (dirs : ℕ → Bool) (at : EntryKey) (inode : ℕ) → (at.dir ≡ trash_root → NamesHour at inode)
-    → AddsFew hours_end at (within_of dirs trash_root at inode)
-adds_few dirs at inode hours = elim (cases_eq at.dir trash_root) [
+adds_few : (dirs : ℕ → Bool) (at : EntryKey) (inode : ℕ) → (at.dir ≡ TRASH_ROOT → NamesHour at inode)
+    → AddsFew hours_end at (within_of dirs TRASH_ROOT at inode)
+adds_few dirs at inode hours = elim (cases_eq at.dir TRASH_ROOT) [
   | inl same ↦
       let n = hours same in
-      AddsOne (at_most_one (at.dir == trash_root && dirs inode)) (hour_of inode) (hour_small at inode n)
+      AddsOne (at_most_one (at.dir == TRASH_ROOT && dirs inode)) (hour_of inode) (hour_small at inode n)
       (λ i. record { dir = same i; name = n.name i })
-  | inr apart ↦ AddsNone (ap (λ b. if b && dirs inode then 1 else 0) (ne_eqb at.dir trash_root apart))
+  | inr apart ↦ AddsNone (ap (λ b. if b && dirs inode then 1 else 0) (ne_eqb at.dir TRASH_ROOT apart))
 ]
 
 -- the trash has links to spare
-pub trash_links : (t : Tree) → ((at : EntryKey) (inode : ℕ) → get t.entries at ≡ Some inode → at.dir ≡ trash_root
+pub trash_links : (t : Tree) → ((at : EntryKey) (inode : ℕ) → get t.entries at ≡ Some inode → at.dir ≡ TRASH_ROOT
     → NamesHour at inode)
-    → dirs_of (shape_of t) trash_root ≡ true → link_count t trash_root ≤ 38177491
+    → dirs_of (shape_of t) TRASH_ROOT ≡ true → link_count t TRASH_ROOT ≤ 38177491
 trash_links t hours trash =
     let dirs = dirs_of (shape_of t) in
-    let few = sum-few (within_of dirs trash_root) hours_end t.entries
+    let few = sum-few (within_of dirs TRASH_ROOT) hours_end t.entries
     (λ at inode there. adds_few dirs at inode (hours at inode there)) in
-    let counted = link_count-shape t trash_root
-    ∙ ap (λ b. if b then 2 + sum_over (within_of dirs trash_root) t.entries else name_count t.entries trash_root) trash in
+    let counted = link_count-shape t TRASH_ROOT
+    ∙ ap (λ b. if b then 2 + sum_over (within_of dirs TRASH_ROOT) t.entries else name_count t.entries TRASH_ROOT) trash in
     omega (arith, few, counted)

@@ -17,7 +17,7 @@ use Rattle.jv_model.specs.rows.RowPlaces.{node_key}
 use Rattle.jv_model.specs.tree.Changes.{put_node}
 use Rattle.jv_model.specs.tree.HourNames.{hour_at, hour_name}
 use Rattle.jv_model.specs.tree.Trash.{hour_inode, hour_place, with_hour}
-use Rattle.jv_model.specs.tree.Tree.{Tree, Node, trash_root, node_at, parent_of}
+use Rattle.jv_model.specs.tree.Tree.{Tree, Node, node_at, parent_of}
 use Rattle.jv_outside.specs.declared.batch.Change.{Change}
 use Rattle.jv_outside.specs.Store.{Store}
 use Rattle.jv_rows.specs.Drafts.{drafted, cell, Sees, Needs}
@@ -97,9 +97,9 @@ HasHour now hour was last before after result =
 
 abbrev pub HasEntry : ℕ → List ℕ → ℕ → List Change → List Change → Store → Store → Result (Unit {0}) TxFault → Type 0
 HasEntry now name inode one last middle after result =
-    Drafting {A = Unit {0}} (λ u. MayStandAt u (record { dir = trash_root; name = name }) inode) one last middle after
+    Drafting {A = Unit {0}} (λ u. MayStandAt u (record { dir = TRASH_ROOT; name = name }) inode) one last middle after
     result
-    (entry_put now (record { dir = trash_root; name = name }) inode)
+    (entry_put now (record { dir = TRASH_ROOT; name = name }) inode)
 
 -- the hour of a moment
 pub hour_low : (now seconds : ℕ) → seconds ≡ now → seconds ≤ LAST_MOMENT → hour_at now ≤ last_hour

@@ -15,7 +15,8 @@ space_taken node = (if node.kind == 1 then paged node.length else SPACE_UNIT)
 
 -- counters without a node
 abbrev pub lowered : Node → Counters → Counters
-lowered node c = record c { used_space = c.used_space - space_taken node; used_inodes = c.used_inodes - 1 }
+lowered node c =
+    record c { used_space = c.used_space - space_taken node; used_inodes = c.used_inodes - 1 }
 
 abbrev pub with_lowered : Node → Counters → Rows → Rows
 with_lowered node c rows = insert rows counters_key (Ok (OfCounters (lowered node c)))
@@ -23,5 +24,6 @@ with_lowered node c rows = insert rows counters_key (Ok (OfCounters (lowered nod
 -- a file leaves its length
 abbrev pub with_dropped : ℕ → Node → Rows → Rows
 with_dropped inode node rows =
-    (if node.kind == 1 then insert rows (dropped_key inode) (Ok (OfDropped (record { length = node.length })))
+    (if node.kind == 1
+    then insert rows (dropped_key inode) (Ok (OfDropped (record { length = node.length })))
     else rows)

@@ -25,7 +25,8 @@ RefusesNode inode changes rows (Moved list) = ⊥
 RefusesNode inode changes rows (OfRows fault) = RefusesCell (node_key inode) changes rows fault
 
 -- A reading of an inode's node, over changes: rows and place are the same.
-pub record Presents (inode : ℕ) (changes : List Change) (before after : Store) (result : Result Node TxFault) : Type 0
+pub record Presents (inode : ℕ) (changes : List Change) (before after : Store)
+    (result : Result Node TxFault) : Type 0
   where
     pub rows_are : after.rows ≡ before.rows
     pub opened_at : after.opened ≡ before.opened
@@ -45,5 +46,6 @@ linked_row links row = record row { nlink = links }
 
 -- a node with one link more, which is refused where no more can be stored
 abbrev pub Rises : Node → ℕ → (ℕ → Node) → Result Node Fault → Type 0
-Rises row more with_links (Ok after) = (after ≡ with_links (row.nlink + more)) × (row.nlink + more ≤ MAX_LINKS)
+Rises row more with_links (Ok after) =
+    (after ≡ with_links (row.nlink + more)) × (row.nlink + more ≤ MAX_LINKS)
 Rises row more with_links (Err fault) = (fault ≡ NoSpace) × (MAX_LINKS < row.nlink + more)

@@ -2,11 +2,11 @@
 use Rattle.std.specs.Prelude.{◌≡◌, ◌≢◌, ℕ, ◌<◌, true, ◌&&◌, is_some, None, Some, Result, Ok, IsTrue, ◌≤◌, []}
 use Rattle.jv_model.specs.declared.fault.Fault.{Fault}
 use Rattle.jv_model.specs.declared.fault.Fault.TheVariants.{NoSpace}
-use Rattle.jv_model.specs.declared.limits.TheConstants.{DIRECTORY_LENGTH, READ_ONLY_MODE}
+use Rattle.jv_model.specs.declared.limits.TheConstants.{DIRECTORY_LENGTH, READ_ONLY_MODE, TRASH_ROOT}
 use Rattle.jv_model.specs.declared.row.Node.{Node as NodeRow}
 use Rattle.jv_model.specs.FiniteMap.{get, insert}
 use Rattle.jv_model.specs.tree.Attempt.{◌>>=◌, require}
-use Rattle.jv_model.specs.tree.Tree.{Tree, EntryKey, trash_root, is_directory, is_counted, links_fit, node_at}
+use Rattle.jv_model.specs.tree.Tree.{Tree, EntryKey, is_directory, is_counted, links_fit, node_at}
 use Rattle.jv_model.specs.tree.Changes.{put_entry}
 use Rattle.jv_model.specs.tree.Trash.{hour_inode, hour_place}
 use Rattle.jv_volume.specs.Shape.{NamesHour}
@@ -30,7 +30,8 @@ pub record MayStandAt (t : Tree) (place : EntryKey) (inode : ℕ) : Type 0 where
 -- the tree with one more entry, where the link counts of directory and node can be stored
 abbrev pub entry_put : ℕ → EntryKey → ℕ → Tree → Result Tree Fault
 entry_put now place inode t = do
-  _ ← require (links_fit (put_entry t now place inode) place.dir && links_fit (put_entry t now place inode) inode)
+  _ ← require (links_fit (put_entry t now place inode) place.dir
+      && links_fit (put_entry t now place inode) inode)
       NoSpace
   Ok (put_entry t now place inode)
 
@@ -47,19 +48,23 @@ pub record MayGo (t : Tree) (inode : ℕ) : Type 0 where
 
 -- a file that a session keeps
 abbrev pub sustaining : ℕ → ℕ → Tree → Tree
-sustaining sid inode t = record t { sustained = insert t.sustained (record { sid = sid; inode = inode }) tt }
+sustaining sid inode t =
+    record t { sustained = insert t.sustained (record { sid = sid; inode = inode }) tt }
 
 -- The directory of an hour is there, or may come: the trash is there, no entry has its place, none names it, and none
 -- is in it.
 -- Entries of the trash are directories of hours, so there are few, and inodes that are given stay below it.
 pub record MayHaveHour (t : Tree) (hour : ℕ) : Type 0 where
-  pub trash : is_directory t trash_root ≡ true
+  pub trash : is_directory t TRASH_ROOT ≡ true
   pub free : node_at t (hour_inode hour) ≡ None → get t.entries (hour_place hour) ≡ None
-  pub unnamed : node_at t (hour_inode hour) ≡ None → (at : EntryKey) → get t.entries at ≢ Some (hour_inode hour)
-  pub empty : node_at t (hour_inode hour) ≡ None → (at : EntryKey) (inode : ℕ) → get t.entries at ≡ Some inode
+  pub unnamed : node_at t (hour_inode hour) ≡ None → (at : EntryKey)
+      → get t.entries at ≢ Some (hour_inode hour)
+  pub empty : node_at t (hour_inode hour) ≡ None → (at : EntryKey) (inode : ℕ)
+      → get t.entries at ≡ Some inode
       → at.dir ≢ hour_inode hour
-  pub hours : (at : EntryKey) (inode : ℕ) → get t.entries at ≡ Some inode → at.dir ≡ trash_root → NamesHour at inode
-  pub below : t.next_inode ≤ trash_root
+  pub hours : (at : EntryKey) (inode : ℕ) → get t.entries at ≡ Some inode → at.dir ≡ TRASH_ROOT
+      → NamesHour at inode
+  pub below : t.next_inode ≤ TRASH_ROOT
 
 -- the row of an hour's directory, as it comes
 abbrev pub hour_row : ℕ → NodeRow
@@ -72,6 +77,6 @@ hour_row now = record {
   mtime = now;
   ctime = now;
   length = DIRECTORY_LENGTH;
-  parent = trash_root;
+  parent = TRASH_ROOT;
   target = [];
 }

@@ -62,8 +62,8 @@ failure-stays _ e = refl
 
 module _ (h : ClientValue) (d : Doing) (busy : h.doing ≡ Some d) (after : ClientValue) (done : Made)
     (before used : YardValue) where
-  in_doing : MovesCache d.op h after done before used → IfSome h.doing (λ (d : Doing). MovesCache d.op h after done before used)
-  in_doing moves = subst (λ o. IfSome o (λ (d : Doing). MovesCache d.op h after done before used)) (sym busy) moves
+  in_doing : MovesCache d h after done before used → IfSome h.doing (λ (d : Doing). MovesCache d h after done before used)
+  in_doing moves = subst (λ o. IfSome o (λ (d : Doing). MovesCache d h after done before used)) (sym busy) moves
 
   -- the mount goes on, and the cache is the same
   pub cache-stays : leaves d.op done ≡ false → after.cache ≡ h.cache → AnswersNumbers h done
@@ -94,8 +94,8 @@ module _ (h : ClientValue) (d : Doing) (busy : h.doing ≡ Some d) (after : Clie
 
   module _ (read : is_read d.op ≡ true) where
     -- a read goes on, or is answered
-    pub cache-read : leaves d.op done ≡ false → MovesInRead h.id h.limits.entries before used h.cache after.cache
-        → AnswersNumbers h done → CacheUse h after done before used
+    pub cache-read : leaves d.op done ≡ false → MovesInRead h d before used after.cache → AnswersNumbers h done
+        → CacheUse h after done before used
     cache-read goes moves numbers = record {
       moves = in_doing (record {
         drops = λ ends. absurd (cc (sym goes ∙ ends));
@@ -107,13 +107,13 @@ module _ (h : ClientValue) (d : Doing) (busy : h.doing ≡ Some d) (after : Clie
 
     -- or refused
     pub cache-refused : (c : ClientValue) (fault : Fault) → leaves d.op done ≡ is_gone fault
-        → MovesInRead h.id h.limits.entries before used h.cache c.cache → after ≡ refused_here fault c
-        → AnswersNumbers h done → CacheUse h after done before used
+        → MovesInRead h d before used c.cache → after ≡ refused_here fault c → AnswersNumbers h done
+        → CacheUse h after done before used
     cache-refused c fault ends moves is numbers = record {
       moves = in_doing (record {
         drops = λ left. ap (λ (c : ClientValue). c.cache) is ∙ refused-drops fault c (sym ends ∙ left);
         stays = λ e other. absurd (cc (sym read ∙ other));
-        reads = λ goes is_read. subst (MovesInRead h.id h.limits.entries before used h.cache)
+        reads = λ goes is_read. subst (MovesInRead h d before used)
             (sym (ap (λ (c : ClientValue). c.cache) is ∙ refused-keeps fault c (sym ends ∙ goes))) moves;
       });
       numbers = numbers;

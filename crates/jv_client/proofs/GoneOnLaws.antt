@@ -34,7 +34,7 @@ use Rattle.jv_client.specs.ClientValue.{ClientValue}
 use Rattle.jv_client.specs.Ending.{told_here}
 use Rattle.jv_client.specs.Held.{IsClient, IsHeld}
 use Rattle.jv_client.specs.Reading.{GoesAhead, read_of, told_read}
-use Rattle.jv_client.specs.UnderWay.{Flushes, IsReady, Reads, moved_to, steps_left}
+use Rattle.jv_client.specs.UnderWay.{Flushes, IsReady, LacksNeed, Reads, moved_to, steps_left}
 use Rattle.jv_client.proofs.EndingLaws.{keeps_bytes}
 use Rattle.jv_client.proofs.HeldLaws.{doing_of}
 use Rattle.jv_client.proofs.KeptLaws.{moved-client, told-client}
@@ -77,8 +77,8 @@ module _ (block : ℕ) (h : ClientValue) (d : Doing) (offset len : ℕ) (cache :
 
   module _ (later : Cached) (f : Fetching) (need : Need) (can : CanFetch file.views f) (wants : Wants file.views f need)
       (more : need ≢ Nothing) where
-    pub ready-on : IsReady (going_on handles later f need d h)
-    ready-on =
+    pub ready-on : LacksNeed need later → IsReady (going_on handles later f need d h)
+    ready-on lacks =
         let reads = asks.reads in
         record {
           buffer = asks.buffer;
@@ -93,6 +93,7 @@ module _ (block : ℕ) (h : ClientValue) (d : Doing) (offset len : ℕ) (cache :
                   × Wants handle.views f need)) (sym opened) (can, wants);
               more = more;
               cache = refl;
+              lacks = lacks;
             };
             asks = λ moved. refl;
           };

@@ -62,13 +62,15 @@ use Rattle.jv_client.specs.Getting.{Fills, IsMissed, IsUnread}
 use Rattle.jv_client.specs.Held.{Holds, IsClient, IsHeld, in_flight}
 use Rattle.jv_client.specs.Makes.{Makes, StepsTo, SaysBad, UsesDevices, faults_of, step_of, says_failure}
 use Rattle.jv_client.specs.CacheUse.{KeepsOne, LooksOnly, MovesInRead}
-use Rattle.jv_client.specs.Reading.{GoesAhead, LookedUp, read_of, told_read}
+use Rattle.jv_client.specs.Reading.{GoesAhead, LookedUp, NeedsNext, read_of, told_read}
+use Rattle.jv_client.specs.UnderWay.{LacksNeed}
 use Rattle.jv_client.proofs.CacheUseLaws.{cache-read}
 use Rattle.jv_client.specs.YardUse.{PutsNone, YardUse}
 use Rattle.jv_client.proofs.AnswerLaws.{same-yard, uses-none}
 use Rattle.jv_client.proofs.EndingLaws.{holds-told}
 use Rattle.jv_client.proofs.HeldLaws.{doing_of}
 use Rattle.jv_client.proofs.KeptLaws.{cache-goes, held-goes}
+use Rattle.jv_client.proofs.ReadingLaws.{lacks-later}
 use Rattle.jv_client.proofs.ReaderLaws.{IsAsking, busy_in, file_by, handle_in, may_get, none_flying, opened_in}
 use Rattle.jv_client.proofs.GoneOnLaws.{client-on, client-over, falls-on, going_on, none-kept, over, reading-is}
 use Rattle.jv_client.proofs.GoneOnLaws.{ready-on}
@@ -329,15 +331,17 @@ module _ (now entry block : ℕ) (h : ClientValue) (d : Doing) (offset len : ℕ
               (none-kept d.op handle offset len asks.reads.op_is found.first found.second (length found.bytes)) holds;
         }
 
-      -- the cache kept the block, and the next ones were looked up
-      moves-kept : MovesInRead h.id h.limits.entries before.yard yard h.cache (Some later)
-      moves-kept = KeepsOne b bytes cache kept later asks.looked gets fills.cache_is looks_up refl
+      -- the cache kept the block that was needed, and the next ones were looked up
+      moves-kept : MovesInRead h d before.yard yard (Some later)
+      moves-kept = KeepsOne fetch b bytes cache kept later
+          (subst (λ n. NeedsNext n h d fetch (NeedsBlock b)) (sym length_is) asks.needs) asks.wants asks.looked asks.lacks
+          gets fills.cache_is looks_up refl
 
       -- it goes on
       pub get-on : (f : Fetching) (need : Need) → GoesAhead file.views kept filled f → Wants file.views f need
-          → need ≢ Nothing
+          → need ≢ Nothing → LacksNeed need kept
           → Makes now entry h (going_on h.handles later f need d h) before used (made.Request Quiet)
-      get-on f need goes wants more =
+      get-on f need goes wants more lacks =
           let can = goes.can (fills.can file.views asks.can) in
           let few = goes.few in
           let less = fills.falls in
@@ -345,7 +349,7 @@ module _ (now entry block : ℕ) (h : ClientValue) (d : Doing) (offset len : ℕ
             id = refl;
             limits = refl;
             ready = ready-on block h d offset len cache fetch (NeedsBlock b) asks h.handles file asks.reads.opened refl
-                later f need can wants more;
+                later f need can wants more (lacks-later need kept later looks_up lacks);
             devices = uses-got (made.Request Quiet) before yard (λ device. refl) gets.0 tt;
             yard = yard-got now h (made.Request Quiet) before.yard yard gets.0;
             cache = cache-read h d asks.busy (going_on h.handles later f need d h) (made.Request Quiet) before.yard yard

@@ -56,7 +56,9 @@ use Rattle.jv_client.specs.Held.{Holds, IsClient, IsHeld, in_flight}
 use Rattle.jv_client.specs.Makes.{Makes, StepsTo, SaysBad, UsesDevices, faults_of, step_of, says_failure}
 use Rattle.jv_client.specs.CacheUse.{LooksOnly, MovesInRead}
 use Rattle.jv_client.specs.Reading.{GoesAhead, LookedUp, cache_in, read_of, told_read}
+use Rattle.jv_client.specs.UnderWay.{LacksNeed}
 use Rattle.jv_client.proofs.CacheUseLaws.{cache-read}
+use Rattle.jv_client.proofs.ReadingLaws.{lacks-later}
 use Rattle.jv_fetching.proofs.CacheLaws.{looks_then}
 use Rattle.jv_client.proofs.AnswerLaws.{same-yard}
 use Rattle.jv_client.proofs.EndingLaws.{holds-told}
@@ -301,20 +303,19 @@ module _ (now entry block : ℕ) (h : ClientValue) (d : Doing) (offset len : ℕ
       }
 
   -- blocks were looked up, and no other thing was done with the cache
-  looked-on : (later : Cached) → LooksUp cache later
-      → MovesInRead h.id h.limits.entries before.yard before.yard h.cache (Some later)
+  looked-on : (later : Cached) → LooksUp cache later → MovesInRead h d before.yard before.yard (Some later)
   looked-on later looks_up =
       LooksOnly (LookedUp later (looks_then (cache_in h.limits.entries h.cache) cache later asks.looked looks_up) refl)
 
   -- it goes on
   pub look-on : (later : Cached) → LooksUp cache later → (f : Fetching) (need : Need)
-      → GoesAhead seen.views cache fetch f → Wants seen.views f need → need ≢ Nothing
+      → GoesAhead seen.views cache fetch f → Wants seen.views f need → need ≢ Nothing → LacksNeed need cache
       → Makes now entry h (going_on handles later f need d h) before used (made.Request (Look file.inode window))
-  look-on later looks_up f need goes wants more = record {
+  look-on later looks_up f need goes wants more lacks = record {
     id = refl;
     limits = refl;
     ready = ready-on block h d offset len cache fetch (NeedsLook window) asks handles seen opened refl later f need
-        (goes.can can-seen) wants more;
+        (goes.can can-seen) wants more (lacks-later need cache later looks_up lacks);
     devices = uses-look (made.Request (Look file.inode window)) before keeper (λ device. refl) looks.looks.rows_are
         looks.looks.opened_at looks.looks.counts tt;
     yard = same-yard now h (made.Request (Look file.inode window)) before.yard;

@@ -1,6 +1,6 @@
 -- The request of a flush for one block of its segment's slice: the block is put, and the slice goes on being in flight; or the
 -- carrier or the depot fails, and the operation ends.
-use Rattle.std.proofs.Common.{◌≡◌, ℕ, suc, ◌+◌, ◌-◌, ◌≤◌, ◌<◌, ◌==◌, List, [], ◌∷◌, length, Option}
+use Rattle.std.proofs.Common.{◌≡◌, ℕ, suc, ◌+◌, ◌-◌, ◌^◌, ◌≤◌, ◌<◌, ◌==◌, List, [], ◌∷◌, ◌++◌, length, Option}
 use Rattle.std.proofs.Common.{Some, Result, Ok, Err, refl, sym, ap, subst, ◌∙◌, arith}
 use Rattle.std.specs.Prelude.{if◌then◌else◌}
 use Rattle.std.specs.Option.{option_map}
@@ -21,8 +21,12 @@ use Rattle.jv_outside.specs.Carriage.{Carriage}
 use Rattle.jv_outside.specs.Causes.{RoseIf}
 use Rattle.jv_slices.proofs.BlockLaws.{block_begins}
 use Rattle.jv_contents.specs.Flights.{Flight, flight_block, flight_bytes}
+use Rattle.jv_yard.specs.declared.note.What.TheVariants.{Put}
+use Rattle.jv_yard.specs.BlockCalls.{note_of}
 use Rattle.jv_yard.specs.YardValue.{YardValue}
 use Rattle.jv_shared.specs.Flying.{Flies}
+use Rattle.jv_shared.specs.Lengths.{IsLength}
+use Rattle.jv_shared.proofs.FlyingLaws.{slice_block-is}
 use Rattle.jv_shared.specs.Shared.{HasStore, Known, Shared, with_block}
 use Rattle.jv_steps.specs.IsStep.{at_stage}
 use Rattle.jv_flushing.specs.declared.putting.PutFault.{PutFault}
@@ -158,8 +162,8 @@ module _ (now entry : ℕ) (h : ClientValue) (d : Doing) (before : Shared) (yard
   id_some : 0 < id
   id_some = numbered h d quiets started id busy ready at (omega (arith, some))
 
-  module _ (long : length bytes ≡ segment.len) (short : segment.len ≤ WINDOW) (block : 0 < before.yard.setting.block)
-      (there : quiets ≤ block_count segment.len before.yard.setting.block)
+  module _ (long : length bytes ≡ segment.len) (short : segment.len ≤ WINDOW) (low : id < 2 ^ 64)
+      (block : IsLength before.yard.setting.block) (there : quiets ≤ block_count segment.len before.yard.setting.block)
       (puts : PutsFlight h.id now flight before.yard yard before.carrier carrier (Ok tt)) where
     abbrev uses : PutUses before.yard yard before.carrier carrier (Ok tt)
     uses = put-uses h.id now flight before.yard yard before.carrier carrier (Ok tt) puts
@@ -179,25 +183,37 @@ module _ (now entry : ℕ) (h : ClientValue) (d : Doing) (before : Shared) (yard
       bad = tt;
     }
 
-    -- the block is that of the flight, with this moment
-    puts_next : YardUse now h (AsksFor Quiet) before.yard yard
-    puts_next = record { staged = uses.staged; puts = PutsNext flight flying refl puts.0 }
-
     more : put < block_count (length bytes) before.yard.setting.block
     more = subst (λ n. put < block_count n before.yard.setting.block) (sym long) (omega (arith, there, some))
+
+    small : length bytes ≤ WINDOW
+    small = omega (arith, long, short)
+
+    -- the yard notes the block, since its name is one of the volume's blocks
+    noted : yard.log
+        ≡ before.yard.log ++ note_of h.id Put (flight_block before.yard.setting.block flight put) ∷ []
+    noted = puts.0.put.noted (flight_block before.yard.setting.block flight put) (record {
+      is_block = slice_block-is before.yard.setting.block id (length bytes) put block id_some low small more;
+      spelled = puts.0.stands.named;
+    })
+
+    -- the block is that of the flight, with this moment
+    puts_next : YardUse now h (AsksFor Quiet) before.yard yard
+    puts_next = record { staged = uses.staged; puts = PutsNext flight flying refl puts.0 noted }
 
     -- a slice has no more blocks than bytes
     few : quiets ≤ segment.len
     few =
-        let begins = block_begins segment.len before.yard.setting.block put block (omega (arith, there, some)) in
-        let rises = mul-le put 1 put before.yard.setting.block (omega arith) block in
+        let least = block.least in
+        let begins =
+        block_begins segment.len before.yard.setting.block put (omega (arith, least)) (omega (arith, there, some)) in
+        let rises = mul-le put 1 put before.yard.setting.block (omega arith) (omega (arith, least)) in
         omega (arith, begins, rises, some)
 
     put_in : (s : State) (g : Known) → HasStore s.tree g before → IsClient g before (s.clients h.id) s.count h
         → Asked now h d before then_shared bytes quiets first_moment id s g
     put_in s g store is =
         let f : Flies g before flight = (subst (IsOnWay g before) flying is.flight).0 in
-        let small : length bytes ≤ WINDOW = omega (arith, long, short) in
         let learned = with_block (flight_block before.yard.setting.block flight put)
         (flight_bytes before.yard.setting.block flight put) g in
         let next_is : next_segment (flush_of_code d.flush) (s.clients h.id).pending ≡ Some segment =
@@ -269,15 +285,15 @@ module _ (now entry : ℕ) (h after : ClientValue) (before : Shared) (yard : Yar
         yard before.carrier carrier result) bytes_are
         (subst (λ (client : ℕ). PutsFlight client now put_flight before.yard yard before.carrier carrier result) own puts)
 
-    pub block-put : length bytes ≡ segment.len → segment.len ≤ WINDOW → 0 < before.yard.setting.block
-        → quiets ≤ block_count segment.len before.yard.setting.block
+    pub block-put : length bytes ≡ segment.len → segment.len ≤ WINDOW → id < 2 ^ 64
+        → IsLength before.yard.setting.block → quiets ≤ block_count segment.len before.yard.setting.block
         → PutsFlight client now (record { id = id; bytes = bytes; put = quiets - 1 }) before.yard yard before.carrier
         carrier (Ok tt)
         → (moment : ℕ) → moment ≡ (if quiets == 1 then now else started)
         → after ≡ record h { doing = option_map (moved_to (Working (quiets + 1) moment id)) h.doing }
         → done ≡ AsksFor Quiet
         → Makes now entry h after before (record before { yard = yard; carrier = carrier }) done
-    block-put long short block there puts moment moment_is after_is done_is =
+    block-put long short low block there puts moment moment_is after_is done_is =
         let d = in_progress h.doing (Working quiets started id) at in
         let first : ℕ = if quiets == 1 then now else started in
         let moved : ℕ → Option Doing → ClientValue =
@@ -287,7 +303,7 @@ module _ (now entry : ℕ) (h after : ClientValue) (before : Shared) (yard : Yar
         (after_is ∙ ap (λ moment. moved moment h.doing) moment_is ∙ ap (moved first) d.1)
         refl done_is
         (puts_block now entry h d.0 before yard carrier segment quiets (quiets - 1) started id d.1 ready next d.2 one_less
-        (ap length (sym bytes_are) ∙ long) short block there (puts_same (Ok tt) puts))
+        (ap length (sym bytes_are) ∙ long) short low block there (puts_same (Ok tt) puts))
 
     pub block-unput : (fault : PutFault)
         → PutsFlight client now (record { id = id; bytes = bytes; put = quiets - 1 }) before.yard yard before.carrier

@@ -102,7 +102,7 @@ module _ (now entry block : ℕ) (h : ClientValue) (d : Doing) (offset len : ℕ
       makes-as now entry h after (going_on handles up.later f need d h) before used used done
       (made.Request (Look file.inode window)) is refl goes.1
       (look-on now entry block h d offset len cache fetch window asks before length_is keeper looked looks up.later
-      up.looks f need to.0 to.1 to.2)
+      up.looks f need to.0 to.1 to.2 to.3)
   look-came (Read found) then after done only comes goes =
       let up = looked_up handles cache d h then only in
       let to = comes (put_at (Working 0 0 0) d) seen cache refl opened refl in
@@ -158,7 +158,7 @@ module _ (now entry block : ℕ) (h : ClientValue) (d : Doing) (offset len : ℕ
       makes-as now entry h after (going_on h.handles up.later f need d h) before now_used now_used done (made.Request Quiet) is refl
       goes.1
       (get-on now entry block h d offset len cache fetch b asks before length_is low yard bytes gets filled kept fills
-      up.later up.looks f need to.0 to.1 to.2)
+      up.later up.looks f need to.0 to.1 to.2 to.3)
   get-came (Read found) then after done only comes goes =
       let up = looked_up h.handles kept d h then only in
       let to = comes (put_at (Working 0 0 0) d) asks.reads.file kept refl asks.reads.opened refl in

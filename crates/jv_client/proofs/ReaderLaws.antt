@@ -31,9 +31,9 @@ use Rattle.jv_client.specs.declared.doing.Progress.TheVariants.{Working, Reading
 use Rattle.jv_client.specs.ClientValue.{ClientValue}
 use Rattle.jv_client.specs.Held.{IsClient, flight_by, flight_in, flush_of_code, in_flight, number_of}
 use Rattle.jv_client.specs.Held.{stage_of}
-use Rattle.jv_client.specs.Reading.{IsAhead, cache_in, need_in, put_at}
+use Rattle.jv_client.specs.Reading.{IsAhead, NeedsNext, cache_in, need_in, put_at}
 use Rattle.jv_client.specs.UnderWay.{IsForm}
-use Rattle.jv_client.specs.UnderWay.{IsAt, IsReading, IsReady, IsUnderWay, has_segment, left, steps_left}
+use Rattle.jv_client.specs.UnderWay.{IsAt, IsReading, IsReady, IsUnderWay, LacksNeed, has_segment, left, steps_left}
 use Rattle.jv_client.specs.UnderWay.{steps_of}
 use Rattle.jv_client.specs.Held.{segment_left}
 use Rattle.jv_client.proofs.HeldLaws.{client-doing, doing_of}
@@ -156,8 +156,10 @@ pub record IsAsking (block : ℕ) (h : ClientValue) (d : Doing) (offset len : �
   pub does : d.does ≡ does.Reads offset len
   pub none : has_segment h d ≡ false
   pub reads : ReadsBy h d offset len
+  pub needs : NeedsNext block h d fetch next
   pub can : CanFetch reads.file.views fetch
   pub wants : Wants reads.file.views fetch next
+  pub lacks : LacksNeed next cache
   pub looked : LooksUp (cache_in h.limits.entries h.cache) cache
   pub fewer : 3 * length h.pending + fetch_left fetch ≤ steps_left h
   pub goes : (g : Known) (v : Shared) (m : ModelClient) (count : ℕ) → v.yard.setting.block ≡ block
@@ -238,8 +240,10 @@ is_asking block h c next a ready after none need = by_cache (the_some c.cache re
         none = ap (λ (pending : List PendingByte). is_some (segment_left a.d.flush pending)) (sym pending)
             ∙ none_left c (put_at (Reading a.fetch a.next) a.d) here none;
         reads = reads;
+        needs = subst (NeedsNext block h a.d a.fetch) same a.needs;
         can = goes_on.0;
         wants = goes_on.1;
+        lacks = subst (λ n. LacksNeed n cache) same (subst (λ o. IfSome o (LacksNeed a.next)) is reading.lacks);
         looked = a.looked cache is;
         fewer = subst (λ n. n ≤ steps_left h) steps a.fewer;
         goes = λ g v m count length client.

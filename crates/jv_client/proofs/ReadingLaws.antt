@@ -1,5 +1,5 @@
 -- Readings: how one begins, goes ahead without a request, and what it returns.
-use Rattle.std.proofs.Common.{◌≡◌, ℕ, zero, ◌+◌, ◌-◌, ◌*◌, ◌/◌, ◌≤◌, ◌<◌, true, false, List, [], length}
+use Rattle.std.proofs.Common.{◌≡◌, ℕ, zero, ◌+◌, ◌-◌, ◌*◌, ◌/◌, ◌≤◌, ◌<◌, true, false, List, length}
 use Rattle.std.proofs.Common.{suc, Option, None, Some, refl, sym, ap, subst, ◌∙◌, arith}
 use Rattle.std.specs.Prelude.{is_some, not, IfSome, IsSomeAnd, IsTrue, OnErr, Result, Ok, Err}
 use Rattle.std.specs.Option.{option_map}
@@ -21,12 +21,12 @@ use Rattle.jv_handles.specs.Held.{IsHandle}
 use Rattle.jv_handles.specs.Views.{SeenViews, view_at}
 use Rattle.jv_handles.proofs.HandleLaws.{handles-there}
 use Rattle.jv_fetching.specs.declared.need.Need.{Need}
-use Rattle.jv_fetching.specs.declared.need.Need.TheVariants.{Nothing}
+use Rattle.jv_fetching.specs.declared.need.Need.TheVariants.{Block as NeedsBlock, Look as NeedsLook, Nothing}
 use Rattle.jv_fetching.specs.Fetching.{Fetching, begins, fetched_of}
 use Rattle.jv_fetching.specs.Going.{CanFetch, IsFetching}
-use Rattle.jv_fetching.specs.Calls.{AreSizedBy, HasCached, IsCacheOf, LooksUp, Wants, first_seen}
+use Rattle.jv_fetching.specs.Calls.{AreSizedBy, Asks, HasCached, IsCacheOf, LooksUp, Wants, cache_key, first_seen}
 use Rattle.jv_fetching.specs.Shows.{IsReadBy, One, Two}
-use Rattle.jv_fetching.proofs.CacheLaws.{cache_of-empty, cache_of-has, cache_of-looks, looks_none}
+use Rattle.jv_fetching.proofs.CacheLaws.{cache_of-empty, cache_of-has, cache_of-looks, looks_keep, looks_none}
 use Rattle.jv_fetching.proofs.FetchLaws.{by_parts, fetches_go_on}
 use Rattle.jv_fetching.proofs.SameLaws.{fetches_show}
 use Rattle.jv_client.specs.declared.doing.Doing.{Doing}
@@ -40,10 +40,10 @@ use Rattle.jv_client.specs.ClientValue.{ClientValue}
 use Rattle.jv_client.specs.Held.{GoesOn, IsClient, IsHeld, flush_of_code, segment_left}
 use Rattle.jv_client.specs.UnderWay.{FlushesFor, Closes, Syncs, Describes, ReadsNothing, Reads, Truncates as CutsOff}
 use Rattle.jv_client.specs.UnderWay.{IsForm, Mounts, Transacts, Leaves, Writes, Flushes, Copies, SaysStats}
-use Rattle.jv_client.specs.UnderWay.{IsAt, IsReading, IsReady, IsUnderWay, does_of, has_segment, left}
+use Rattle.jv_client.specs.UnderWay.{IsAt, IsReading, IsReady, IsUnderWay, LacksNeed, does_of, has_segment, left}
 use Rattle.jv_client.specs.UnderWay.{left_of, reading_steps, steps_in, steps_left, steps_of}
-use Rattle.jv_client.specs.Reading.{Begins, ClientComesTo, ComesTo, GoesAhead, IsAhead, IsCachedAs, IsMade}
-use Rattle.jv_client.specs.Reading.{LookedUp, OnlyLooksUp, ReadsAtOnce, Untouched, cache_in, need_at, need_in}
+use Rattle.jv_client.specs.Reading.{Already, Begins, ClientComesTo, ComesTo, FromStart, GoesAhead, IsAhead, IsCachedAs}
+use Rattle.jv_client.specs.Reading.{IsMade, LookedUp, OnlyLooksUp, ReadsAtOnce, Untouched, cache_in, need_at, need_in}
 use Rattle.jv_client.specs.Reading.{new_cache, put_at, read_of}
 use Rattle.jv_client.proofs.FormLaws.{that_does, under_way}
 
@@ -204,6 +204,7 @@ module _ (h : ClientValue) where
         fetch = fetch;
         next = next;
         busy = at.2;
+        needs = Already at.3;
         is = ap (λ o. record h { doing = o }) (at.2 ∙ ap Some is);
         reads = reads.read;
         looked = λ cache there.
@@ -215,6 +216,22 @@ module _ (h : ClientValue) where
           client.cache,
         );
       }
+
+-- ---- a block that is needed isn't in the cache
+
+-- when it is asked for
+pub asks-lacks : (next : Need) (most : ℕ) (before after : Cached) → Asks next most before after → LacksNeed next before
+asks-lacks (NeedsLook window) most before after asks = tt
+asks-lacks (NeedsBlock b) most before after asks = asks.3
+asks-lacks Nothing most before after asks = tt
+
+-- and after look-ups
+pub lacks-later : (next : Need) (before after : Cached) → LooksUp before after → LacksNeed next before
+    → LacksNeed next after
+lacks-later (NeedsLook window) before after looks lacks = tt
+lacks-later (NeedsBlock b) before after looks lacks =
+    λ bytes found. lacks bytes (sym (looks_keep before after looks (cache_key b)) ∙ found)
+lacks-later Nothing before after looks lacks = tt
 
 -- ---- a reading begins
 
@@ -305,6 +322,8 @@ module _ (offset len block : ℕ) (h : ClientValue) (d : Doing) (busy : h.doing 
         fetch = fetch;
         next = next;
         busy = busy;
+        needs = FromStart offset len on.file (ap need_in (sym busy) ∙ first) is opened
+            (subst (λ (cache : Cached). GoesAhead on.file.views cache start fetch) has.is goes);
         is = refl;
         reads = (offset, len, is);
         looked = λ other there.
@@ -324,6 +343,7 @@ module _ (offset len block : ℕ) (h : ClientValue) (d : Doing) (busy : h.doing 
             × Wants handle.views fetch next)) (sym opened) (goes.can tt, comes.1);
         more = comes.2;
         cache = refl;
+        lacks = lacks-later next cache later looks comes.3;
       }
 
       pub begins-ready : IsReady began

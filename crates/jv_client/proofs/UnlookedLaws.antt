@@ -121,7 +121,7 @@ module _ (now entry block : ℕ) (h : ClientValue) (d : Doing) (offset len : ℕ
   cached-here s g has client = (asks.goes g before (s.clients h.id) s.count length_is client).2
 
   -- the blocks that were looked up before it
-  looked-before : MovesInRead h.id h.limits.entries before.yard before.yard h.cache (Some cache)
+  looked-before : MovesInRead h d before.yard before.yard (Some cache)
   looked-before = LooksOnly (LookedUp cache asks.looked refl)
 
   -- memory ran out, before the look or after it

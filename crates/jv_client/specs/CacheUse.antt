@@ -12,12 +12,14 @@ use Rattle.jv_model.specs.client.OpForms.{is_read, is_umount}
 use Rattle.jv_cache.specs.Cached.{Cached}
 use Rattle.jv_yard.specs.BlockCalls.{GetsBlock}
 use Rattle.jv_yard.specs.YardValue.{YardValue}
-use Rattle.jv_fetching.specs.Calls.{Keeps, LooksUp}
+use Rattle.jv_fetching.specs.declared.need.Need.TheVariants.{Block}
+use Rattle.jv_fetching.specs.Calls.{IsMissing, Keeps, LooksUp}
+use Rattle.jv_fetching.specs.Fetching.{Fetching, block_needed}
 use Rattle.jv_client.specs.declared.doing.Doing.{Doing}
 use Rattle.jv_client.specs.declared.made.Made.{Made}
 use Rattle.jv_client.specs.declared.made.Made.TheVariants as made
 use Rattle.jv_client.specs.ClientValue.{ClientValue}
-use Rattle.jv_client.specs.Reading.{LooksAhead, cache_in}
+use Rattle.jv_client.specs.Reading.{LooksAhead, NeedsNext, cache_in}
 use Rattle.jv_client.specs.Stats.{AnswersNumbers}
 
 -- the session is gone
@@ -25,7 +27,7 @@ abbrev pub is_gone : Fault → Bool
 is_gone (Stale (Session sid)) = true
 is_gone _ = false
 
--- whether an operation's answer ends the mount: an umount that was done, or that the session is gone
+-- whether an operation's answer ends the mount: an umount was done, or the session is gone
 abbrev pub ends_mount : Op → Told → Bool
 ends_mount o (Fine a b c d) = is_umount o
 ends_mount o (Looks first second len) = is_umount o
@@ -37,21 +39,29 @@ leaves o (made.Answer told reply) = ends_mount o told
 leaves o (made.Both kind told reply) = ends_mount o told
 leaves o (made.Broken key bytes) = false
 
--- In a step of a read blocks are looked up, in the cache that is there or in an empty one. A block that was got of the yard is
--- looked up, kept unless memory is out, and then the next ones are looked up.
-pub data MovesInRead (client entries : ℕ) (before after : YardValue) (was is : Option Cached) : Type 0 where
-  LooksOnly : LooksAhead entries was is → MovesInRead client entries before after was is
-  KeepsOne : (b : BlockId) (bytes : List ℕ) (looked kept later : Cached) → LooksUp (cache_in entries was) looked
-      → GetsBlock client (name_in before.setting b) before after (Ok (Some bytes)) → Keeps b bytes looked kept → LooksUp kept later
-      → is ≡ Some later → MovesInRead client entries before after was is
+-- In a step of a read blocks are looked up, in the cache that is there or in an empty one. The
+-- block that the reading needs next, which the cache lacks, is got of the yard and kept unless
+-- memory is out, and then the next ones are looked up.
+pub data MovesInRead (h : ClientValue) (d : Doing) (before after : YardValue)
+    (is : Option Cached) : Type 0 where
+  LooksOnly : LooksAhead h.limits.entries h.cache is → MovesInRead h d before after is
+  KeepsOne : (fetch : Fetching) (b : BlockId) (bytes : List ℕ) (looked kept later : Cached)
+      → NeedsNext before.setting.block h d fetch (Block b) → block_needed fetch ≡ Some b
+      → LooksUp (cache_in h.limits.entries h.cache) looked → IsMissing looked b
+      → GetsBlock h.id (name_in before.setting b) before after (Ok (Some bytes))
+      → Keeps b bytes looked kept → LooksUp kept later → is ≡ Some later
+      → MovesInRead h d before after is
 
 -- A step that ends the mount drops the cache, and no other one but a read's changes it.
-pub record MovesCache (o : Op) (h after : ClientValue) (done : Made) (before used : YardValue) : Type 0 where
-  pub drops : IsTrue (leaves o done) → after.cache ≡ None
-  pub stays : leaves o done ≡ false → is_read o ≡ false → after.cache ≡ h.cache
-  pub reads : leaves o done ≡ false → IsTrue (is_read o) → MovesInRead h.id h.limits.entries before used h.cache after.cache
+pub record MovesCache (d : Doing) (h after : ClientValue) (done : Made)
+    (before used : YardValue) : Type 0 where
+  pub drops : IsTrue (leaves d.op done) → after.cache ≡ None
+  pub stays : leaves d.op done ≡ false → is_read d.op ≡ false → after.cache ≡ h.cache
+  pub reads : leaves d.op done ≡ false → IsTrue (is_read d.op)
+      → MovesInRead h d before used after.cache
 
--- the cache moves as the operation in progress says, and the answer of its numbers has those before the step
+-- the cache moves as the operation in progress says, and the answer of its numbers has those
+-- before the step
 pub record CacheUse (h after : ClientValue) (done : Made) (before used : YardValue) : Type 0 where
-  pub moves : IfSome h.doing (λ (d : Doing). MovesCache d.op h after done before used)
+  pub moves : IfSome h.doing (λ (d : Doing). MovesCache d h after done before used)
   pub numbers : AnswersNumbers h done

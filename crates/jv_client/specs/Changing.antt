@@ -28,25 +28,39 @@ copied_to source from target to count =
     record { kind = Copied source from target to count; reply = Count count; inode = target }
 
 -- A truncate was tried. What nothing names any more may go once the trash's days are over.
-pub record TriesTruncate (inode len : ℕ) (who : Who) (before after : Store) (result : Result Changed TxFault) : Type 0 where
+pub record TriesTruncate (inode len : ℕ) (who : Who) (before after : Store)
+    (result : Result Changed TxFault) : Type 0 where
   pub made : Result (Unit {0}) TxFault
   pub result_is : result ≡ mapped (λ unit. cut_to inode len) made
   pub changes : (caller : Caller) → IsFor who caller → caller.inode ≡ inode
-      → Changes (record { own = 0; size = 0; more = 1; due = due_after who.now }) AnyBytes Never before after made
+      → Changes (record {
+        own = 0;
+        size = 0;
+        more = 1;
+        due = due_after who.now;
+      }) AnyBytes Never before after made
       (λ unit. Done) (λ t. model.truncate t caller len)
 
 -- A copy was tried, which answers how many bytes it copied, and adds at most as many records.
-pub record TriesCopy (source from target to len : ℕ) (who : Who) (before after : Store) (result : Result Changed TxFault) : Type 0 where
+pub record TriesCopy (source from target to len : ℕ) (who : Who) (before after : Store)
+    (result : Result Changed TxFault) : Type 0 where
   pub made : Result ℕ TxFault
   pub result_is : result ≡ mapped (copied_to source from target to) made
   pub changes : (caller : Caller) → IsFor who caller → caller.inode ≡ source → caller.other ≡ target
-      → Changes (record { own = 0; size = 0; more = count_in made; due = due_after who.now }) AnyBytes (IsCrowded FILE_END)
+      → Changes (record {
+        own = 0;
+        size = 0;
+        more = count_in made;
+        due = due_after who.now;
+      }) AnyBytes (IsCrowded FILE_END)
       before after made (λ n. Count n) (λ t. model.copy t caller from to len)
 
 -- the transaction of such an operation, on the files of its handles
-abbrev pub TriesChange : List (Option Handle) → Op → Who → Store → Store → Result Changed TxFault → Type 0
+abbrev pub TriesChange : List (Option Handle) → Op → Who → Store → Store → Result Changed TxFault
+    → Type 0
 TriesChange handles (op.Truncate handle len) who before after result =
     TriesTruncate (inode_here handles handle) len who before after result
 TriesChange handles (op.Copy source from target to len) who before after result =
-    TriesCopy (inode_here handles source) from (inode_here handles target) to len who before after result
+    TriesCopy (inode_here handles source) from
+    (inode_here handles target) to len who before after result
 TriesChange handles o who before after result = ⊥

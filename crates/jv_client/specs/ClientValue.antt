@@ -18,13 +18,23 @@ pub record ClientValue : Type 0 where
   pub doing : Option Doing
 
 -- the buffer may have as many bytes, and a cache that is there as many blocks, as the limits say
-pub record HasLimits (limits : Limits) (pending : PendingValue) (cache : Option Cached) : Type 0 where
+pub record HasLimits (limits : Limits) (pending : PendingValue)
+    (cache : Option Cached) : Type 0 where
   pub buffer : pending.limit ≡ limits.buffer
   pub entries : IfSome cache (λ (cache : Cached). cache.entries ≡ limits.entries)
 
 abbrev pub fresh_client : ℕ → Limits → ClientValue
 fresh_client id limits =
-    record { id = id; limits = limits; session = None; handles = []; sustained = []; pending = []; cache = None; doing = None }
+    record {
+      id = id;
+      limits = limits;
+      session = None;
+      handles = [];
+      sustained = [];
+      pending = [];
+      cache = None;
+      doing = None;
+    }
 
 -- after a crash a client is as before any mount
 abbrev pub crashed : ClientValue → ClientValue

@@ -25,7 +25,9 @@ without gone inodes = filter (λ inode. not (inode == gone)) inodes
 abbrev pub closed : ℕ → ClientValue → ClientValue
 closed handle h = record h {
   handles = with_file handle None h.handles;
-  sustained = (if is_last_here h handle then without (inode_here h.handles handle) h.sustained else h.sustained);
+  sustained =
+      (if is_last_here h handle then without (inode_here h.handles handle) h.sustained
+      else h.sustained);
   doing = None;
 }
 
@@ -38,7 +40,8 @@ finished_here o h = ended h
 -- a client whose session is gone is as before any mount; what is pending of an inode that is gone is dropped
 abbrev pub refused_here : Fault → ClientValue → ClientValue
 refused_here (Stale (Session sid)) h = crashed h
-refused_here (Stale (Node inode)) h = record h { pending = pending_of_others inode h.pending; doing = None }
+refused_here (Stale (Node inode)) h =
+    record h { pending = pending_of_others inode h.pending; doing = None }
 refused_here fault h = ended h
 
 -- after an answer
@@ -53,4 +56,7 @@ finished_by (Some handle) h = closed handle h
 
 -- whether an operation ends the mount, and which handle it closes
 abbrev pub Finishes : Op → Bool × Option ℕ → Type 0
-Finishes o ends = (h : ClientValue) → finished_here o h ≡ elim ends.0 [ true ↦ crashed h | false ↦ finished_by ends.1 h ]
+Finishes o ends = (h : ClientValue) → finished_here o h ≡ elim ends.0 [
+  | true ↦ crashed h
+  | false ↦ finished_by ends.1 h
+]

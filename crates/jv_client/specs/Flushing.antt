@@ -36,18 +36,22 @@ IfWrite _ P = Unit {0}
 
 -- the bytes of a write as all that is pending, None for another operation
 abbrev pub written_alone : Op → List (Option Handle) → Option (List PendingByte)
-written_alone (op.Write handle offset bytes) handles = Some (written (inode_here handles handle) offset bytes [])
+written_alone (op.Write handle offset bytes) handles =
+    Some (written (inode_here handles handle) offset bytes [])
 written_alone _ handles = None
 
 -- such pending bytes, of which there may be at most `limit`
-pub data IsWrittenAlone (o : Op) (handles : List (Option Handle)) (limit : ℕ) (next : Option PendingValue) : Type 0 where
+pub data IsWrittenAlone (o : Op) (handles : List (Option Handle)) (limit : ℕ)
+    (next : Option PendingValue) : Type 0 where
   Other : written_alone o handles ≡ None → next ≡ None → IsWrittenAlone o handles limit next
-  Write : (bytes : List PendingByte) → written_alone o handles ≡ Some bytes → next ≡ Some (record { bytes = bytes; limit = limit })
+  Write : (bytes : List PendingByte) → written_alone o handles ≡ Some bytes
+      → next ≡ Some (record { bytes = bytes; limit = limit })
       → IsWrittenAlone o handles limit next
 
 -- what is pending after a write whose flush ends with a segment of this length, and None before another segment
 pub data NextOf (d : Doing) (len : ℕ) (h : ClientValue) (next : Option PendingValue) : Type 0 where
-  Last : length h.pending ≤ len → IsWrittenAlone d.op h.handles h.limits.buffer next → NextOf d len h next
+  Last : length h.pending ≤ len → IsWrittenAlone d.op h.handles h.limits.buffer next
+      → NextOf d len h next
   NotLast : len < length h.pending → next ≡ None → NextOf d len h next
 
 -- requests of a segment are made
@@ -58,11 +62,18 @@ IsWorkingOn (Reading fetch need) = ⊥
 -- What comes after a commit: its answer where nothing is left to ask for, else the operation goes on. A write that had to wait for
 -- room is pending then.
 pub data Follows (d : Doing) (kind : ActKind) (h after : ClientValue) (made : Made) : Type 0 where
-  Answers : left h ≡ None → IsTrue (ends_itself h d) → (length h.pending ≤ 0 → written_alone d.op h.handles ≡ None)
+  Answers : left h ≡ None → IsTrue (ends_itself h d)
+      → (length h.pending ≤ 0 → written_alone d.op h.handles ≡ None)
       → after ≡ told_here d.op (answer_here d.does).0 h
       → made ≡ Both kind (answer_here d.does).0 (answer_here d.does).1 → Follows d kind h after made
-  Writes : (handle offset : ℕ) (bytes : List ℕ) → left h ≡ None → d.op ≡ op.Write handle offset bytes
-      → after ≡ record h { pending = written (inode_here h.handles handle) offset bytes []; doing = None }
-      → made ≡ Both kind (Fine (length bytes) 0 0 0) (Count (length bytes)) → Follows d kind h after made
-  GoesOn : (left h ≡ None → ends_itself h d ≡ false) → after ≡ record h { doing = Some (moved_to (Working 0 0 0) d) } → made ≡ Request kind
+  Writes : (handle offset : ℕ) (bytes : List ℕ) → left h ≡ None
+      → d.op ≡ op.Write handle offset bytes
+      → after ≡ record h {
+        pending = written (inode_here h.handles handle) offset bytes [];
+        doing = None;
+      }
+      → made ≡ Both kind (Fine (length bytes) 0 0 0) (Count (length bytes))
+      → Follows d kind h after made
+  GoesOn : (left h ≡ None → ends_itself h d ≡ false)
+      → after ≡ record h { doing = Some (moved_to (Working 0 0 0) d) } → made ≡ Request kind
       → Follows d kind h after made

@@ -25,7 +25,8 @@ use Rattle.jv_client.specs.ClientValue.{ClientValue}
 use Rattle.jv_client.specs.Transacting.{Refuses}
 
 -- a device failed or memory ran out before a block's bytes came
-pub record IsUnread (client : ℕ) (b : BlockId) (before after : YardValue) (fault : Fault) : Type 0 where
+pub record IsUnread (client : ℕ) (b : BlockId) (before after : YardValue)
+    (fault : Fault) : Type 0 where
   pub why : YardFault
   pub gets : GetsBlock client (name_in before.setting b) before after (Err why)
   pub is : fault ≡ yard_fault why
@@ -37,9 +38,11 @@ pub record IsMissed (client : ℕ) (b : BlockId) (before after : YardValue) : Ty
   pub none : LacksBlock b.size value
 
 -- reading a block, by the result
-abbrev pub ReadsBlock : ℕ → BlockId → YardValue → YardValue → Result (Option (List ℕ)) Fault → Type 0
+abbrev pub ReadsBlock : ℕ → BlockId → YardValue → YardValue → Result (Option (List ℕ)) Fault
+    → Type 0
 ReadsBlock client b before after (Ok (Some bytes)) =
-    GetsBlock client (name_in before.setting b) before after (Ok (Some bytes)) × (length bytes ≡ b.size)
+    GetsBlock client (name_in before.setting b) before after (Ok (Some bytes))
+    × (length bytes ≡ b.size)
 ReadsBlock client b before after (Ok None) = IsMissed client b before after
 ReadsBlock client b before after (Err fault) = IsUnread client b before after fault
 
@@ -54,10 +57,12 @@ missed h d fetch = Miss (inode_here h.handles (handle_of d.op)) (first_window fe
 
 -- the read is over, and its answer names no commit that the block waits for
 abbrev pub IsMissedBy : ClientValue → Doing → Option Fetching → ClientValue → Made → Type 0
-IsMissedBy h d fetch after done = IfSome fetch (λ fetch. Refuses (missed h d fetch) (TryAgain 0) h after done)
+IsMissedBy h d fetch after done =
+    IfSome fetch (λ fetch. Refuses (missed h d fetch) (TryAgain 0) h after done)
 
 -- A reading got the block that it needs, which the cache keeps or not.
-pub record Fills (b : BlockId) (bytes : List ℕ) (before after : Fetching) (cache kept : Cached) : Type 0 where
+pub record Fills (b : BlockId) (bytes : List ℕ) (before after : Fetching)
+    (cache kept : Cached) : Type 0 where
   pub block : after.block ≡ before.block
   pub can : (views : SeenViews) → CanFetch views before → CanFetch views after
   pub falls : fetch_left after < fetch_left before
@@ -66,7 +71,8 @@ pub record Fills (b : BlockId) (bytes : List ℕ) (before after : Fetching) (cac
       → IsFetching blocks views all before → IsFetching blocks views all after
 
 -- with the cache where it stands
-pub record HasFilled (b : BlockId) (bytes : List ℕ) (before after : Fetching) (was is : Option Cached) : Type 0 where
+pub record HasFilled (b : BlockId) (bytes : List ℕ) (before after : Fetching)
+    (was is : Option Cached) : Type 0 where
   pub cache : Cached
   pub kept : Cached
   pub was_is : was ≡ Some cache

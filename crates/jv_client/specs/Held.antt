@@ -44,7 +44,8 @@ abbrev pub segment_left : Flush → List PendingByte → Option Segment
 segment_left first pending = next_segment (flush_of_code first) pending
 
 -- a client without its operation, after `count` entries
-pub record IsHeld (g : Known) (v : Shared) (m : ModelClient) (count : ℕ) (c : ClientValue) : Type 0 where
+pub record IsHeld (g : Known) (v : Shared) (m : ModelClient) (count : ℕ)
+    (c : ClientValue) : Type 0 where
   pub session : m.session ≡ c.session
   pub direct : m.writeback ≡ false
   pub removed : (inode : ℕ) → is_among inode m.sustained ≡ is_among inode c.sustained
@@ -65,7 +66,8 @@ is_last_here c handle = is_among (inode_here c.handles handle) c.sustained
 abbrev pub files_here : List (Option Handle) → Handles → Flush
 files_here handles named.None = flush.Nothing
 files_here handles (named.One handle) = flush.File (inode_here handles handle)
-files_here handles (named.Two first second) = flush.Files (inode_here handles first) (inode_here handles second)
+files_here handles (named.Two first second) =
+    flush.Files (inode_here handles first) (inode_here handles second)
 
 abbrev pub full_flush : ℕ → ℕ → ℕ → Flush
 full_flush buffer held len = (if nat_lt buffer (held + len) then flush.All else flush.Nothing)
@@ -86,7 +88,14 @@ stage_of (progress.Reading fetch need) = Reading 0
 
 -- an operation before its first step
 abbrev pub begun : Op → Does → Flush → Doing
-begun o does flush = record { op = o; does = does; flush = flush; progress = progress.Working 0 0 0; has_moved = false }
+begun o does flush =
+    record {
+      op = o;
+      does = does;
+      flush = flush;
+      progress = progress.Working 0 0 0;
+      has_moved = false;
+    }
 
 -- an operation of the model is the one in progress
 pub record IsDoing (m : ModelDoing) (d : Doing) : Type 0 where
@@ -99,10 +108,16 @@ pub record IsDoing (m : ModelDoing) (d : Doing) : Type 0 where
 -- the slice in flight of an operation that flushes: it has its number, and one block less than requests was put
 abbrev pub flight_from : ℕ → ℕ → List PendingByte → Option Segment → Option Flight
 flight_from put id pending None = None
-flight_from put id pending (Some segment) = Some (record { id = id; bytes = bytes_in_range segment.inode segment.from segment.len pending; put = put })
+flight_from put id pending (Some segment) =
+    Some (record {
+      id = id;
+      bytes = bytes_in_range segment.inode segment.from segment.len pending;
+      put = put;
+    })
 
 abbrev pub flight_by : List PendingByte → Flush → Progress → Option Flight
-flight_by pending first (progress.Working quiets started id) = elim quiets [ zero ↦ None | suc put ↦ flight_from put id pending (segment_left first pending) ]
+flight_by pending first (progress.Working quiets started id) =
+    elim quiets [ zero ↦ None | suc put ↦ flight_from put id pending (segment_left first pending) ]
 flight_by pending first (progress.Reading fetch need) = None
 
 abbrev pub flight_in : List PendingByte → Option Doing → Option Flight
@@ -129,11 +144,13 @@ IsOnWay g v (Some f) = Flies g v f × (f.put ≤ block_count (length f.bytes) v.
 -- a reading has gone on well, by the blocks that are known
 abbrev pub GoesOn : Known → Shared → ClientValue → Doing → Progress → Type 0
 GoesOn g v c d (progress.Working quiets started id) = Unit {0}
-GoesOn g v c d (progress.Reading fetch need) = IsSomeAnd (file_of c.handles (handle_of d.op)) (λ (handle : Handle).
+GoesOn g v c d (progress.Reading fetch need) =
+    IsSomeAnd (file_of c.handles (handle_of d.op)) (λ (handle : Handle).
     (fetch.block ≡ v.yard.setting.block) × IsFetching g.blocks handle.views (asked_of d.does) fetch)
 
 -- a client of the model is the one in memory, after `count` entries, over what clients share
-pub record IsClient (g : Known) (v : Shared) (m : ModelClient) (count : ℕ) (c : ClientValue) : Type 0 where
+pub record IsClient (g : Known) (v : Shared) (m : ModelClient) (count : ℕ)
+    (c : ClientValue) : Type 0 where
   pub held : IsHeld g v m count c
   pub doing : SamePlace IsDoing m.doing c.doing
   pub flight : IsOnWay g v (flight_of c)

@@ -106,27 +106,33 @@ pub record UsesDevices (made : Made) (before after : Shared) : Type 0 where
   pub shelf_at : after.yard.shelf.opened ≡ before.yard.shelf.opened
   pub setting : after.yard.setting ≡ before.yard.setting
   pub last : after.yard.last ≡ before.yard.last
-  pub counts : (device : Device) → RoseIf (says_failure device made) (faults_of device before) (faults_of device after)
+  pub counts : (device : Device)
+      → RoseIf (says_failure device made) (faults_of device before) (faults_of device after)
   pub rows : IsTrue (asks_nothing made) → after.keeper.rows ≡ before.keeper.rows
   pub objects : IsTrue (asks_nothing made) → after.yard.depot.content ≡ before.yard.depot.content
   pub blocks : after.yard.shelf.content ≡ before.yard.shelf.content
   pub bad : SaysBad before (step_of made)
 
 -- The model allows the step (`Request`), and client and devices stand for what it leads to.
-pub record StepsTo (s : State) (g : Known) (before : Shared) (h : ClientValue) (now : ℕ) (kinds : List ActKind) (step : Step)
+pub record StepsTo (s : State) (g : Known) (before : Shared) (h : ClientValue) (now : ℕ)
+    (kinds : List ActKind) (step : Step)
     (after : ClientValue) (v : Shared) : Type 0 where
   pub learned : Known
   pub tree : Tree
   pub model : ModelClient
   pub copied : ℕ
-  pub request : Request s g learned before v h.id now (in_flight h) (in_flight after) kinds step tree model copied
+  pub request : Request s g learned before v h.id now (in_flight h)
+      (in_flight after) kinds step tree model copied
   pub is_client : IsClient learned v model (s.count + length kinds) after
   pub holds : Holds tree model
 
 -- A step that stopped leaves the client as it was, but that its read may have begun, for which it may have a cache.
 pub record Stops (before after : ClientValue) : Type 0 where
   pub progress : Progress
-  pub after_is : after ≡ record before { cache = after.cache; doing = option_map (put_at progress) before.doing }
+  pub after_is : after ≡ record before {
+    cache = after.cache;
+    doing = option_map (put_at progress) before.doing;
+  }
 
 -- after a step that isn't the last one the operation goes on, and fewer are left
 abbrev pub Falls : Step → ClientValue → ClientValue → Type 0
@@ -136,7 +142,8 @@ Falls (Broken key bytes) before after = Stops before after
 
 -- A step was made at this moment; its first entry has this number. From every state of the model that client and devices stand for,
 -- it leads to one that they stand for then. That rows and blocks are known and whole is part of standing for one.
-pub record Makes (now entry : ℕ) (h after : ClientValue) (before used : Shared) (done : Made) : Type 0 where
+pub record Makes (now entry : ℕ) (h after : ClientValue) (before used : Shared)
+    (done : Made) : Type 0 where
   pub id : after.id ≡ h.id
   pub limits : after.limits ≡ h.limits
   pub ready : IsReady after
@@ -145,8 +152,10 @@ pub record Makes (now entry : ℕ) (h after : ClientValue) (before used : Shared
   pub cache : CacheUse h after done before.yard used.yard
   pub alone : FailsAlone done
   pub falls : Falls (step_of done) h after
-  pub leads : (s : State) (g : Known) → s.count + 1 ≡ entry → HasStore s.tree g before → Holds s.tree (s.clients h.id)
-      → IsClient g before (s.clients h.id) s.count h → StepsTo s g before h now (kinds_of done) (step_of done) after used
+  pub leads : (s : State) (g : Known) → s.count + 1 ≡ entry → HasStore s.tree g before
+      → Holds s.tree (s.clients h.id)
+      → IsClient g before (s.clients h.id) s.count h
+      → StepsTo s g before h now (kinds_of done) (step_of done) after used
 
 -- an entry answers that the device failed
 abbrev pub is_failure_entry : Device → ActKind → Bool
@@ -154,7 +163,8 @@ is_failure_entry device (Answered told) = is_failure_of device told
 is_failure_entry device _ = false
 
 -- the same, with the entries appended to a journal
-pub record Steps (line now : ℕ) (h after : ClientValue) (before used : Shared) (journal more : List Act) (step : Step) : Type 0 where
+pub record Steps (line now : ℕ) (h after : ClientValue) (before used : Shared)
+    (journal more : List Act) (step : Step) : Type 0 where
   pub made : Made
   pub step_is : step ≡ step_of made
   pub appends : more ≡ journal ++ entries_of line now h.id (kinds_of made)
@@ -167,5 +177,7 @@ pub record Steps (line now : ℕ) (h after : ClientValue) (before used : Shared)
   pub stats : AnswersStats h made
   pub alone : FailsAlone made
   pub falls : Falls step h after
-  pub leads : (s : State) (g : Known) → s.count ≡ length journal → HasStore s.tree g before → Holds s.tree (s.clients h.id)
-      → IsClient g before (s.clients h.id) s.count h → StepsTo s g before h now (kinds_of made) step after used
+  pub leads : (s : State) (g : Known) → s.count ≡ length journal → HasStore s.tree g before
+      → Holds s.tree (s.clients h.id)
+      → IsClient g before (s.clients h.id) s.count h
+      → StepsTo s g before h now (kinds_of made) step after used

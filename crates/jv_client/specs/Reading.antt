@@ -16,7 +16,7 @@ use Rattle.jv_handles.specs.declared.handle.Handle.{Handle}
 use Rattle.jv_handles.specs.Views.{SeenViews}
 use Rattle.jv_fetching.specs.declared.need.Need.{Need}
 use Rattle.jv_fetching.specs.declared.need.Need.TheVariants.{Nothing}
-use Rattle.jv_fetching.specs.Fetching.{Fetching, fetch_left}
+use Rattle.jv_fetching.specs.Fetching.{Fetching, begins, fetch_left}
 use Rattle.jv_fetching.specs.Going.{CanFetch, IsFetching}
 use Rattle.jv_fetching.specs.Calls.{AreSizedBy, HasCached, IsCacheOf, LooksUp, Wants, first_seen}
 use Rattle.jv_fetching.specs.Shows.{IsReadBy}
@@ -31,7 +31,7 @@ use Rattle.jv_client.specs.declared.reading.Found.{Found}
 use Rattle.jv_client.specs.ClientValue.{ClientValue}
 use Rattle.jv_client.specs.Ending.{ended}
 use Rattle.jv_client.specs.Held.{GoesOn, IsClient}
-use Rattle.jv_client.specs.UnderWay.{IsReady, moved_to, steps_left}
+use Rattle.jv_client.specs.UnderWay.{IsReady, LacksNeed, moved_to, steps_left}
 
 -- ---- the operation in progress
 
@@ -64,21 +64,25 @@ pub record GoesAhead (views : SeenViews) (cache : Cached) (before after : Fetchi
   pub block : after.block ≡ before.block
   pub can : CanFetch views before → CanFetch views after
   pub few : fetch_left after ≤ fetch_left before
-  pub fewer : before.begun ≡ None → first_seen views before.parts → fetch_left after < fetch_left before
+  pub fewer : before.begun ≡ None → first_seen views before.parts
+      → fetch_left after < fetch_left before
   pub reads : (blocks : Blocks) (all : List Asked) → HasCached blocks views before.block cache
       → IsFetching blocks views all before → IsFetching blocks views all after
 
 abbrev pub read_of : Found → ℕ × ℕ × List ℕ
 read_of found = (found.first, found.second, found.bytes)
 
--- It needs something, or it has read what the views show.
+-- It needs something, which isn't in the cache, or it has read what the views show.
 abbrev pub ComesTo : SeenViews → Cached → Fetching → Ahead → Type 0
 ComesTo views cache before (ahead.Needs after next) =
     GoesAhead views cache before after × Wants views after next × (next ≢ Nothing)
-ComesTo views cache before (ahead.Read found) = (blocks : Blocks) (all : List Asked) → HasCached blocks views before.block cache
-    → IsFetching blocks views all before → IsReadBy (known_by before.block blocks) views all (read_of found)
+    × LacksNeed next cache
+ComesTo views cache before (ahead.Read found) =
+    (blocks : Blocks) (all : List Asked) → HasCached blocks views before.block cache
+    → IsFetching blocks views all before
+    → IsReadBy (known_by before.block blocks) views all (read_of found)
 
--- of a client, whose operation reads by its handle: it looked up blocks, and nothing else has changed
+-- of a client, whose operation reads by its handle: it looked up blocks, and nothing else changed
 pub record OnlyLooksUp (h after : ClientValue) : Type 0 where
   pub cache : Cached
   pub later : Cached
@@ -88,7 +92,8 @@ pub record OnlyLooksUp (h after : ClientValue) : Type 0 where
 
 abbrev pub ClientComesTo : Fetching → ClientValue → Ahead → Type 0
 ClientComesTo fetch h ahead = (d : Doing) (file : Handle) (cache : Cached) → h.doing ≡ Some d
-    → file_of h.handles (handle_of d.op) ≡ Some file → h.cache ≡ Some cache → ComesTo file.views cache fetch ahead
+    → file_of h.handles (handle_of d.op) ≡ Some file → h.cache ≡ Some cache
+    → ComesTo file.views cache fetch ahead
 
 -- ---- a reading begins
 
@@ -108,15 +113,29 @@ cache_in entries (Some cache) = cache
 -- blocks were looked up in it, if anything was done
 pub data LooksAhead (entries : ℕ) (was is : Option Cached) : Type 0 where
   Untouched : is ≡ was → LooksAhead entries was is
-  LookedUp : (later : Cached) → LooksUp (cache_in entries was) later → is ≡ Some later → LooksAhead entries was is
+  LookedUp : (later : Cached) → LooksUp (cache_in entries was) later → is ≡ Some later
+      → LooksAhead entries was is
 
 -- a client with another cache, in which nothing stands that isn't known
 pub record IsCachedAs (h after : ClientValue) : Type 0 where
   pub cache : Option Cached
   pub after_is : after ≡ record h { cache = cache }
   pub ahead : LooksAhead h.limits.entries h.cache cache
-  pub knows : (sizes : ℕ → ℕ) (block : ℕ) (blocks : Blocks) → IfSome h.cache (IsCacheOf sizes block blocks)
+  pub knows : (sizes : ℕ → ℕ) (block : ℕ) (blocks : Blocks)
+      → IfSome h.cache (IsCacheOf sizes block blocks)
       → IfSome cache (IsCacheOf sizes block blocks)
+
+-- What a reading needs before its request: what it needed when the step began; or it begins in
+-- this step, and goes ahead from its start by the views of its handle and by the cache before it.
+pub data NeedsNext (block : ℕ) (h : ClientValue) (d : Doing) (fetch : Fetching)
+    (next : Need) : Type 0 where
+  Already : d.progress ≡ Reading fetch next → NeedsNext block h d fetch next
+  FromStart : (offset len : ℕ) (file : Handle) → need_at d.progress ≡ None
+      → d.does ≡ does.Reads offset len
+      → file_of h.handles (handle_of d.op) ≡ Some file
+      → GoesAhead file.views (cache_in h.limits.entries h.cache)
+      (begins block (asked_parts offset len)) fetch
+      → NeedsNext block h d fetch next
 
 -- The client before a request of its reading, which was so when the step began, or has just begun.
 pub record IsAhead (block : ℕ) (h c : ClientValue) : Type 0 where
@@ -124,11 +143,14 @@ pub record IsAhead (block : ℕ) (h c : ClientValue) : Type 0 where
   pub fetch : Fetching
   pub next : Need
   pub busy : h.doing ≡ Some d
+  pub needs : NeedsNext block h d fetch next
   pub is : c ≡ record h { cache = c.cache; doing = Some (put_at (Reading fetch next) d) }
   pub reads : (offset len : ℕ) × (d.does ≡ does.Reads offset len)
-  pub looked : (cache : Cached) → c.cache ≡ Some cache → LooksUp (cache_in h.limits.entries h.cache) cache
+  pub looked : (cache : Cached) → c.cache ≡ Some cache
+      → LooksUp (cache_in h.limits.entries h.cache) cache
   pub fewer : steps_left c ≤ steps_left h
-  pub goes : (g : Known) (v : Shared) (m : ModelClient) (count : ℕ) → v.yard.setting.block ≡ block → IsClient g v m count h
+  pub goes : (g : Known) (v : Shared) (m : ModelClient) (count : ℕ)
+      → v.yard.setting.block ≡ block → IsClient g v m count h
       → GoesOn g v c (put_at (Reading fetch next) d) (Reading fetch next)
       × IfSome c.cache (IsCacheOf g.sizes v.yard.setting.block g.blocks)
 
@@ -155,12 +177,14 @@ abbrev pub shown : Option ActKind → Found → Made
 shown None found = made.Answer (told_read found) (Data found.bytes)
 shown (Some kind) found = made.Both kind (told_read found) (Data found.bytes)
 
-pub record Shows (kind : Option ActKind) (found : Found) (h after : ClientValue) (done : Made) : Type 0 where
+pub record Shows (kind : Option ActKind) (found : Found) (h after : ClientValue)
+    (done : Made) : Type 0 where
   pub after_is : after ≡ ended h
   pub made_is : done ≡ shown kind found
 
 -- after a request of this kind
 abbrev pub GoesOnAfter : ActKind → Ahead → ClientValue → ClientValue → Made → Type 0
 GoesOnAfter kind (ahead.Needs fetch next) h after done =
-    (after ≡ record h { doing = option_map (moved_to (Reading fetch next)) h.doing }) × (done ≡ made.Request kind)
+    (after ≡ record h { doing = option_map (moved_to (Reading fetch next)) h.doing })
+    × (done ≡ made.Request kind)
 GoesOnAfter kind (ahead.Read found) h after done = Shows (Some kind) found h after done

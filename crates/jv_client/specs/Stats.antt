@@ -17,12 +17,14 @@ pub record Numbers : Type 0 where
 
 abbrev pub numbers_in : Option Cached → Numbers
 numbers_in None = record { hits = 0; misses = 0; cached = 0 }
-numbers_in (Some cache) = record { hits = cache.hits; misses = cache.misses; cached = length cache.blocks }
+numbers_in (Some cache) =
+    record { hits = cache.hits; misses = cache.misses; cached = length cache.blocks }
 
 -- the numbers of the cache, and of the pending bytes
 abbrev pub IsStatsOf : ClientValue → Made → Type 0
 IsStatsOf h done = let n = numbers_in h.cache in
-    done ≡ made.Answer (Fine n.hits n.misses n.cached (length h.pending)) (CacheStats n.hits n.misses n.cached (length h.pending))
+    done ≡ made.Answer (Fine n.hits n.misses n.cached (length h.pending))
+    (CacheStats n.hits n.misses n.cached (length h.pending))
 
 -- a step of an operation that asks for them is answered with them
 abbrev pub AnswersStats : ClientValue → Made → Type 0

@@ -39,8 +39,11 @@ pub record IsCaller (h : ClientValue) (o : Op) (now : ℕ) (who : Caller) : Type
   pub inode : who.inode ≡ inode_here h.handles (handle_of o)
 
 -- the transaction of an operation was tried
-pub record Attempts (h : ClientValue) (o : Op) (now : ℕ) (before after : Store) (result : Result Answer TxFault) : Type 0 where
-  pub does : (who : Caller) → IsCaller h o now who → Transacts (HoldsFiles who.held) before after result (λ answer. answer.reply) (λ t. attempt t who o)
+pub record Attempts (h : ClientValue) (o : Op) (now : ℕ) (before after : Store)
+    (result : Result Answer TxFault) : Type 0 where
+  pub does : (who : Caller) → IsCaller h o now who
+      → Transacts (HoldsFiles who.held) before after result (λ answer. answer.reply)
+      (λ t. attempt t who o)
   pub says : (who : Caller) → IsCaller h o now who → SaysKept who o before result
   pub answers : AnswersPlainly result
 
@@ -52,7 +55,8 @@ session_given Nothing session = session
 
 abbrev pub handles_given : ℕ → Gift → List (Option Handle) → List (Option Handle)
 handles_given entry (NewSession sid) handles = handles
-handles_given entry (NewHandle handle inode) handles = with_file (free_handle handles) (Some (new_handle inode entry)) handles
+handles_given entry (NewHandle handle inode) handles =
+    with_file (free_handle handles) (Some (new_handle inode entry)) handles
 handles_given entry Nothing handles = handles
 
 -- with the file that its session keeps from then on
@@ -89,7 +93,8 @@ pub record NotMade (fault : TxFault) (before after : Store) : Type 0 where
 
 -- what a refusal leaves of the client, and how the step ends: with the request that was refused, or, where the keeper failed or
 -- memory ran out, without one
-pub record Refuses (kind : ActKind) (fault : Fault) (h after : ClientValue) (done : Made) : Type 0 where
+pub record Refuses (kind : ActKind) (fault : Fault) (h after : ClientValue)
+    (done : Made) : Type 0 where
   pub after_is : after ≡ refused_here fault h
   pub made_is : done ≡ made.Both kind (ToldRefused fault) (RefusedReply fault)
 
@@ -105,7 +110,8 @@ refusal_of fault = fault
 
 abbrev pub EndsUnmade : ActKind → TxFault → ClientValue → ClientValue → Made → Type 0
 EndsUnmade kind (Refused fault) h after done = Refuses kind (refusal_of fault) h after done
-EndsUnmade kind (Moved list) h after done = (count : ℕ) × Refuses kind (Contended (Lists count count)) h after done
+EndsUnmade kind (Moved list) h after done =
+    (count : ℕ) × Refuses kind (Contended (Lists count count)) h after done
 EndsUnmade kind (OfRows (Bad at bytes)) h after done = (after ≡ h) × (done ≡ made.Broken at bytes)
 EndsUnmade kind (OfRows Failed) h after done = Fails (DeviceFailed Keeper) h after done
 EndsUnmade kind (OfRows Memory) h after done = Fails NoMemory h after done

@@ -16,11 +16,12 @@ use Rattle.jv_model.specs.client.Pending.{PendingByte, Segment, written}
 use Rattle.jv_model.specs.client.Profile.{handle_of}
 use Rattle.jv_model.specs.client.ModelClient.{file_of}
 use Rattle.jv_model.specs.client.OpForms.{closed_by, is_transaction}
+use Rattle.jv_cache.specs.Cached.{Cached}
 use Rattle.jv_fetching.specs.declared.need.Need.{Need}
 use Rattle.jv_fetching.specs.declared.need.Need.TheVariants as need
 use Rattle.jv_fetching.specs.Fetching.{Fetching, fetch_left}
 use Rattle.jv_fetching.specs.Going.{CanFetch}
-use Rattle.jv_fetching.specs.Calls.{Wants}
+use Rattle.jv_fetching.specs.Calls.{IsMissing, Wants}
 use Rattle.jv_handles.specs.declared.handle.Handle.{Handle}
 use Rattle.jv_handles.specs.Handles.{inode_here}
 use Rattle.jv_handles.specs.Views.{view_at}
@@ -65,42 +66,62 @@ pub data FlushesFor (d : Doing) (handle : ℕ) : Type 0 where
   Closes : d.op ≡ op.Close handle → d.does ≡ does.Releases → FlushesFor d handle
   Syncs : d.op ≡ op.Flush handle → d.does ≡ does.Answers answer.Done → FlushesFor d handle
   Describes : d.op ≡ op.Fstat handle → d.does ≡ does.Transacts → FlushesFor d handle
-  ReadsNothing : (offset len : ℕ) → d.op ≡ op.Read handle offset len → d.does ≡ does.Answers answer.NoData → FlushesFor d handle
-  Reads : (offset len : ℕ) → d.op ≡ op.Read handle offset len → d.does ≡ does.Reads offset len → 0 < len → len ≤ WINDOW → offset < FILE_END → FlushesFor d handle
-  Truncates : (len : ℕ) → d.op ≡ op.Truncate handle len → d.does ≡ does.Truncates → FlushesFor d handle
+  ReadsNothing : (offset len : ℕ) → d.op ≡ op.Read handle offset len
+      → d.does ≡ does.Answers answer.NoData → FlushesFor d handle
+  Reads : (offset len : ℕ) → d.op ≡ op.Read handle offset len → d.does ≡ does.Reads offset len
+      → 0 < len → len ≤ WINDOW → offset < FILE_END → FlushesFor d handle
+  Truncates : (len : ℕ) → d.op ≡ op.Truncate handle len → d.does ≡ does.Truncates
+      → FlushesFor d handle
 
 -- A write finds room in the buffer: beside what is pending, or once all of that was committed.
 pub data HasRoom (h : ClientValue) (first : Flush) (len : ℕ) : Type 0 where
   Beside : first ≡ flush.Nothing → length h.pending + len ≤ h.limits.buffer → HasRoom h first len
   Alone : first ≡ flush.All → len ≤ h.limits.buffer → HasRoom h first len
 
--- the operations that are built, each as it was begun: an umount flushes all, and some others the files of their handles
+-- the operations that are built, each as it was begun: an umount flushes all, and some others the
+-- files of their handles
 pub data IsForm (h : ClientValue) (d : Doing) : Type 0 where
   Mounts : d.op ≡ op.Mount false → d.does ≡ does.Mounts false → d.flush ≡ flush.Nothing → IsForm h d
-  Transacts : IsTrue (is_transaction d.op) → IsTrue (is_spelled d.op) → d.does ≡ does.Transacts → d.flush ≡ flush.Nothing → IsTrue (is_some h.session) → IsForm h d
-  Leaves : d.op ≡ op.Umount → d.does ≡ does.Transacts → d.flush ≡ flush.All → IsTrue (is_some h.session) → IsForm h d
-  Writes : (handle offset : ℕ) (bytes : List ℕ) (file : Handle) → d.op ≡ op.Write handle offset bytes → d.does ≡ does.Answers (answer.Count (length bytes))
-      → file_of h.handles handle ≡ Some file → offset + length bytes ≤ FILE_END → HasRoom h d.flush (length bytes) → IsTrue (is_some h.session) → IsForm h d
-  Flushes : (handle : ℕ) (file : Handle) → FlushesFor d handle → d.flush ≡ flush.File file.inode → file_of h.handles handle ≡ Some file
+  Transacts : IsTrue (is_transaction d.op) → IsTrue (is_spelled d.op) → d.does ≡ does.Transacts
+      → d.flush ≡ flush.Nothing → IsTrue (is_some h.session) → IsForm h d
+  Leaves : d.op ≡ op.Umount → d.does ≡ does.Transacts → d.flush ≡ flush.All
       → IsTrue (is_some h.session) → IsForm h d
-  Copies : (source from target to len : ℕ) (file other : Handle) → d.op ≡ op.Copy source from target to len → d.does ≡ does.Copies
-      → d.flush ≡ flush.Files file.inode other.inode → file_of h.handles source ≡ Some file → file_of h.handles target ≡ Some other
-      → IsTrue (is_some h.session) → IsForm h d
-  SaysStats : d.op ≡ op.Stats → d.does ≡ does.Answers answer.CacheStats → d.flush ≡ flush.Nothing → IsTrue (is_some h.session) → IsForm h d
+  Writes : (handle offset : ℕ) (bytes : List ℕ) (file : Handle)
+      → d.op ≡ op.Write handle offset bytes → d.does ≡ does.Answers (answer.Count (length bytes))
+      → file_of h.handles handle ≡ Some file → offset + length bytes ≤ FILE_END
+      → HasRoom h d.flush (length bytes) → IsTrue (is_some h.session) → IsForm h d
+  Flushes : (handle : ℕ) (file : Handle) → FlushesFor d handle → d.flush ≡ flush.File file.inode
+      → file_of h.handles handle ≡ Some file → IsTrue (is_some h.session) → IsForm h d
+  Copies : (source from target to len : ℕ) (file other : Handle)
+      → d.op ≡ op.Copy source from target to len → d.does ≡ does.Copies
+      → d.flush ≡ flush.Files file.inode other.inode → file_of h.handles source ≡ Some file
+      → file_of h.handles target ≡ Some other → IsTrue (is_some h.session) → IsForm h d
+  SaysStats : d.op ≡ op.Stats → d.does ≡ does.Answers answer.CacheStats
+      → d.flush ≡ flush.Nothing → IsTrue (is_some h.session) → IsForm h d
 
--- Requests of a segment are made while there is one: for its slice's number, and then at most one for each of its bytes.
+-- Requests of a segment are made while there is one: for its slice's number, and then at most one
+-- for each of its bytes.
 pub record IsWorking (h : ClientValue) (d : Doing) (quiets id : ℕ) : Type 0 where
-  pub few : IfSome (segment_left d.flush h.pending) (λ (segment : Segment). quiets ≤ 1 + segment.len)
+  pub few : IfSome (segment_left d.flush h.pending)
+      (λ (segment : Segment). quiets ≤ 1 + segment.len)
   pub segment : 0 < quiets → IsTrue (has_segment h d)
   pub numbered : 0 < quiets → 0 < id
 
--- a reading goes on by the views of its handle, and needs a look or a block
+-- a cache lacks the block that is needed, where it is one
+abbrev pub LacksNeed : Need → Cached → Type 0
+LacksNeed (need.Look window) cache = Unit {0}
+LacksNeed (need.Block b) cache = IsMissing cache b
+LacksNeed need.Nothing cache = Unit {0}
+
+-- a reading goes on by the views of its handle, and needs a look, or a block that the cache lacks
 pub record IsReading (h : ClientValue) (d : Doing) (fetch : Fetching) (next : Need) : Type 0 where
   pub read : (offset len : ℕ) × (d.does ≡ does.Reads offset len)
   pub flushed : has_segment h d ≡ false
-  pub goes_on : IsSomeAnd (file_of h.handles (handle_of d.op)) (λ (handle : Handle). CanFetch handle.views fetch × Wants handle.views fetch next)
+  pub goes_on : IsSomeAnd (file_of h.handles (handle_of d.op)) (λ (handle : Handle).
+      CanFetch handle.views fetch × Wants handle.views fetch next)
   pub more : next ≢ need.Nothing
   pub cache : IsTrue (is_some h.cache)
+  pub lacks : IfSome h.cache (LacksNeed next)
 
 abbrev pub IsAt : ClientValue → Doing → Progress → Type 0
 IsAt h d (Working quiets started id) = IsWorking h d quiets id
@@ -111,7 +132,8 @@ abbrev pub has_more : ClientValue → Doing → Progress → Bool
 has_more h d (Working quiets started id) = has_segment h d || asks_more h d
 has_more h d (Reading fetch next) = true
 
--- An operation that has an entry has a further request to make: its answer comes in the step of its last one.
+-- An operation that has an entry has a further request to make: its answer comes in the step of its
+-- last one.
 pub record IsUnderWay (h : ClientValue) (d : Doing) : Type 0 where
   pub form : IsForm h d
   pub at : IsAt h d d.progress
@@ -190,7 +212,8 @@ answer_here _ = (Fine 0 0 0 0, Done)
 
 -- how an operation ends that has nothing to ask for once it has flushed; another one goes on
 pub data Ends (d : Doing) (h after : ClientValue) (answer : Option (Told × Reply)) : Type 0 where
-  Answered : IsTrue (ends_itself h d) → answer ≡ Some (answer_here d.does) → after ≡ told_here d.op (answer_here d.does).0 h → Ends d h after answer
+  Answered : IsTrue (ends_itself h d) → answer ≡ Some (answer_here d.does)
+      → after ≡ told_here d.op (answer_here d.does).0 h → Ends d h after answer
   GoesOn : ends_itself h d ≡ false → answer ≡ None → after ≡ h → Ends d h after answer
 
 -- what an operation does, by its kinds
@@ -211,12 +234,16 @@ says_stats _ = false
 
 -- a write whose handle is open, and that there is room for
 abbrev pub MayKeep : Op → List (Option Handle) → PendingValue → Type 0
-MayKeep (op.Write handle offset bytes) handles pending = IsTrue (is_some (file_of handles handle)) × (offset + length bytes ≤ FILE_END)
+MayKeep (op.Write handle offset bytes) handles pending =
+    IsTrue (is_some (file_of handles handle)) × (offset + length bytes ≤ FILE_END)
     × (length pending.bytes + length bytes ≤ pending.limit)
 MayKeep _ handles pending = ⊥
 
 -- its bytes are pending
 abbrev pub HasKept : Op → List (Option Handle) → PendingValue → PendingValue → ℕ → Type 0
-HasKept (op.Write handle offset bytes) handles before after count = (count ≡ length bytes)
-    × (after ≡ record before { bytes = written (inode_here handles handle) offset bytes before.bytes })
+HasKept (op.Write handle offset bytes) handles before after count =
+    (count ≡ length bytes)
+    × (after ≡ record before {
+      bytes = written (inode_here handles handle) offset bytes before.bytes;
+    })
 HasKept _ handles before after count = ⊥

@@ -88,7 +88,7 @@ impl Client {
         Made::Both(kind, Told::Refused(fault), Reply::Refused(fault))
     }
 
-    /// Ends the operation where the keeper failed or memory ran out.
+    /// Ends the operation where a device failed or memory ran out.
     pub(crate) fn fail(&mut self, fault: Fault) -> Made
         ensures { Fails fault self.old self.new result }
     {

@@ -15,7 +15,8 @@ pub enum Made {
     Answer(Told, Reply),
     /// A request, and the answer.
     Both(ActKind, Told, Reply),
-    /// The row at this key, which has these bytes, is malformed, or names one that isn't there.
+    /// The row at this key, which has these bytes, is malformed, names one that isn't there, or is absent where each volume
+    /// has one.
     Broken(RowKey, Bytes),
 }
 

@@ -25,7 +25,7 @@ use Rattle.jv_client.specs.Shared.{shared}
 use Rattle.jv_session.specs.Lines.{StaysPut}
 use Rattle.jv_session.proofs.UsesLaws.{no_failures}
 use Rattle.jv_cmd.specs.declared.ended.Ended.{Ended}
-use Rattle.jv_cmd.specs.declared.ended.Ended.TheVariants.{Whole, LineNotRun, NoVolume, VolumeExists, NewerVersion, MalformedSetting, BadRow, SourceFailed, OutFailed, ClockFailed, KeeperFailed, DepotFailed, CarrierFailed, ShelfFailed, OutOfMemory}
+use Rattle.jv_cmd.specs.declared.ended.Ended.TheVariants.{Succeeded, LineNotRun, NoVolume, VolumeExists, NewerVersion, MalformedSetting, BadRow, SourceFailed, OutFailed, ClockFailed, KeeperFailed, DepotFailed, CarrierFailed, ShelfFailed, OutOfMemory}
 use Rattle.jv_cmd.specs.declared.words.request.Command.{Command}
 use Rattle.jv_cmd.specs.declared.words.request.Command.TheVariants.{Format, Session}
 use Rattle.jv_cmd.specs.declared.words.request.SessionOptions.{SessionOptions}
@@ -40,7 +40,7 @@ use Rattle.jv_cmd.specs.Opening.{CannotOpen, IsKnown}
 use Rattle.jv_cmd.specs.Run.{RunsLines}
 use Rattle.jv_cmd.specs.Saying.{Says}
 use Rattle.jv_cmd.specs.Stages.{StageValue, stage_value, staged, world_of, yard_at}
-use Rattle.jv_cmd.specs.Words.{IsRefusal}
+use Rattle.jv_cmd.specs.Words.{IsRefusalText}
 use Rattle.jv_cmd.specs.Worlds.{BlockDevices, WorldValue}
 
 -- the shelf has the blocks that it had
@@ -102,7 +102,7 @@ RunsCommand-format command place setting before after ended is formats faults ke
 
 -- they were none
 pub RunsAsked-refused : (words : List Text) (asked : Option Command) (before : WorldValue) (err : Stream)
-    (text : List ℕ) → asked ≡ None → IsRefusal words text → Says before.err err text
+    (text : List ℕ) → asked ≡ None → IsRefusalText words text → Says before.err err text
     → RunsAsked words asked before (record before { err = err }) 2
 RunsAsked-refused words asked before err text none refusal says =
     subst (λ o. RunsAsked words o before (record before { err = err }) 2) (sym none)
@@ -167,7 +167,7 @@ module _ (before after : StageValue) (place : List ℕ) (old : Store) (answers :
 
   keeper_lines : (ended : Ended) → RunsLines answers before after ended
       → UsesKeeper ended (answers Keeper) place old after.devices.keeper
-  keeper_lines Whole runs = record { opened = place_after; faults = rose }
+  keeper_lines Succeeded runs = record { opened = place_after; faults = rose }
   keeper_lines (LineNotRun number) runs = record { opened = place_after; faults = rose }
   keeper_lines NoVolume runs = absurd runs.cause
   keeper_lines VolumeExists runs = absurd runs.cause
@@ -184,23 +184,23 @@ module _ (before after : StageValue) (place : List ℕ) (old : Store) (answers :
   keeper_lines OutOfMemory runs = record { opened = OpenedThere place_after; faults = rose }
 
   -- a script that was drawn
-  keeper_whole : (seed : ℕ) (said : Option (List ℕ)) (ended : Ended) → SumsUp seed said before.out after.out ended
+  keeper_succeeded : (seed : ℕ) (said : Option (List ℕ)) (ended : Ended) → SumsUp seed said before.out after.out ended
       → UsesKeeper ended (answers Keeper) place old after.devices.keeper
-  keeper_whole seed said Whole sums = record { opened = place_after; faults = rose }
-  keeper_whole seed said (LineNotRun number) sums = absurd sums
-  keeper_whole seed said NoVolume sums = absurd sums
-  keeper_whole seed said VolumeExists sums = absurd sums
-  keeper_whole seed said (NewerVersion version) sums = absurd sums
-  keeper_whole seed said MalformedSetting sums = absurd sums
-  keeper_whole seed said (BadRow key bytes) sums = absurd sums
-  keeper_whole seed said SourceFailed sums = absurd sums
-  keeper_whole seed said OutFailed sums = record { opened = place_after; faults = rose }
-  keeper_whole seed said ClockFailed sums = absurd sums
-  keeper_whole seed said KeeperFailed sums = absurd sums
-  keeper_whole seed said DepotFailed sums = absurd sums
-  keeper_whole seed said CarrierFailed sums = absurd sums
-  keeper_whole seed said ShelfFailed sums = absurd sums
-  keeper_whole seed said OutOfMemory sums = record { opened = OpenedThere place_after; faults = rose }
+  keeper_succeeded seed said Succeeded sums = record { opened = place_after; faults = rose }
+  keeper_succeeded seed said (LineNotRun number) sums = absurd sums
+  keeper_succeeded seed said NoVolume sums = absurd sums
+  keeper_succeeded seed said VolumeExists sums = absurd sums
+  keeper_succeeded seed said (NewerVersion version) sums = absurd sums
+  keeper_succeeded seed said MalformedSetting sums = absurd sums
+  keeper_succeeded seed said (BadRow key bytes) sums = absurd sums
+  keeper_succeeded seed said SourceFailed sums = absurd sums
+  keeper_succeeded seed said OutFailed sums = record { opened = place_after; faults = rose }
+  keeper_succeeded seed said ClockFailed sums = absurd sums
+  keeper_succeeded seed said KeeperFailed sums = absurd sums
+  keeper_succeeded seed said DepotFailed sums = absurd sums
+  keeper_succeeded seed said CarrierFailed sums = absurd sums
+  keeper_succeeded seed said ShelfFailed sums = absurd sums
+  keeper_succeeded seed said OutOfMemory sums = record { opened = OpenedThere place_after; faults = rose }
 
   same_keeper : (ran ended : Ended) → ended ≡ ran → UsesKeeper ran (answers Keeper) place old after.devices.keeper
       → UsesKeeper ended (answers Keeper) place old after.devices.keeper
@@ -209,7 +209,7 @@ module _ (before after : StageValue) (place : List ℕ) (old : Store) (answers :
   keeper_drawn : (seed : ℕ) (left said : Option (List ℕ)) (ran ended : Ended)
       → RunsLines answers (with_streams (Some (script_text seed)) (Some []) before) (with_streams left said after) ran
       → PrintsSummary seed said before.out after.out ran ended → UsesKeeper ended (answers Keeper) place old after.devices.keeper
-  keeper_drawn seed left said Whole ended runs prints = keeper_whole seed said ended prints
+  keeper_drawn seed left said Succeeded ended runs prints = keeper_succeeded seed said ended prints
   keeper_drawn seed left said (LineNotRun number) ended runs prints = same_keeper (LineNotRun number) ended prints.0 (record { opened = place_after; faults = rose })
   keeper_drawn seed left said NoVolume ended runs prints = absurd runs.cause
   keeper_drawn seed left said VolumeExists ended runs prints = absurd runs.cause
@@ -246,7 +246,7 @@ calm_lines ended a b c before after l = record {
 -- how a session ends at a device for blocks, which is opened after the keeper
 record IsLate (ended : Ended) : Type 0 where
   calm : (before after : WorldValue) → LeavesLines before after → CountsFaults ended (in_world before) (in_world after)
-  keeper : (place : List ℕ) (before after : Store) → UsesKeeper Whole 0 place before after
+  keeper : (place : List ℕ) (before after : Store) → UsesKeeper Succeeded 0 place before after
       → UsesKeeper ended 0 place before after
   no_line : status_of ended ≢ 3
 
@@ -375,7 +375,7 @@ RunsAsked-ran words asked command before after err ended status is runs same res
 -- a session after the keeper was opened and the setting read
 module _ (place : List ℕ) (options : SessionOptions) (before after : WorldValue) (opened : Store) (setting : Setting) (ended : Ended)
     (known : IsKnown before.keeper.rows setting) (rows : opened.rows ≡ before.keeper.rows)
-    (keeper : UsesKeeper Whole 0 place before.keeper opened) where
+    (keeper : UsesKeeper Succeeded 0 place before.keeper opened) where
   none_ran : LeavesLines (record before { keeper = opened }) after → after.keeper ≡ opened → RunsNone no_failures before after
   none_ran leaves same = record {
     none = λ device. refl;

@@ -14,7 +14,7 @@ use Rattle.jv_generator.proofs.ScriptLaws.{script_length}
 use Rattle.jv_outside.specs.Stream.{Stream}
 use Rattle.jv_client.specs.Built.{is_built_line}
 use Rattle.jv_cmd.specs.declared.ended.Ended.{Ended}
-use Rattle.jv_cmd.specs.declared.ended.Ended.TheVariants.{LineNotRun, Whole}
+use Rattle.jv_cmd.specs.declared.ended.Ended.TheVariants.{LineNotRun, Succeeded}
 use Rattle.jv_cmd.specs.Ends.{status_of}
 use Rattle.jv_cmd.specs.Generating.{PrintsSummary, SumsUp, script_text, with_streams}
 use Rattle.jv_cmd.specs.Run.{BeginWith, IsNotRun, NotBuilt, Malformed, OneTooMany, RunsLines, TooLong}
@@ -83,7 +83,7 @@ pub drawn_runs : (seed : ℕ) (answers : Device → ℕ) (before after : StageVa
     (ran ended : Ended)
     → RunsLines answers (with_streams (Some (script_text seed)) (Some []) before) (with_streams left said after) ran
     → PrintsSummary seed said before.out after.out ran ended → before.limits.writeback ≡ false → status_of ended ≢ 3
-drawn_runs seed answers before after left said Whole ended runs prints direct =
+drawn_runs seed answers before after left said Succeeded ended runs prints direct =
     summed_up seed said before.out after.out ended prints
 drawn_runs seed answers before after left said ran ended runs prints direct =
     let stays = lines_run seed answers before (with_streams left said after) (Some []) ran runs direct in

@@ -16,14 +16,14 @@ use Rattle.jv_outside.specs.Ticks.{Ticks}
 use Rattle.jv_outside.proofs.StreamLaws.{Gains-nil, Gains-trans}
 use Rattle.jv_session.specs.Stands.{ScheduleValue, fresh_schedule}
 use Rattle.jv_cmd.specs.declared.ended.Ended.{Ended}
-use Rattle.jv_cmd.specs.declared.ended.Ended.TheVariants.{Whole, LineNotRun, NoVolume, VolumeExists, NewerVersion, MalformedSetting, BadRow, SourceFailed, OutFailed, ClockFailed, KeeperFailed, DepotFailed, CarrierFailed, ShelfFailed, OutOfMemory}
+use Rattle.jv_cmd.specs.declared.ended.Ended.TheVariants.{Succeeded, LineNotRun, NoVolume, VolumeExists, NewerVersion, MalformedSetting, BadRow, SourceFailed, OutFailed, ClockFailed, KeeperFailed, DepotFailed, CarrierFailed, ShelfFailed, OutOfMemory}
 use Rattle.jv_cmd.specs.Cutting.{BeginsWith, CutsText, IsOverlong}
 use Rattle.jv_cmd.specs.Ends.{status_of}
 use Rattle.jv_cmd.specs.Faults.{CountsFaults, on_stage}
 use Rattle.jv_cmd.specs.Run.{AllButLast, AllLines, Beginning, EndsBy, IsKnownClock, OneTooMany, Prints, PrintsPart, StartsWhole, StopsAt, TooLong, session_run, up_to}
 use Rattle.jv_cmd.specs.Stages.{StageValue}
 use Rattle.jv_cmd.specs.Generating.{EndsScript}
-use Rattle.jv_cmd.specs.Steps.{Advances, BeforeLine, Done, Going, LineEnds, OnLine, PrintsCut, ReadsBuilt, StopsIn, TextEnds, TextReads, Turns}
+use Rattle.jv_cmd.specs.Steps.{Advances, BeforeLine, Done, Going, LineEnds, NextLine, OnLine, PrintsCut, ReadsBuilt, StopsIn, TextEnds, TextReads}
 use Rattle.jv_cmd.specs.Texts.{texts_of}
 use Rattle.jv_cmd.proofs.DoneLaws.{Done-more, Done-start, DoneMore}
 use Rattle.jv_cmd.proofs.EndLaws.{EndsScript-bad, EndsScript-last, EndsScript-next, IsIdle, IsNotRun-text, RunsWhole-cut, StopsAt-from, all_printed, gains_before, text_done}
@@ -45,7 +45,7 @@ EndsScript-none before setting empty is =
 -- a text that was read and not run changes nothing
 pub TextEnds-from_reads : (number : ℕ) (text : List ℕ) (stage : StageValue) (s : ScheduleValue) (ended : Ended)
     → TextReads number text s.limits (Err ended) → TextEnds number text stage stage s s (Err ended)
-TextEnds-from_reads number text stage s Whole h = absurd h
+TextEnds-from_reads number text stage s Succeeded h = absurd h
 TextEnds-from_reads number text stage s (LineNotRun at) h =
     (h.0, h.1, record { out = refl; devices = refl; clock = refl; journal = refl })
 TextEnds-from_reads number text stage s SourceFailed h = absurd h
@@ -78,7 +78,7 @@ pub TextEnds-from_line : (number : ℕ) (text : List ℕ) (line : Line) (before 
     (ran : Result (Unit {0}) Ended) → ReadsBuilt text s.limits line
     → LineEnds line number before after s s' ran → TextEnds number text before after s s' ran
 TextEnds-from_line number text line before after s s' (Ok unit) read ends = (line, read, ends)
-TextEnds-from_line number text line before after s s' (Err Whole) read ends = absurd ends
+TextEnds-from_line number text line before after s s' (Err Succeeded) read ends = absurd ends
 TextEnds-from_line number text line before after s s' (Err (LineNotRun at)) read ends = absurd ends
 TextEnds-from_line number text line before after s s' (Err SourceFailed) read ends = absurd ends
 TextEnds-from_line number text line before after s s' (Err OutFailed) read ends = (line, read, ends)
@@ -209,9 +209,9 @@ module _ (left left0 : Option (List ℕ)) (before now after : StageValue) (n cou
       faults
 
   -- a text was run, or the run ended there
-  Turns-text : (ran : Result (Unit {0}) Ended) → TextEnds (n + 1) (take count held) now after s s' ran
-      → Turns (prepend_known (drop (count + 1) held) left0) before after n s' ran
-  Turns-text (Ok unit) ends =
+  NextLine-text : (ran : Result (Unit {0}) Ended) → TextEnds (n + 1) (take count held) now after s s' ran
+      → NextLine (prepend_known (drop (count + 1) held) left0) before after n s' ran
+  NextLine-text (Ok unit) ends =
       record {
         text = going.text ++ ends.2.printed;
         lines_done = (more ends.0 ends.2.printed ends.1 ends.2.runs).lines_done;
@@ -224,8 +224,8 @@ module _ (left left0 : Option (List ℕ)) (before now after : StageValue) (n cou
               ∙ going.calm.clock;
         };
       }
-  Turns-text (Err Whole) ends = absurd ends
-  Turns-text (Err (LineNotRun at)) ends =
+  NextLine-text (Err Succeeded) ends = absurd ends
+  NextLine-text (Err (LineNotRun at)) ends =
       let d = going.lines_done in
       let still = ends.2 in
       let idle : IsIdle now after = record {
@@ -242,8 +242,8 @@ module _ (left left0 : Option (List ℕ)) (before now after : StageValue) (n cou
       (λ start known w t. all_printed left before now after n going.text s d idle
       (gains_still still.out) 3 start known w t)
       (record { source = calm_source; out = calm_out still.out; clock = calm_clock still.clock })
-  Turns-text (Err SourceFailed) ends = absurd ends
-  Turns-text (Err OutFailed) ends =
+  NextLine-text (Err SourceFailed) ends = absurd ends
+  NextLine-text (Err OutFailed) ends =
       let m = more ends.0 ends.2.printed ends.1 ends.2.runs in
       EndsScript-last (prepend_known (drop (count + 1) held) left0) before after after (n + 1)
       (going.text ++ ends.2.printed) s' m.lines_done
@@ -255,14 +255,14 @@ module _ (left left0 : Option (List ℕ)) (before now after : StageValue) (n cou
             going.calm.out ends.2.cut.rose;
         clock = ends.2.clock ∙ going.calm.clock;
       })
-  Turns-text (Err ClockFailed) ends =
+  NextLine-text (Err ClockFailed) ends =
       cut_off ends.0 ends.1 ends.2 ClockFailed refl tt (λ start known gains. gains)
       (record {
         source = calm_source;
         out = calm_out ends.2.out;
         clock = Rose-since before.clock.faults now.clock.faults after.clock.faults going.calm.clock ends.3;
       })
-  Turns-text (Err OutOfMemory) (BeforeLine still) =
+  NextLine-text (Err OutOfMemory) (BeforeLine still) =
       let idle : IsIdle now after = record {
         journal = still.journal;
         devices = still.devices;
@@ -273,30 +273,30 @@ module _ (left left0 : Option (List ℕ)) (before now after : StageValue) (n cou
       (λ start known w t. AllLines (all_printed left before now after n going.text s going.lines_done idle
       (gains_still still.out) 6 start known w t))
       (record { source = calm_source; out = calm_out still.out; clock = calm_clock still.clock })
-  Turns-text (Err OutOfMemory) (OnLine line read stops calm) =
+  NextLine-text (Err OutOfMemory) (OnLine line read stops calm) =
       cut_off line read stops OutOfMemory refl tt (λ start known gains. AllButLast gains)
       (record { source = calm_source; out = calm_out stops.out; clock = calm ∙ going.calm.clock })
-  Turns-text (Err (BadRow key bytes)) ends =
+  NextLine-text (Err (BadRow key bytes)) ends =
       EndsScript-bad left (prepend_known (drop (count + 1) held) left0) before now after n going.text
       (take count held) ends.0 s s' going.lines_done room ends.1 short cut.known key bytes ends.2.breaks
       (record { source = calm_source; out = calm_out ends.2.out; clock = ends.2.breaks.calm ∙ going.calm.clock })
-  Turns-text (Err NoVolume) ends = absurd ends
-  Turns-text (Err VolumeExists) ends = absurd ends
-  Turns-text (Err (NewerVersion version)) ends = absurd ends
-  Turns-text (Err MalformedSetting) ends = absurd ends
-  Turns-text (Err KeeperFailed) ends = absurd ends
-  Turns-text (Err DepotFailed) ends = absurd ends
-  Turns-text (Err CarrierFailed) ends = absurd ends
-  Turns-text (Err ShelfFailed) ends = absurd ends
+  NextLine-text (Err NoVolume) ends = absurd ends
+  NextLine-text (Err VolumeExists) ends = absurd ends
+  NextLine-text (Err (NewerVersion version)) ends = absurd ends
+  NextLine-text (Err MalformedSetting) ends = absurd ends
+  NextLine-text (Err KeeperFailed) ends = absurd ends
+  NextLine-text (Err DepotFailed) ends = absurd ends
+  NextLine-text (Err CarrierFailed) ends = absurd ends
+  NextLine-text (Err ShelfFailed) ends = absurd ends
 
   -- the same, where the text, what is held then and what is left are known by equations
-  pub Turns-front : (text rest : List ℕ) (last : Option (List ℕ)) (ran : Result (Unit {0}) Ended) → text ≡ take count held
+  pub NextLine-front : (text rest : List ℕ) (last : Option (List ℕ)) (ran : Result (Unit {0}) Ended) → text ≡ take count held
       → rest ≡ drop (count + 1) held → last ≡ left0 → TextEnds (n + 1) text now after s s' ran
-      → Turns (prepend_known rest last) before after n s' ran
-  Turns-front text rest last ran is passed same ends =
-      subst (λ l. Turns (prepend_known rest l) before after n s' ran) (sym same)
-      (subst (λ r. Turns (prepend_known r left0) before after n s' ran) (sym passed)
-      (Turns-text ran (subst (λ t. TextEnds (n + 1) t now after s s' ran) is ends)))
+      → NextLine (prepend_known rest last) before after n s' ran
+  NextLine-front text rest last ran is passed same ends =
+      subst (λ l. NextLine (prepend_known rest l) before after n s' ran) (sym same)
+      (subst (λ r. NextLine (prepend_known r left0) before after n s' ran) (sym passed)
+      (NextLine-text ran (subst (λ t. TextEnds (n + 1) t now after s s' ran) is ends)))
 
 -- the run ended before a line, by what was read of the source
 module _ (left : Option (List ℕ)) (before now : StageValue) (source : Stream) (n : ℕ) (s : ScheduleValue)
@@ -318,10 +318,10 @@ module _ (left : Option (List ℕ)) (before now : StageValue) (source : Stream) 
       (record now { source = source }) n going.text s going.lines_done idle going.gains
       (status_of ended) start known w t)) faults
 
-  pub EndsScript-whole : source.faults ≡ now.source.faults → IfSome left (λ all. texts_of all ≡ [])
-      → EndsScript None before (record now { source = source }) Whole
-  EndsScript-whole calm none =
-      EndsScript-read Whole (all_read before.source.content left going.lines_done.texts going.lines_done.first none)
+  pub EndsScript-succeeded : source.faults ≡ now.source.faults → IfSome left (λ all. texts_of all ≡ [])
+      → EndsScript None before (record now { source = source }) Succeeded
+  EndsScript-succeeded calm none =
+      EndsScript-read Succeeded (all_read before.source.content left going.lines_done.texts going.lines_done.first none)
       (λ start known gains. gains)
       (record { source = calm ∙ going.calm.source; out = going.calm.out; clock = going.calm.clock })
 

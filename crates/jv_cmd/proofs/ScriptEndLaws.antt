@@ -4,7 +4,7 @@ use Rattle.jv_model.specs.declared.setting.Setting.{Setting}
 use Rattle.jv_outside.specs.Causes.{RoseIf}
 use Rattle.jv_outside.specs.Stream.{Stream, HasAll, IsCut}
 use Rattle.jv_cmd.specs.declared.ended.Ended.{Ended}
-use Rattle.jv_cmd.specs.declared.ended.Ended.TheVariants.{Whole, LineNotRun, NoVolume, VolumeExists, NewerVersion, MalformedSetting, BadRow, SourceFailed, OutFailed, ClockFailed, KeeperFailed, DepotFailed, CarrierFailed, ShelfFailed, OutOfMemory}
+use Rattle.jv_cmd.specs.declared.ended.Ended.TheVariants.{Succeeded, LineNotRun, NoVolume, VolumeExists, NewerVersion, MalformedSetting, BadRow, SourceFailed, OutFailed, ClockFailed, KeeperFailed, DepotFailed, CarrierFailed, ShelfFailed, OutOfMemory}
 use Rattle.jv_cmd.specs.Faults.{CountsFaults, on_stage, out_failed, source_failed}
 use Rattle.jv_cmd.specs.Generating.{EndsScript, PrintsSummary, SumsUp, script_text, summary_of, with_streams}
 use Rattle.jv_cmd.specs.Stages.{StageValue}
@@ -41,27 +41,27 @@ module _ (seed : ℕ) (before after : StageValue) (left said : Option (List ℕ)
       })
 
   -- all lines were run
-  whole_faults : (ended : Ended) → Inner Whole → SumsUp seed said before.out after.out ended
+  succeeded_faults : (ended : Ended) → Inner Succeeded → SumsUp seed said before.out after.out ended
       → CountsFaults ended (on_stage before) (on_stage after)
-  whole_faults Whole e h = record { source = calm_source; out = all_calm said before.out after.out (summary_of seed) h; clock = e.faults.clock }
-  whole_faults OutFailed e h = record { source = calm_source; out = cut_rose said before.out after.out (summary_of seed) h; clock = e.faults.clock }
-  whole_faults OutOfMemory e h = record { source = calm_source; out = ap (λ (stream : Stream). stream.faults) h; clock = e.faults.clock }
-  whole_faults (LineNotRun number) e h = absurd h
-  whole_faults NoVolume e h = absurd h
-  whole_faults VolumeExists e h = absurd h
-  whole_faults (NewerVersion version) e h = absurd h
-  whole_faults MalformedSetting e h = absurd h
-  whole_faults (BadRow key bytes) e h = absurd h
-  whole_faults SourceFailed e h = absurd h
-  whole_faults ClockFailed e h = absurd h
-  whole_faults KeeperFailed e h = absurd h
-  whole_faults DepotFailed e h = absurd h
-  whole_faults CarrierFailed e h = absurd h
-  whole_faults ShelfFailed e h = absurd h
+  succeeded_faults Succeeded e h = record { source = calm_source; out = all_calm said before.out after.out (summary_of seed) h; clock = e.faults.clock }
+  succeeded_faults OutFailed e h = record { source = calm_source; out = cut_rose said before.out after.out (summary_of seed) h; clock = e.faults.clock }
+  succeeded_faults OutOfMemory e h = record { source = calm_source; out = ap (λ (stream : Stream). stream.faults) h; clock = e.faults.clock }
+  succeeded_faults (LineNotRun number) e h = absurd h
+  succeeded_faults NoVolume e h = absurd h
+  succeeded_faults VolumeExists e h = absurd h
+  succeeded_faults (NewerVersion version) e h = absurd h
+  succeeded_faults MalformedSetting e h = absurd h
+  succeeded_faults (BadRow key bytes) e h = absurd h
+  succeeded_faults SourceFailed e h = absurd h
+  succeeded_faults ClockFailed e h = absurd h
+  succeeded_faults KeeperFailed e h = absurd h
+  succeeded_faults DepotFailed e h = absurd h
+  succeeded_faults CarrierFailed e h = absurd h
+  succeeded_faults ShelfFailed e h = absurd h
 
   faults_of_run : (ran ended : Ended) → Inner ran → PrintsSummary seed said before.out after.out ran ended
       → CountsFaults ended (on_stage before) (on_stage after)
-  faults_of_run Whole ended e h = whole_faults ended e h
+  faults_of_run Succeeded ended e h = succeeded_faults ended e h
   faults_of_run (LineNotRun number) ended e h = same_faults (LineNotRun number) ended e refl refl h.0 h.1
   faults_of_run NoVolume ended e h = absurd e.runs.cause
   faults_of_run VolumeExists ended e h = absurd e.runs.cause

@@ -26,18 +26,25 @@ pub record AreAttached (bucket folder : List ℕ) (before after : BlockDevices) 
   pub shelf : Attaches before.shelf after.shelf (Ok tt) folder
 
 -- The first of depot, carrier and shelf that isn't opened: those before it were, and those after it are as they were.
-pub data CannotAttach (bucket folder : List ℕ) (before after : BlockDevices) (ended : Ended) : Type 0 where
-  NoDepot : (down : Down) → ended ≡ ended_at DepotFailed down → Attaches before.depot after.depot (Err down) bucket
-      → after.carrier ≡ before.carrier → after.shelf ≡ before.shelf → CannotAttach bucket folder before after ended
-  NoCarrier : (down : Down) → ended ≡ ended_at CarrierFailed down → Attaches before.depot after.depot (Ok tt) bucket
+pub data CannotAttach (bucket folder : List ℕ) (before after : BlockDevices)
+    (ended : Ended) : Type 0 where
+  NoDepot : (down : Down) → ended ≡ ended_at DepotFailed down
+      → Attaches before.depot after.depot (Err down) bucket
+      → after.carrier ≡ before.carrier → after.shelf ≡ before.shelf
+      → CannotAttach bucket folder before after ended
+  NoCarrier : (down : Down) → ended ≡ ended_at CarrierFailed down
+      → Attaches before.depot after.depot (Ok tt) bucket
       → Moves before.carrier after.carrier (Err down) bucket → after.shelf ≡ before.shelf
       → CannotAttach bucket folder before after ended
-  NoShelf : (down : Down) → ended ≡ ended_at ShelfFailed down → Attaches before.depot after.depot (Ok tt) bucket
-      → Moves before.carrier after.carrier (Ok tt) bucket → Attaches before.shelf after.shelf (Err down) folder
+  NoShelf : (down : Down) → ended ≡ ended_at ShelfFailed down
+      → Attaches before.depot after.depot (Ok tt) bucket
+      → Moves before.carrier after.carrier (Ok tt) bucket
+      → Attaches before.shelf after.shelf (Err down) folder
       → CannotAttach bucket folder before after ended
 
 -- opening the three, by the result
-abbrev pub AttachesAll : List ℕ → List ℕ → BlockDevices → BlockDevices → Result (Unit {0}) Ended → Type 0
+abbrev pub AttachesAll : List ℕ → List ℕ → BlockDevices → BlockDevices → Result (Unit {0}) Ended
+    → Type 0
 AttachesAll bucket folder before after (Ok unit) = AreAttached bucket folder before after
 AttachesAll bucket folder before after (Err ended) = CannotAttach bucket folder before after ended
 
@@ -55,7 +62,8 @@ pub record CannotStart (before after : BlockDevices) (ended : Ended) : Type 0 wh
   pub depot : after.depot ≡ before.depot
   pub carrier : after.carrier ≡ before.carrier
 
--- They are open where they were, the shelf has the blocks that it had, and each of them failed as often as `answers` says.
+-- They are open where they were, the shelf has the blocks that it had, and each of them failed as often as
+-- `answers` says.
 pub record UsesBlocks (answers : Device → ℕ) (before after : BlockDevices) : Type 0 where
   pub depot_at : after.depot.opened ≡ before.depot.opened
   pub shelf_at : after.shelf.opened ≡ before.shelf.opened

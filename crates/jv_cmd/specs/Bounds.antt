@@ -12,7 +12,11 @@ cache_entries (suc more) block = max 1 (suc more * MIB / block)
 
 -- the limits of a session over a volume whose blocks have this length
 abbrev pub limits_of : SessionOptions → ℕ → Limits
-limits_of options block = record { buffer = options.buffer * MIB; entries = cache_entries options.cache block; writeback = false }
+limits_of options block = record {
+  buffer = options.buffer * MIB;
+  entries = cache_entries options.cache block;
+  writeback = false;
+}
 
 -- the sizes are in their ranges
 pub record AreAllowed (options : SessionOptions) : Type 0 where

@@ -23,7 +23,7 @@ use Rattle.jv_cmd.specs.Opening.{CannotOpen, IsKnown}
 use Rattle.jv_cmd.specs.Generating.{EndsScript, RunsScript}
 use Rattle.jv_cmd.specs.Saying.{Says}
 use Rattle.jv_cmd.specs.Stages.{StageValue, staged, world_of}
-use Rattle.jv_cmd.specs.Words.{asked, IsRefusal}
+use Rattle.jv_cmd.specs.Words.{asked, IsRefusalText}
 use Rattle.jv_cmd.specs.Worlds.{BlockDevices, WorldValue, emptied}
 
 -- neither the source nor out nor the clock nor the journal was used
@@ -39,74 +39,97 @@ pub record RunsNone (answers : Device → ℕ) (before after : WorldValue) : Typ
   pub lines : LeavesLines before after
   pub rows : after.keeper.rows ≡ before.keeper.rows
 
--- A session with these options: there is no volume to run on, and no device for blocks is opened; or one of them isn't opened for the
--- volume of that setting; or the shelf's blocks couldn't be read; or the script runs on that volume, with depot and shelf in a yard, which
--- are back where they were in the end; blocks were put, all other objects are as they were, and so is the shelf (`StaysPut`). `answers` is
--- how often each device failed and an operation was answered so.
-pub data SessionEnds (options : SessionOptions) (answers : Device → ℕ) (before after : WorldValue) (ended : Ended) : Type 0 where
-  NotOpened : CannotOpen before.keeper.rows ended → RunsNone answers before after → after.blocks ≡ before.blocks
+-- A session with these options: there is no volume to run on, and no device for blocks is opened; or one
+-- of them isn't opened for the volume of that setting; or the shelf's blocks couldn't be read; or the
+-- script runs on that volume, with depot and shelf in a yard, which are back where they were in the end;
+-- blocks were put, all other objects are as they were, and so is the shelf (`StaysPut`). `answers` is how
+-- often each device failed and an operation was answered so.
+pub data SessionEnds (options : SessionOptions) (answers : Device → ℕ) (before after : WorldValue)
+    (ended : Ended) : Type 0 where
+  NotOpened : CannotOpen before.keeper.rows ended → RunsNone answers before after
+      → after.blocks ≡ before.blocks
       → SessionEnds options answers before after ended
-  NotAttached : (setting : Setting) → IsKnown before.keeper.rows setting → RunsNone answers before after
+  NotAttached : (setting : Setting) → IsKnown before.keeper.rows setting
+      → RunsNone answers before after
       → CannotAttach setting.bucket options.cache_dir before.blocks after.blocks ended
       → SessionEnds options answers before after ended
-  NotStarted : (setting : Setting) (attached : BlockDevices) → IsKnown before.keeper.rows setting → RunsNone answers before after
-      → AreAttached setting.bucket options.cache_dir before.blocks attached → CannotStart attached after.blocks ended
+  NotStarted : (setting : Setting) (attached : BlockDevices) → IsKnown before.keeper.rows setting
+      → RunsNone answers before after
+      → AreAttached setting.bucket options.cache_dir before.blocks attached
+      → CannotStart attached after.blocks ended
       → SessionEnds options answers before after ended
-  Opened : (setting : Setting) (opened : Store) (attached : BlockDevices) (yard : YardValue) (left : StageValue)
+  Opened : (setting : Setting) (opened : Store) (attached : BlockDevices) (yard : YardValue)
+      (left : StageValue)
       → IsKnown before.keeper.rows setting → opened.rows ≡ before.keeper.rows
       → AreAttached setting.bucket options.cache_dir before.blocks attached
       → IsStarted setting attached.depot attached.shelf yard
       → RunsScript options.generate answers
-      (staged (limits_of options setting.block) yard (record before { keeper = opened; blocks = attached }))
+      (staged (limits_of options setting.block) yard
+      (record before { keeper = opened; blocks = attached }))
       left ended
-      → StaysPut (shared opened yard attached.carrier) left.devices → UsesBlocks answers attached after.blocks
+      → StaysPut (shared opened yard attached.carrier) left.devices
+      → UsesBlocks answers attached after.blocks
       → after ≡ world_of before.err left → SessionEnds options answers before after ended
 
 abbrev pub Does : Command → (Device → ℕ) → WorldValue → WorldValue → Ended → Type 0
-Does (Format place setting) answers before after ended = Formats setting before after ended × ((device : Device) → answers device ≡ 0)
-Does (Session place options) answers before after ended = SessionEnds options answers before after ended
+Does (Format place setting) answers before after ended =
+    Formats setting before after ended × ((device : Device) → answers device ≡ 0)
+Does (Session place options) answers before after ended =
+    SessionEnds options answers before after ended
 
-abbrev pub place_of : Command → List ℕ
-place_of (Format place setting) = place
-place_of (Session place options) = place
+abbrev pub place_of_command : Command → List ℕ
+place_of_command (Format place setting) = place
+place_of_command (Session place options) = place
 
 -- the command runs a script that is drawn
 abbrev pub is_drawn : Command → Bool
 is_drawn (Format place setting) = false
 is_drawn (Session place options) = is_some options.generate
 
--- A session over the volume of a setting, for which depot, carrier and shelf are opened: the shelf's blocks couldn't be read, and no
--- line was run; or the lines ran.
-pub data RunsAttached (options : SessionOptions) (setting : Setting) (before after : WorldValue) (ended : Ended) : Type 0 where
-  Unstarted : CannotStart before.blocks after.blocks ended → LeavesLines before after → after.keeper ≡ before.keeper
+-- A session over the volume of a setting, for which depot, carrier and shelf are opened: the shelf's blocks couldn't be
+-- read, and no line was run; or the lines ran.
+pub data RunsAttached (options : SessionOptions) (setting : Setting) (before after : WorldValue)
+    (ended : Ended) : Type 0 where
+  Unstarted : CannotStart before.blocks after.blocks ended → LeavesLines before after
+      → after.keeper ≡ before.keeper
       → RunsAttached options setting before after ended
-  Ran : (yard : YardValue) (left : StageValue) → IsStarted setting before.blocks.depot before.blocks.shelf yard
-      → EndsScript options.generate (staged (limits_of options setting.block) yard before) left ended → after ≡ world_of before.err left
+  Ran : (yard : YardValue) (left : StageValue)
+      → IsStarted setting before.blocks.depot before.blocks.shelf yard
+      → EndsScript options.generate (staged (limits_of options setting.block) yard before) left
+      ended
+      → after ≡ world_of before.err left
       → RunsAttached options setting before after ended
 
 -- the same before they are, where the keeper is opened: one of them isn't opened, or all are
-pub data RunsVolume (options : SessionOptions) (setting : Setting) (before after : WorldValue) (ended : Ended) : Type 0 where
-  Stopped : CannotAttach setting.bucket options.cache_dir before.blocks after.blocks ended → LeavesLines before after
+pub data RunsVolume (options : SessionOptions) (setting : Setting) (before after : WorldValue)
+    (ended : Ended) : Type 0 where
+  Stopped : CannotAttach setting.bucket options.cache_dir before.blocks after.blocks ended
+      → LeavesLines before after
       → after.keeper ≡ before.keeper → RunsVolume options setting before after ended
-  Attached : (attached : BlockDevices) → AreAttached setting.bucket options.cache_dir before.blocks attached
+  Attached : (attached : BlockDevices)
+      → AreAttached setting.bucket options.cache_dir before.blocks attached
       → RunsAttached options setting (record before { blocks = attached }) after ended
       → RunsVolume options setting before after ended
 
 -- a session at a place: how it ended, and what it did with the keeper
-pub record RunsSession (place : List ℕ) (options : SessionOptions) (before after : WorldValue) (ended : Ended) : Type 0 where
+pub record RunsSession (place : List ℕ) (options : SessionOptions) (before after : WorldValue)
+    (ended : Ended) : Type 0 where
   pub answers : Device → ℕ
   pub ends : SessionEnds options answers before after ended
   pub keeper : UsesKeeper ended (answers Keeper) place before.keeper after.keeper
 
 -- a command: what it did, which device failed, and where the keeper is opened; the shelf has the blocks that it had
-pub record RunsCommand (command : Command) (before after : WorldValue) (ended : Ended) : Type 0 where
+pub record RunsCommand (command : Command) (before after : WorldValue)
+    (ended : Ended) : Type 0 where
   pub answers : Device → ℕ
   pub does : Does command answers before after ended
   pub faults : CountsFaults ended (in_world before) (in_world after)
-  pub keeper : UsesKeeper ended (answers Keeper) (place_of command) before.keeper after.keeper
+  pub keeper : UsesKeeper ended (answers Keeper) (place_of_command command) before.keeper
+      after.keeper
   pub shelf : after.blocks.shelf.content ≡ before.blocks.shelf.content
 
--- how the command ended: what it did apart from standard error, its status, and its text there; no line of a drawn script ends it
+-- how the command ended: what it did apart from standard error, its status, and its text there; no line of
+-- a drawn script ends it
 pub record EndsCommand (command : Command) (before after : WorldValue) (status : ℕ) : Type 0 where
   pub ended : Ended
   pub runs : RunsCommand command before (record after { err = before.err }) ended
@@ -116,8 +139,10 @@ pub record EndsCommand (command : Command) (before after : WorldValue) (status :
 
 -- the words are refused, or there is no memory to read them
 pub data RefusesWords (words : List Text) (before after : WorldValue) (status : ℕ) : Type 0 where
-  Refused : (text : List ℕ) → IsRefusal words text → status ≡ 2 → Says before.err after.err text → RefusesWords words before after status
-  NoMemory : status ≡ status_of OutOfMemory → Says before.err after.err (message_of OutOfMemory) → RefusesWords words before after status
+  Refused : (text : List ℕ) → IsRefusalText words text → status ≡ 2 → Says before.err after.err text
+      → RefusesWords words before after status
+  NoMemory : status ≡ status_of OutOfMemory → Says before.err after.err (message_of OutOfMemory)
+      → RefusesWords words before after status
 
 -- and only standard error is used
 pub record EndsUnread (words : List Text) (before after : WorldValue) (status : ℕ) : Type 0 where

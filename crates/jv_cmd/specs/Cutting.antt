@@ -24,7 +24,8 @@ pub record BeginsWith (before : Option (List ℕ)) (next : List ℕ) : Type 0 wh
 pub record CutsText (before left : Option (List ℕ)) (held : List ℕ) (count : ℕ) : Type 0 where
   pub within : count ≤ length held
   pub short : count ≤ MAX_LINE
-  pub known : IfSome before (λ bytes. IsSomeAnd (prepend_known (drop (count + 1) held) left) (λ rest. texts_of bytes ≡ take count held ∷ texts_of rest))
+  pub known : IfSome before (λ bytes. IsSomeAnd (prepend_known (drop (count + 1) held) left)
+      (λ rest. texts_of bytes ≡ take count held ∷ texts_of rest))
 
 -- the next text is longer than a text may be
 pub record IsOverlong (before : Option (List ℕ)) : Type 0 where

@@ -13,4 +13,5 @@ pub record IsReadBack (limits : Limits) (seed : ℕ) : Type 0 where
 
 -- in direct mode
 abbrev pub DrawnScriptsAreReadBack : Type 0
-DrawnScriptsAreReadBack = (limits : Limits) (seed : ℕ) → limits.writeback ≡ false → IsReadBack limits seed
+DrawnScriptsAreReadBack =
+    (limits : Limits) (seed : ℕ) → limits.writeback ≡ false → IsReadBack limits seed

@@ -4,7 +4,7 @@ use Rattle.std.specs.List.{flat_map}
 use Rattle.jv_model.specs.declared.row.RowKey.{RowKey}
 use Rattle.jv_model.specs.script.Printed.{hex_pair}
 use Rattle.jv_cmd.specs.declared.ended.Ended.{Ended}
-use Rattle.jv_cmd.specs.declared.ended.Ended.TheVariants.{Whole, LineNotRun, NoVolume, VolumeExists, NewerVersion, MalformedSetting, BadRow, SourceFailed, OutFailed, ClockFailed, KeeperFailed, DepotFailed, CarrierFailed, ShelfFailed, OutOfMemory}
+use Rattle.jv_cmd.specs.declared.ended.Ended.TheVariants.{Succeeded, LineNotRun, NoVolume, VolumeExists, NewerVersion, MalformedSetting, BadRow, SourceFailed, OutFailed, ClockFailed, KeeperFailed, DepotFailed, CarrierFailed, ShelfFailed, OutOfMemory}
 
 -- bytes as pairs of hexadecimal digits, or a dash where there are none
 abbrev pub digits_or_dash : List ℕ → List ℕ
@@ -16,7 +16,7 @@ abbrev pub key_text : RowKey → List ℕ
 key_text key = decimal key.tab ++ codes " " ++ decimal key.a ++ codes " " ++ digits_or_dash key.b
 
 abbrev pub status_of : Ended → ℕ
-status_of Whole = 0
+status_of Succeeded = 0
 status_of (LineNotRun number) = 3
 status_of NoVolume = 4
 status_of VolumeExists = 4
@@ -34,8 +34,9 @@ status_of OutOfMemory = 6
 
 -- the text on standard error, where no word is off
 abbrev pub message_of : Ended → List ℕ
-message_of Whole = []
-message_of (LineNotRun number) = codes "juicevol: line " ++ decimal number ++ codes ": not a script line\n"
+message_of Succeeded = []
+message_of (LineNotRun number) =
+    codes "juicevol: line " ++ decimal number ++ codes ": not a script line\n"
 message_of NoVolume = codes "juicevol: no volume\n"
 message_of VolumeExists = codes "juicevol: volume exists\n"
 message_of (NewerVersion version) = codes "juicevol: version " ++ decimal version ++ codes "\n"

@@ -3,7 +3,7 @@ use Rattle.std.specs.Prelude.{◌≡◌, ℕ, suc, Bool, true, false, List, Opti
 use Rattle.jv_outside.specs.Causes.{RoseIf, RoseTimes}
 use Rattle.jv_outside.specs.Store.{Store}
 use Rattle.jv_cmd.specs.declared.ended.Ended.{Ended}
-use Rattle.jv_cmd.specs.declared.ended.Ended.TheVariants.{Whole, SourceFailed, OutFailed, ClockFailed, KeeperFailed, OutOfMemory}
+use Rattle.jv_cmd.specs.declared.ended.Ended.TheVariants.{Succeeded, SourceFailed, OutFailed, ClockFailed, KeeperFailed, OutOfMemory}
 use Rattle.jv_cmd.specs.Stages.{StageValue}
 use Rattle.jv_cmd.specs.Worlds.{WorldValue}
 
@@ -30,10 +30,12 @@ pub record Counts : Type 0 where
   pub clock : ℕ
 
 abbrev pub in_world : WorldValue → Counts
-in_world world = record { source = world.source.faults; out = world.out.faults; clock = world.clock.faults }
+in_world world =
+    record { source = world.source.faults; out = world.out.faults; clock = world.clock.faults }
 
 abbrev pub on_stage : StageValue → Counts
-on_stage stage = record { source = stage.source.faults; out = stage.out.faults; clock = stage.clock.faults }
+on_stage stage =
+    record { source = stage.source.faults; out = stage.out.faults; clock = stage.clock.faults }
 
 -- the one that ended the command rose, and no other
 pub record CountsFaults (ended : Ended) (before after : Counts) : Type 0 where
@@ -56,13 +58,14 @@ abbrev pub failures_of : Ended → ℕ → ℕ
 failures_of KeeperFailed answers = suc answers
 failures_of _ answers = answers
 
--- where the keeper is opened after a command at a place, and its count of faults, where `answers` operations were answered that it
--- failed
-pub record UsesKeeper (ended : Ended) (answers : ℕ) (place : List ℕ) (before after : Store) : Type 0 where
+-- where the keeper is opened after a command at a place, and its count of faults, where `answers` operations were
+-- answered that it failed
+pub record UsesKeeper (ended : Ended) (answers : ℕ) (place : List ℕ)
+    (before after : Store) : Type 0 where
   pub opened : IsOpened ended place before.opened after.opened
   pub faults : RoseTimes (failures_of ended answers) before.faults after.faults
 
 -- how a part of a command ended, where it goes on after success
 abbrev pub ended_by : {T : Type 0} → Result T Ended → Ended
-ended_by (Ok value) = Whole
+ended_by (Ok value) = Succeeded
 ended_by (Err ended) = ended

@@ -9,7 +9,7 @@ use Rattle.jv_outside.specs.Stream.{HasAll, IsCut}
 use Rattle.jv_outside.specs.Ticks.{Ticks, Passes}
 use Rattle.jv_rows.specs.FreshRows.{fresh_rows}
 use Rattle.jv_cmd.specs.declared.ended.Ended.{Ended}
-use Rattle.jv_cmd.specs.declared.ended.Ended.TheVariants.{Whole, VolumeExists, MalformedSetting, OutFailed, ClockFailed, KeeperFailed, OutOfMemory}
+use Rattle.jv_cmd.specs.declared.ended.Ended.TheVariants.{Succeeded, VolumeExists, MalformedSetting, OutFailed, ClockFailed, KeeperFailed, OutOfMemory}
 use Rattle.jv_cmd.specs.Opening.{SettingRow, IsAbsent, IsSetting, IsMalformed}
 use Rattle.jv_cmd.specs.Worlds.{WorldValue}
 
@@ -17,7 +17,8 @@ abbrev pub formatted_text : Setting → List ℕ
 formatted_text setting = codes "formatted " ++ setting.name ++ 10 ∷ []
 
 -- There was no volume, and the rows of a fresh one were put, at the moment that the clock answered.
-pub record PutsRows (setting : Setting) (rows after : Option RowMap) (answers rest : Option (ℕ → ℕ)) : Type 0 where
+pub record PutsRows (setting : Setting) (rows after : Option RowMap)
+    (answers rest : Option (ℕ → ℕ)) : Type 0 where
   pub absent : SettingRow rows IsAbsent
   pub at : ℕ
   pub moment : IfSome answers (λ known. at ≡ known 0)
@@ -28,24 +29,30 @@ pub record PutsRows (setting : Setting) (rows after : Option RowMap) (answers re
 abbrev pub CannotPut : Option RowMap → Ticks → Ticks → Ended → Type 0
 CannotPut rows before after VolumeExists = SettingRow rows IsSetting × (after ≡ before)
 CannotPut rows before after MalformedSetting = SettingRow rows IsMalformed × (after ≡ before)
-CannotPut rows before after ClockFailed = SettingRow rows IsAbsent × (after.answers ≡ before.answers)
+CannotPut rows before after ClockFailed =
+    SettingRow rows IsAbsent × (after.answers ≡ before.answers)
 CannotPut rows before after KeeperFailed = Unit {0}
 CannotPut rows before after OutOfMemory = Unit {0}
 CannotPut rows before after _ = ⊥
 
 -- rows were put, or not
 abbrev pub PutsVolume : Setting → Store → Store → Ticks → Ticks → Result (Unit {0}) Ended → Type 0
-PutsVolume setting store store' clock clock' (Ok unit) = PutsRows setting store.rows store'.rows clock.answers clock'.answers
-PutsVolume setting store store' clock clock' (Err ended) = CannotPut store.rows clock clock' ended × (store'.rows ≡ store.rows)
+PutsVolume setting store store' clock clock' (Ok unit) =
+    PutsRows setting store.rows store'.rows clock.answers clock'.answers
+PutsVolume setting store store' clock clock' (Err ended) =
+    CannotPut store.rows clock clock' ended × (store'.rows ≡ store.rows)
 
 -- the rows of a fresh volume are there and the text is printed, or no row was put
 abbrev pub FormatEnds : Setting → WorldValue → WorldValue → Ended → Type 0
-FormatEnds setting before after Whole =
-    PutsRows setting before.keeper.rows after.keeper.rows before.clock.answers after.clock.answers × HasAll before.out after.out (formatted_text setting)
+FormatEnds setting before after Succeeded =
+    PutsRows setting before.keeper.rows after.keeper.rows before.clock.answers after.clock.answers
+    × HasAll before.out after.out (formatted_text setting)
 FormatEnds setting before after OutFailed =
-    PutsRows setting before.keeper.rows after.keeper.rows before.clock.answers after.clock.answers × IsCut before.out after.out (formatted_text setting)
+    PutsRows setting before.keeper.rows after.keeper.rows before.clock.answers after.clock.answers
+    × IsCut before.out after.out (formatted_text setting)
 FormatEnds setting before after ended =
-    CannotPut before.keeper.rows before.clock after.clock ended × (after.keeper.rows ≡ before.keeper.rows) × (after.out ≡ before.out)
+    CannotPut before.keeper.rows before.clock after.clock ended
+    × (after.keeper.rows ≡ before.keeper.rows) × (after.out ≡ before.out)
 
 -- format reads no line, and uses none of the devices for blocks
 pub record Formats (setting : Setting) (before after : WorldValue) (ended : Ended) : Type 0 where

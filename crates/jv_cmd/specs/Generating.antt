@@ -1,4 +1,5 @@
--- What a session is whose script is drawn from a seed: one that reads the script's text, but that prints a summary in place of answers.
+-- What a session is whose script is drawn from a seed: one that reads the script's text, but that prints a
+-- summary in place of answers.
 use Rattle.std.specs.Prelude.{◌≡◌, ◌≢◌, ℕ, Bool, false, ◌==◌, if◌then◌else◌, List, [], ◌∷◌, ◌++◌, length, drop, Option, None, Some, unwrap_or, IsSomeAnd, codes, decimal}
 use Rattle.std.specs.List.{flat_map}
 use Rattle.jv_model.specs.declared.fault.Device.{Device}
@@ -20,7 +21,7 @@ use Rattle.jv_generator.specs.Script.{script}
 use Rattle.jv_generator.specs.Summary.{summary_line, totals_of}
 use Rattle.jv_session.specs.Lines.{StaysPut}
 use Rattle.jv_cmd.specs.declared.ended.Ended.{Ended}
-use Rattle.jv_cmd.specs.declared.ended.Ended.TheVariants.{Whole, OutFailed, OutOfMemory}
+use Rattle.jv_cmd.specs.declared.ended.Ended.TheVariants.{Succeeded, OutFailed, OutOfMemory}
 use Rattle.jv_cmd.specs.Ends.{status_of}
 use Rattle.jv_cmd.specs.Faults.{CountsFaults, on_stage}
 use Rattle.jv_cmd.specs.Run.{RunsLines}
@@ -39,7 +40,8 @@ abbrev pub create_words : List ℕ → ℕ → List ℕ
 create_words path mode = codes "create " ++ path ++ 32 ∷ mode_digits mode
 
 abbrev pub read_words : ℕ → ℕ → ℕ → List ℕ
-read_words handle position size = codes "read" ++ number_word handle ++ number_word position ++ number_word size
+read_words handle position size =
+    codes "read" ++ number_word handle ++ number_word position ++ number_word size
 
 abbrev pub write_words : ℕ → ℕ → List ℕ → List ℕ
 write_words handle position bytes =
@@ -97,28 +99,33 @@ summary_of seed said = summary_line (totals_of (replies_said (script seed) (text
 
 -- a stage whose source has these bytes left, and whose out has taken those
 abbrev pub with_streams : Option (List ℕ) → Option (List ℕ) → StageValue → StageValue
-with_streams left taken stage = record stage { source = never_failing left; out = never_failing taken }
+with_streams left taken stage =
+    record stage { source = never_failing left; out = never_failing taken }
 
--- The summary of a whole run was printed, or out failed after a proper prefix of it, or there was no memory for what the lines print or
--- for the summary, and nothing was printed.
+-- The summary of a whole run was printed, or out failed after a proper prefix of it, or there was no memory for what
+-- the lines print or for the summary, and nothing was printed.
 abbrev pub SumsUp : ℕ → Option (List ℕ) → Stream → Stream → Ended → Type 0
-SumsUp seed said before after Whole = IsSomeAnd said (λ text. HasAll before after (summary_of seed text))
-SumsUp seed said before after OutFailed = IsSomeAnd said (λ text. IsCut before after (summary_of seed text))
+SumsUp seed said before after Succeeded =
+    IsSomeAnd said (λ text. HasAll before after (summary_of seed text))
+SumsUp seed said before after OutFailed =
+    IsSomeAnd said (λ text. IsCut before after (summary_of seed text))
 SumsUp seed said before after OutOfMemory = after ≡ before
 SumsUp seed said before after _ = ⊥
 
 -- A run that ended before its last line prints nothing.
 abbrev pub PrintsSummary : ℕ → Option (List ℕ) → Stream → Stream → Ended → Ended → Type 0
-PrintsSummary seed said before after Whole ended = SumsUp seed said before after ended
+PrintsSummary seed said before after Succeeded ended = SumsUp seed said before after ended
 PrintsSummary seed said before after ran ended = (ended ≡ ran) × (after ≡ before)
 
--- The lines ran as those of a source with the script's text, and printed `said` where out would keep it. The source wasn't used.
--- Outside writeback mode none of the lines ends the run.
-pub record RunsDrawn (seed : ℕ) (answers : Device → ℕ) (before after : StageValue) (ended : Ended) : Type 0 where
+-- The lines ran as those of a source with the script's text, and printed `said` where out would keep it. The source
+-- wasn't used. Outside writeback mode none of the lines ends the run.
+pub record RunsDrawn (seed : ℕ) (answers : Device → ℕ) (before after : StageValue)
+    (ended : Ended) : Type 0 where
   pub ran : Ended
   pub left : Option (List ℕ)
   pub said : Option (List ℕ)
-  pub runs : RunsLines answers (with_streams (Some (script_text seed)) (Some []) before) (with_streams left said after) ran
+  pub runs : RunsLines answers (with_streams (Some (script_text seed)) (Some []) before)
+      (with_streams left said after) ran
   pub prints : PrintsSummary seed said before.out after.out ran ended
   pub source : after.source ≡ before.source
   pub none_off : before.limits.writeback ≡ false → status_of ended ≢ 3
@@ -134,4 +141,6 @@ pub record EndsScript (seed : Option ℕ) (before after : StageValue) (ended : E
   pub runs : RunsScript seed answers before after ended
   pub faults : CountsFaults ended (on_stage before) (on_stage after)
   pub stays : StaysPut before.devices after.devices
-  pub counts : (device : Device) → RoseTimes (answers device) (faults_of device before.devices) (faults_of device after.devices)
+  pub counts : (device : Device)
+      → RoseTimes (answers device) (faults_of device before.devices)
+      (faults_of device after.devices)

@@ -32,7 +32,8 @@ IsSetting stored = IsSomeAnd stored (λ bytes. IsSome (setting_of bytes))
 
 -- it spells a setting of this version
 abbrev pub HasVersion : ℕ → Option (List ℕ) → Type 0
-HasVersion version stored = IsSomeAnd stored (λ bytes. IsSomeAnd (setting_of bytes) (λ setting. setting.version ≡ version))
+HasVersion version stored =
+    IsSomeAnd stored (λ bytes. IsSomeAnd (setting_of bytes) (λ setting. setting.version ≡ version))
 
 -- why the setting wasn't read
 abbrev pub CannotRead : Option RowMap → Ended → Type 0
@@ -47,7 +48,8 @@ IsStored rows None = SettingRow rows IsAbsent
 IsStored rows (Some setting) = SettingRow rows (Spells setting)
 
 -- the keeper was opened, and the setting read; the rows are the same
-pub record ReadsSetting (place : List ℕ) (before after : Store) (result : Result (Option Setting) Ended) : Type 0 where
+pub record ReadsSetting (place : List ℕ) (before after : Store)
+    (result : Result (Option Setting) Ended) : Type 0 where
   pub rows_are : after.rows ≡ before.rows
   pub keeper : UsesKeeper (ended_by result) 0 place before after
   pub found : IfOk result (IsStored before.rows)
@@ -57,7 +59,8 @@ pub record ReadsSetting (place : List ℕ) (before after : Store) (result : Resu
 -- why there is no volume to run a session on
 abbrev pub CannotOpen : Option RowMap → Ended → Type 0
 CannotOpen rows NoVolume = SettingRow rows IsAbsent
-CannotOpen rows (NewerVersion version) = (ROWS_VERSION < version) × SettingRow rows (HasVersion version)
+CannotOpen rows (NewerVersion version) =
+    (ROWS_VERSION < version) × SettingRow rows (HasVersion version)
 CannotOpen rows ended = CannotRead rows ended
 
 -- a setting of the version that is known
@@ -66,7 +69,8 @@ pub record IsKnown (rows : Option RowMap) (setting : Setting) : Type 0 where
   pub version : setting.version ≡ ROWS_VERSION
 
 -- the volume's setting was read, or there is no volume to run a session on; the rows are the same
-pub record OpensVolume (place : List ℕ) (before after : Store) (result : Result Setting Ended) : Type 0 where
+pub record OpensVolume (place : List ℕ) (before after : Store)
+    (result : Result Setting Ended) : Type 0 where
   pub rows_are : after.rows ≡ before.rows
   pub keeper : UsesKeeper (ended_by result) 0 place before after
   pub ok : IfOk result (IsKnown before.rows)

@@ -44,14 +44,15 @@ pub record Beginning : Type 0 where
 -- The tree of the rows, whose files have the bytes of the depot's blocks. No byte is on a shelf alone.
 abbrev pub start_of : Beginning → Start
 start_of start = record {
-  tree = tree_with (known_by start.setting.block (blocks_in start.setting start.objects)) (typed start.rows);
+  tree = tree_with (known_by start.setting.block (blocks_in start.setting start.objects))
+      (typed start.rows);
   shelved = λ inode position. [];
   next_slice = next_slice (typed start.rows);
   records = record_count (typed start.rows);
 }
 
--- The rows, the depot and the shelf are known, and a session may begin on them: the rows are whole, the depot has each block of
--- their slices, copies of one name are alike, and no block is of a slice that is still to get its number.
+-- The rows, the depot and the shelf are known, and a session may begin on them: the rows are whole, the depot has each
+-- block of their slices, copies of one name are alike, and no block is of a slice that is still to get its number.
 pub record StartsWhole (before : StageValue) (start : Beginning) : Type 0 where
   pub limits : start.limits ≡ before.limits
   pub setting : start.setting ≡ before.devices.yard.setting
@@ -59,7 +60,8 @@ pub record StartsWhole (before : StageValue) (start : Beginning) : Type 0 where
   pub objects : before.devices.yard.depot.content ≡ Some start.objects
   pub fresh : IsFresh before.devices
 
--- Rows, depot and shelf are known, and the volume in them is whole, with all blocks of its files, and stands for this tree.
+-- Rows, depot and shelf are known, and the volume in them is whole, with all blocks of its files, and
+-- stands for this tree.
 pub record Leaves (devices : Shared) (t : Tree) : Type 0 where
   pub known : Known
   pub store : HasStore t known devices
@@ -86,8 +88,10 @@ IsKnownClock (Some answers) before after = (before.answers ≡ Some answers) × 
 pub record BeginWith (bytes : Option (List ℕ)) (texts : List (List ℕ)) : Type 0 where
   pub known : IfSome bytes (λ all. (more : List (List ℕ)) × (texts_of all ≡ texts ++ more))
 
--- the texts are the first ones of the source, they are lines of the grammar, at most `MAX_LINES` of them, and none is longer than `MAX_LINE` bytes
-pub record AreLines (bytes : Option (List ℕ)) (texts : List (List ℕ)) (lines : List Line) : Type 0 where
+-- the texts are the first ones of the source, they are lines of the grammar, at most `MAX_LINES` of them, and none is
+-- longer than `MAX_LINE` bytes
+pub record AreLines (bytes : Option (List ℕ)) (texts : List (List ℕ))
+    (lines : List Line) : Type 0 where
   pub first : BeginWith bytes texts
   pub each : map line_of texts ≡ map Some lines
   pub few : length lines ≤ MAX_LINES
@@ -106,10 +110,12 @@ pub data IsNotRun (limits : Limits) (number : ℕ) (text : List ℕ) : Type 0 wh
   OneTooMany : MAX_LINES < number → IsNotRun limits number text
   TooLong : MAX_LINE < length text → IsNotRun limits number text
   Malformed : line_of text ≡ None → IsNotRun limits number text
-  NotBuilt : (line : Line) → line_of text ≡ Some line → is_built_line limits line ≡ false → IsNotRun limits number text
+  NotBuilt : (line : Line) → line_of text ≡ Some line → is_built_line limits line ≡ false
+      → IsNotRun limits number text
 
 -- the line after those that were run is off
-pub record StopsAt (before : StageValue) (texts : List (List ℕ)) (lines : List Line) (number : ℕ) : Type 0 where
+pub record StopsAt (before : StageValue) (texts : List (List ℕ)) (lines : List Line)
+    (number : ℕ) : Type 0 where
   pub after_lines : number ≡ length lines + 1
   pub text : List ℕ
   pub next : BeginWith before.source.content (texts ++ text ∷ [])
@@ -122,7 +128,8 @@ pub record StopsAtRow (before after : StageValue) (key : RowKey) (bytes : List �
 
 -- the cause of each end, where these lines were run
 abbrev pub EndsBy : Ended → StageValue → StageValue → List (List ℕ) → List Line → Type 0
-EndsBy ended.Whole before after texts lines = IfSome before.source.content (λ all. texts_of all ≡ texts)
+EndsBy ended.Succeeded before after texts lines =
+    IfSome before.source.content (λ all. texts_of all ≡ texts)
 EndsBy (LineNotRun number) before after texts lines = StopsAt before texts lines number
 EndsBy (BadRow key bytes) before after texts lines = StopsAtRow before after key bytes
 EndsBy SourceFailed before after texts lines = Unit {0}
@@ -133,53 +140,73 @@ EndsBy _ before after texts lines = ⊥
 
 -- what lines print, by their entries of the journal
 abbrev pub printed_by : Beginning → Option (ℕ → ℕ) → List Line → Ended → List Act → List ℕ
-printed_by start known lines ended journal = text_of (session_run start known lines (status_of ended)) journal
+printed_by start known lines ended journal =
+    text_of (session_run start known lines (status_of ended)) journal
 
 -- The last line's text was cut: out has gained the text of the lines before it, and a proper prefix of its own.
-pub record PrintsPart (start : Beginning) (known : Option (ℕ → ℕ)) (before after : StageValue) (lines : List Line) : Type 0 where
+pub record PrintsPart (start : Beginning) (known : Option (ℕ → ℕ)) (before after : StageValue)
+    (lines : List Line) : Type 0 where
   pub earlier : List Line
   pub last : Line
   pub said : List ℕ
   pub count : ℕ
   pub are_lines : lines ≡ earlier ++ last ∷ []
-  pub text : printed_by start known lines OutFailed after.journal ≡ printed_by start known earlier OutFailed (up_to (length earlier) after.journal) ++ said
+  pub text : printed_by start known lines OutFailed after.journal
+      ≡ printed_by start known earlier OutFailed (up_to (length earlier) after.journal) ++ said
   pub proper : count < length said
-  pub gains : Gains before.out.content after.out.content (printed_by start known earlier OutFailed (up_to (length earlier) after.journal) ++ take count said)
+  pub gains : Gains before.out.content after.out.content
+      (printed_by start known earlier OutFailed (up_to (length earlier) after.journal)
+      ++ take count said)
 
 -- what the lines before the last one print
 abbrev pub printed_before_last : Beginning → Option (ℕ → ℕ) → List Line → Ended → List Act → List ℕ
-printed_before_last start known lines ended journal = (at_end (session_run start known lines (status_of ended)) journal).printed
+printed_before_last start known lines ended journal =
+    (at_end (session_run start known lines (status_of ended)) journal).printed
 
 -- Memory ran out before a line was run, or on the last line, which was cut off and prints nothing.
-pub data PrintsUntil (start : Beginning) (known : Option (ℕ → ℕ)) (before after : StageValue) (lines : List Line) : Type 0 where
-  AllLines : Gains before.out.content after.out.content (printed_by start known lines OutOfMemory after.journal) → PrintsUntil start known before after lines
-  AllButLast : Gains before.out.content after.out.content (printed_before_last start known lines OutOfMemory after.journal) → PrintsUntil start known before after lines
+pub data PrintsUntil (start : Beginning) (known : Option (ℕ → ℕ)) (before after : StageValue)
+    (lines : List Line) : Type 0 where
+  AllLines : Gains before.out.content after.out.content
+      (printed_by start known lines OutOfMemory after.journal)
+      → PrintsUntil start known before after lines
+  AllButLast : Gains before.out.content after.out.content
+      (printed_before_last start known lines OutOfMemory after.journal)
+      → PrintsUntil start known before after lines
 
--- Out has gained the text of the lines. Where out failed, it has gained a part of it; where the clock failed, or memory ran
--- out, on a line, that of the lines before it.
-abbrev pub Prints : Ended → Beginning → Option (ℕ → ℕ) → StageValue → StageValue → List Line → Type 0
+-- Out has gained the text of the lines. Where out failed, it has gained a part of it; where the clock failed, or memory
+-- ran out, on a line, that of the lines before it.
+abbrev pub Prints : Ended → Beginning → Option (ℕ → ℕ) → StageValue → StageValue → List Line
+    → Type 0
 Prints OutFailed start known before after lines = PrintsPart start known before after lines
-Prints ClockFailed start known before after lines = Gains before.out.content after.out.content (printed_before_last start known lines ClockFailed after.journal)
+Prints ClockFailed start known before after lines =
+    Gains before.out.content after.out.content
+    (printed_before_last start known lines ClockFailed after.journal)
 Prints OutOfMemory start known before after lines = PrintsUntil start known before after lines
-Prints ended start known before after lines = Gains before.out.content after.out.content (printed_by start known lines ended after.journal)
+Prints ended start known before after lines =
+    Gains before.out.content after.out.content (printed_by start known lines ended after.journal)
 
--- The outcome of a run over a whole volume: the journal is legal for one POSIX tree, the lines' text was printed, and the volume left is
--- whole and has the tree reached. Each block that the depot had is there, with its bytes.
-pub record RunsWhole (start : Beginning) (known : Option (ℕ → ℕ)) (before after : StageValue) (ended : Ended) (lines : List Line) : Type 0
+-- The outcome of a run over a whole volume: the journal is legal for one POSIX tree, the lines' text was printed, and
+-- the volume left is whole and has the tree reached. Each block that the depot had is there, with its bytes.
+pub record RunsWhole (start : Beginning) (known : Option (ℕ → ℕ)) (before after : StageValue)
+    (ended : Ended) (lines : List Line) : Type 0
   where
     pub legal : Legal (session_run start known lines (status_of ended)) after.journal
     pub printed : Prints ended start known before after lines
     pub kept : BlocksStay before.devices after.devices
-    pub leaves : Leaves after.devices (at_end (session_run start known lines (status_of ended)) after.journal).state.tree
+    pub leaves : Leaves after.devices
+        (at_end (session_run start known lines (status_of ended)) after.journal).state.tree
 
--- The lines that were run: those before the end and, where out or the clock failed, a row was Bad, or memory ran out on a line, that
--- line as the last one, which may be cut off then. Each is built. Whatever the rows are, `answers` is how many entries answer that a device failed.
-pub record RunsLines (answers : Device → ℕ) (before after : StageValue) (ended : Ended) : Type 0 where
+-- The lines that were run: those before the end and, where out or the clock failed, a row was Bad, or memory ran out on
+-- a line, that line as the last one, which may be cut off then. Each is built. Whatever the rows are, `answers` is how
+-- many entries answer that a device failed.
+pub record RunsLines (answers : Device → ℕ) (before after : StageValue)
+    (ended : Ended) : Type 0 where
   pub texts : List (List ℕ)
   pub lines : List Line
   pub read : AreLines before.source.content texts lines
   pub built : All (IsBuilt before.limits) lines
   pub cause : EndsBy ended before after texts lines
   pub counted : AreFailures after.journal answers
-  pub whole : (start : Beginning) (known : Option (ℕ → ℕ)) → StartsWhole before start → IsKnownClock known before.clock after.clock
+  pub whole : (start : Beginning) (known : Option (ℕ → ℕ)) → StartsWhole before start
+      → IsKnownClock known before.clock after.clock
       → RunsWhole start known before after ended lines

@@ -1,5 +1,6 @@
 -- What standard error gains.
-use Rattle.std.specs.Prelude.{◌≡◌, List, [], ◌∷◌, ◌++◌, ℕ}
+use Rattle.std.specs.Prelude.{◌≡◌, List, ℕ}
+use Rattle.jv_model.specs.script.ReplyText.{with_feed}
 use Rattle.jv_outside.specs.Stream.{Stream, HasAll, IsCut}
 
 -- a whole text was written, or a proper prefix, where standard error failed
@@ -10,4 +11,4 @@ pub data Says (before after : Stream) (text : List ℕ) : Type 0 where
 -- the last byte is a line feed
 pub record EndsInFeed (text : List ℕ) : Type 0 where
   pub line : List ℕ
-  pub is : text ≡ line ++ 10 ∷ []
+  pub is : text ≡ with_feed line

@@ -25,8 +25,14 @@ pub record StageValue : Type 0 where
   pub journal : List Act
 
 abbrev pub stage_value : Limits → Stream → Stream → Shared → Ticks → List Act → StageValue
-stage_value limits source out devices clock journal =
-    record { limits = limits; source = source; out = out; devices = devices; clock = clock; journal = journal }
+stage_value limits source out devices clock journal = record {
+  limits = limits;
+  source = source;
+  out = out;
+  devices = devices;
+  clock = clock;
+  journal = journal;
+}
 
 -- a device that holds something, of which nothing is known
 abbrev pub unseen : {M : Type 0} → Holding M
@@ -43,12 +49,15 @@ given_by found see = option_map see found
 
 -- a world whose depot and shelf are in this yard
 abbrev pub staged : Limits → YardValue → WorldValue → StageValue
-staged limits yard world = stage_value limits world.source world.out (shared world.keeper yard world.blocks.carrier) world.clock world.journal
+staged limits yard world =
+    stage_value limits world.source world.out (shared world.keeper yard world.blocks.carrier)
+    world.clock world.journal
 
 -- the world with this standard error, where depot and shelf are out of the yard again
 abbrev pub world_of : Stream → StageValue → WorldValue
 world_of err stage = world_value stage.source stage.out err stage.devices.keeper
-    (block_devices stage.devices.yard.depot stage.devices.yard.shelf stage.devices.carrier) stage.clock stage.journal
+    (block_devices stage.devices.yard.depot stage.devices.yard.shelf stage.devices.carrier)
+    stage.clock stage.journal
 
 -- a yard that was just started, for a volume of this setting
 pub record IsFirst (setting : Setting) (yard : YardValue) : Type 0 where

@@ -12,4 +12,5 @@ has_feed = list_any is_feed
 -- may lack; nothing after the last line feed is no line.
 abbrev pub texts_of : List ℕ → List (List ℕ)
 texts_of [] = []
-texts_of (byte ∷ bytes) = if is_feed byte then [] ∷ texts_of bytes else onto_first byte (texts_of bytes)
+texts_of (byte ∷ bytes) =
+    if is_feed byte then [] ∷ texts_of bytes else onto_first byte (texts_of bytes)

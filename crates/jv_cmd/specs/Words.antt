@@ -37,7 +37,8 @@ is_given id rows = has_text id (codes "true") rows
 
 -- objects lie in files, and blocks aren't compressed
 abbrev pub is_built_store : List Row → Bool
-is_built_store rows = has_text (codes "storage") (codes "file") rows && has_text (codes "compress") (codes "none") rows
+is_built_store rows = has_text (codes "storage") (codes "file") rows
+    && has_text (codes "compress") (codes "none") rows
 
 -- the setting, where rows may have it
 abbrev pub where_allowed : Setting → Option Setting
@@ -51,7 +52,16 @@ setting_fields_in rows = do
   days ← value_in (number_within 0 MAX_TRASH_DAYS) (codes "trash-days") rows
   name ← first_of (codes "name") rows
   bucket ← first_of (codes "bucket") rows
-  Some (record { version = ROWS_VERSION; block = block; trash_days = days; capacity = capacity; inodes = inodes; hash = if is_given (codes "hash-prefix") rows then 1 else 0; name = name; bucket = bucket })
+  Some (record {
+    version = ROWS_VERSION;
+    block = block;
+    trash_days = days;
+    capacity = capacity;
+    inodes = inodes;
+    hash = if is_given (codes "hash-prefix") rows then 1 else 0;
+    name = name;
+    bucket = bucket;
+  })
 
 unfoldable pub stored_setting_in : List Row → Option Setting
 stored_setting_in rows = setting_fields_in rows >>= where_allowed
@@ -72,7 +82,14 @@ options_in rows = do
   uploads ← value_in (number_within 0 MAX_UPLOADS) (codes "max-uploads") rows
   folder ← first_of (codes "cache-dir") rows
   generate ← seed_of (first_of (codes "generate") rows)
-  Some (record { cache = cache; buffer = buffer; uploads = uploads; writeback = is_given (codes "writeback") rows; cache_dir = folder; generate = generate })
+  Some (record {
+    cache = cache;
+    buffer = buffer;
+    uploads = uploads;
+    writeback = is_given (codes "writeback") rows;
+    cache_dir = folder;
+    generate = generate;
+  })
 
 unfoldable pub format_in : List Row → Option Command
 format_in rows = do
@@ -119,17 +136,19 @@ Reads (Err bad.Memory) meant = Unit {0}
 
 -- the words of a parse: where `clap` finds no fault, the command is the one that it stopped at
 abbrev pub Parses : List Text → Result ArgMatches WordsFault → Type 0
-Parses words (Ok matches) = (fault_of program_app words ≡ []) × (subcommand_rows_of matches ≡ subcommand_of program_app words)
-Parses words (Err (Refused text)) = (fault_of program_app words ≢ []) × EndsInFeed (string_bytes text)
+Parses words (Ok matches) = (fault_of program_app words ≡ [])
+    × (subcommand_rows_of matches ≡ subcommand_of program_app words)
+Parses words (Err (Refused text)) =
+    (fault_of program_app words ≢ []) × EndsInFeed (string_bytes text)
 Parses words (Err Memory) = Unit {0}
 
 -- a text for words that are refused: the program's own where `clap` finds no fault in them
-pub record IsRefusal (words : List Text) (text : Text) : Type 0 where
+pub record IsRefusalText (words : List Text) (text : Text) : Type 0 where
   pub own : fault_of program_app words ≡ [] → text ≡ refused_text
   pub ends : EndsInFeed text
 
 abbrev pub Refuses : List Text → WordsFault → Type 0
-Refuses words (Refused text) = IsRefusal words (string_bytes text)
+Refuses words (Refused text) = IsRefusalText words (string_bytes text)
 Refuses words Memory = Unit {0}
 
 -- the text of a refusal, if it has one, ends with a line feed

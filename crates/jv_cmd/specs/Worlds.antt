@@ -27,8 +27,17 @@ pub record WorldValue : Type 0 where
   pub clock : Ticks
   pub journal : List Act
 
-abbrev pub world_value : Stream → Stream → Stream → Store → BlockDevices → Ticks → List Act → WorldValue
-world_value source out err keeper blocks clock journal = record { source = source; out = out; err = err; keeper = keeper; blocks = blocks; clock = clock; journal = journal }
+abbrev pub world_value : Stream → Stream → Stream → Store → BlockDevices → Ticks → List Act
+    → WorldValue
+world_value source out err keeper blocks clock journal = record {
+  source = source;
+  out = out;
+  err = err;
+  keeper = keeper;
+  blocks = blocks;
+  clock = clock;
+  journal = journal;
+}
 
 -- with an emptied journal
 abbrev pub emptied : WorldValue → WorldValue

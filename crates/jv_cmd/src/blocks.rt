@@ -27,7 +27,7 @@ fn attach_carrier(carrier: &mut Box<dyn Carrier>, place: &Text) -> Result<(), Do
 }
 
 /// Opens the depot at a bucket, then the carrier there, and then the shelf at a folder. The first one that isn't opened
-/// ends it, and those after it aren't called.
+/// ends it, and those after it are as they were.
 pub(crate) fn attach_all<D: Depot, H: Shelf>(
     bucket: &Text,
     folder: &Text,

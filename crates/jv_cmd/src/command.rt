@@ -23,27 +23,30 @@ use jv_outside::{Clock, Depot, Keeper, Shelf, Sink, Source};
 use jv_yard::{Alone, Yard, YardDoor};
 use std::alloc::Global;
 
+/// The exit status if the words are refused.
+const WORDS_REFUSED: u8 = 2;
+
 /// Runs the command that the words are, over the devices of the world, with an emptied journal. JuiceFS, Command
 /// Reference: `format`, `mount`.
 ///
-/// `format` puts the rows of a fresh volume where the keeper has none, in one commit, and prints its name. `session`
-/// runs the script of the source over the rows of the volume, with the bytes of files in blocks of the depot, and
-/// prints an answer for each line that has one.
+/// `format` puts the rows of a fresh volume where the keeper has none, and prints its name. `session` runs the script
+/// of the source over the rows of the volume, with the bytes of files in blocks of the depot, and prints an answer for
+/// each line that has one.
 ///
 /// Once a session has read the volume's setting, it opens the depot and then the carrier at the setting's bucket, and
 /// then the shelf at the folder of `--cache-dir`. The first of them that isn't opened ends the run before its first
-/// line, and those after it aren't called. Then it lists the blocks on the shelf, and ends before its first line where
-/// that fails. `format` calls none of them. No command changes the blocks on the shelf.
+/// line, and those after it are as they were. Then it lists the blocks on the shelf, and ends before its first line
+/// where that fails. `format` leaves all three as they were. No command changes the blocks on the shelf.
 ///
 /// The status is 0 if the command did its work: every line of the source was run, or the volume is formatted. It is 2
 /// if the words are refused, 3 if the next line isn't run (a drawn script has no such line), 4 if there is no volume
 /// for a session, or one for `format`, or the row of its setting is of a later version, or a row that is read is
-/// malformed or names one that isn't there, 5 if a device failed, and 6 if the process is out of memory. A device that
-/// fails inside an operation of a script is answered `EIO`. Standard error has a text for each but the first, which
-/// ends with a line feed. Nothing after the end of the run is done, and everything before it is done, printed and in
-/// the journal. Where the clock fails or memory runs out on a line, the steps that the line made are in the journal,
-/// and it prints nothing. Apart from such answers, a device's count of faults rises only with status 5, by that device,
-/// and standard error's own faults are passed over.
+/// malformed, or names one that isn't there, or is absent where each volume has one, 5 if a device failed, and 6 if the
+/// process is out of memory. A device that fails inside an operation of a script is answered `EIO`. Standard error has
+/// a text for each but the first, which ends with a line feed. Nothing after the end of the run is done, and everything
+/// before it is done, printed and in the journal. Where the clock fails or memory runs out on a line, the steps that
+/// the line made are in the journal, and it prints nothing. Apart from such answers, a device's count of faults rises
+/// only with status 5, by that device, and standard error's own faults are passed over.
 pub fn run<S: Source, O: Sink, E: Sink, K: Keeper, D: Depot, H: Shelf, C: Clock>(
     alloc: Global,
     words: &[String],
@@ -63,7 +66,8 @@ pub fn run<S: Source, O: Sink, E: Sink, K: Keeper, D: Depot, H: Shelf, C: Clock>
         }
         Err(WordsFault::Refused(text)) => {
             say(text.as_bytes(), &mut world.err);
-            Finish { status: 2, world }
+            let status = WORDS_REFUSED;
+            Finish { status, world }
         }
         Err(WordsFault::Memory) => {
             report(&Ended::OutOfMemory, &mut world.err);

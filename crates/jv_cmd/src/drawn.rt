@@ -1,5 +1,5 @@
-//! Sessions whose script is drawn from a seed. The lines run as those of a source that has the script's text, over an out
-//! that keeps what they print, and their summary goes to the session's own out.
+//! Sessions whose script is drawn from a seed. The lines run as those of a source that has the script's text, over an
+//! out that keeps what they print, and their summary goes to the session's own out.
 ghost use Rattle.std.specs.Prelude.{◌≡◌, ◌≤◌, ◌++◌, ◌∷◌, [], codes, drop, IfOk, IsSome, IsSomeAnd, MatchOption, OnOk, Some};
 ghost use Rattle.jv_model.specs.declared.limits.TheConstants.{MAX_DATA};
 ghost use Rattle.jv_model.specs.script.Printed.{number_word};
@@ -260,7 +260,7 @@ fn sum_up<O: Sink>(alloc: Global, seed: u64, said: &NeverSink, out: &mut O) -> E
         return Ended::OutOfMemory;
     };
     match write_whole(out, line.as_slice()) {
-        Ok(()) => Ended::Whole,
+        Ok(()) => Ended::Succeeded,
         Err(_) => Ended::OutFailed,
     }
 }
@@ -276,13 +276,13 @@ fn print_summary<O: Sink>(
     ensures { PrintsSummary seed said.now (O.seen out.old) (O.seen out.new) ran result }
 {
     match ran {
-        Ended::Whole => sum_up(alloc, seed, said, out),
+        Ended::Succeeded => sum_up(alloc, seed, said, out),
         _ => ran,
     }
 }
 
-/// Runs the script of a seed over the rows of the keeper and the blocks of a yard that was just started, whose setting this
-/// is.
+/// Runs the script of a seed over the rows of the keeper and the blocks of a yard that was just started, whose setting
+/// this is.
 pub(crate) fn run_drawn<S: Source, O: Sink, K: Keeper, D: Depot, H: Shelf, C: Clock>(
     alloc: Global,
     seed: u64,

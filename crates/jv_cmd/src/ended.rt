@@ -14,7 +14,7 @@ use jv_script::hex_pair;
 #[derive(Debug, Drop, PartialEq, Eq)]
 pub(crate) enum Ended {
     /// The command did its work; a session ran all lines of the source.
-    Whole,
+    Succeeded,
     /// The line of this number, from 1, isn't run.
     LineNotRun(u32),
     /// The keeper has no row of a setting.
@@ -25,7 +25,8 @@ pub(crate) enum Ended {
     NewerVersion(u32),
     /// The row of the setting is malformed.
     MalformedSetting,
-    /// The row at this key, which has these bytes, is malformed, or names one that isn't there.
+    /// The row at this key, which has these bytes, is malformed, or names one that isn't there, or is absent where each
+    /// volume has one, and then without bytes.
     BadRow(RowKey, Bytes),
     SourceFailed,
     OutFailed,
@@ -44,7 +45,7 @@ impl Ended {
         ensures { result ≡ status_of self.now }
     {
         match self {
-            Ended::Whole => 0,
+            Ended::Succeeded => 0,
             Ended::LineNotRun(_) => 3,
             Ended::NoVolume
             | Ended::VolumeExists
@@ -63,7 +64,7 @@ pub(crate) fn report<E: Sink>(ended: &Ended, err: &mut E)
     ensures { Says (E.seen err.old) (E.seen err.new) (message_of ended.now) }
 {
     match ended {
-        Ended::Whole => {}
+        Ended::Succeeded => {}
         Ended::LineNotRun(number) => say_number(
             b"juicevol: line ",
             *number,

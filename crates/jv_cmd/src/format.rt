@@ -77,7 +77,7 @@ pub(crate) fn run_format<S: Source, O: Sink, E: Sink, K: Keeper, D: Depot, H: Sh
         return ended;
     }
     match write_whole(&mut world.out, text.as_slice()) {
-        Ok(()) => Ended::Whole,
+        Ok(()) => Ended::Succeeded,
         Err(_) => Ended::OutFailed,
     }
 }

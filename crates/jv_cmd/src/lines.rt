@@ -6,7 +6,7 @@ ghost use Rattle.jv_client.specs.Built.{is_built_line};
 ghost use Rattle.jv_session.specs.Lines.{LineRuns};
 ghost use Rattle.jv_session.specs.Stands.{IsYardOf};
 ghost use Rattle.jv_cmd.specs.Generating.{EndsScript};
-ghost use Rattle.jv_cmd.specs.Steps.{TextReads, LineEnds, TextEnds, Going, Turns, used};
+ghost use Rattle.jv_cmd.specs.Steps.{TextReads, LineEnds, TextEnds, Going, NextLine, used};
 ghost use Rattle.jv_cmd.specs.Stages.{IsFirst, StageValue};
 
 use crate::ended::Ended;
@@ -128,7 +128,7 @@ fn run_text<S: Source, O: Sink, K: Keeper, D: Depot, H: Shelf, C: Clock>(
 }
 
 /// Runs the line after `done` others.
-fn turn<S: Source, O: Sink, K: Keeper, D: Depot, H: Shelf, C: Clock>(
+fn run_next<S: Source, O: Sink, K: Keeper, D: Depot, H: Shelf, C: Clock>(
     alloc: Global,
     done: u32,
     reader: &mut LineReader,
@@ -138,12 +138,12 @@ fn turn<S: Source, O: Sink, K: Keeper, D: Depot, H: Shelf, C: Clock>(
     requires few { done ≤ MAX_LINES }
     requires yard { let given = ⟦<Alone<D, H> as YardDoor<D, H>>⟧.given in
         IsSomeAnd (given stage.old.door) (IsYardOf schedule.old) }
-    ensures turns { let seen = ⟦<RunStage<S, O, K, D, H, C> as ObservedStage>⟧.seen in
+    ensures runs { let seen = ⟦<RunStage<S, O, K, D, H, C> as ObservedStage>⟧.seen in
         (before : StageValue)
         → Going (prepend_known reader.old (seen stage.old).source.content) before (seen stage.old)
         done schedule.old
-        → Turns (prepend_known reader.new (seen stage.new).source.content) before (seen stage.new)
-        done schedule.new result }
+        → NextLine (prepend_known reader.new (seen stage.new).source.content) before
+        (seen stage.new) done schedule.new result }
     ensures more { OnOk result (done < MAX_LINES) }
     ensures yard { let given = ⟦<Alone<D, H> as YardDoor<D, H>>⟧.given in
         IsSomeAnd (given stage.new.door) (IsYardOf schedule.new) }
@@ -158,7 +158,7 @@ fn turn<S: Source, O: Sink, K: Keeper, D: Depot, H: Shelf, C: Clock>(
             ran
         }
         Ok(Next::TooLong) => Err(Ended::LineNotRun(done + 1)),
-        Ok(Next::End) => Err(Ended::Whole),
+        Ok(Next::End) => Err(Ended::Succeeded),
         Err(_) => Err(Ended::SourceFailed),
     }
 }
@@ -182,15 +182,15 @@ fn run_lines<S: Source, O: Sink, K: Keeper, D: Depot, H: Shelf, C: Clock>(
 {
     let mut done = 0;
     'lines: loop {
-        match turn(alloc, done, reader, schedule, stage) {
+        match run_next(alloc, done, reader, schedule, stage) {
             Ok(()) => done += 1,
             Err(ended) => return ended,
         }
     }
 }
 
-/// Runs the script of the source over the rows of the keeper and the blocks of a yard that was just started, whose setting
-/// this is.
+/// Runs the script of the source over the rows of the keeper and the blocks of a yard that was just started, whose
+/// setting this is.
 pub(crate) fn run_script<S: Source, O: Sink, K: Keeper, D: Depot, H: Shelf, C: Clock>(
     alloc: Global,
     setting: Setting,

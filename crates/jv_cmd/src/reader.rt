@@ -154,8 +154,8 @@ impl LineReader {
     }
 }
 
-/// Makes room behind the bytes between two places if there is none, and returns their places: they are moved to the front,
-/// or where they stand there already, the buffer takes all of its room.
+/// Makes room behind the bytes between two places if there is none, and returns their places: they are moved to the
+/// front, or where they stand there already, the buffer takes all of its room.
 fn make_room(buffer: &mut Vec<u8>, start: usize, end: usize) -> (usize, usize)
     requires order { start ≤ end }
     requires within { end ≤ vec_len buffer.old }

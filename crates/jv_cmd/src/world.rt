@@ -16,9 +16,11 @@ pub struct World<S, O, E, K, D, H, C> {
     pub depot: D,
     /// The local disk of blocks that aren't in the object store yet.
     pub shelf: H,
+    /// What answers the moments.
     pub clock: C,
     /// What sends blocks on their way to the depot.
     pub carrier: Box<dyn Carrier>,
+    /// The entries of the run; emptied at its start.
     pub journal: Journal,
 }
 
@@ -27,6 +29,7 @@ pub struct World<S, O, E, K, D, H, C> {
 pub struct Finish<S, O, E, K, D, H, C> {
     /// The exit status.
     pub status: u8,
+    /// What is left of the devices.
     pub world: World<S, O, E, K, D, H, C>,
 }
 

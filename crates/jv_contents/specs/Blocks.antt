@@ -18,7 +18,8 @@ Grows before after = (b : BlockId) (bytes : List ℕ) → before b ≡ Some byte
 
 -- the bytes that slices have by blocks of this length
 abbrev pub known_by : ℕ → Blocks → KnownBytes
-known_by block blocks id size at = slice_index (unwrap_or (blocks (block_at id size block (at / block))) []) (at % block)
+known_by block blocks id size at =
+    slice_index (unwrap_or (blocks (block_at id size block (at / block))) []) (at % block)
 
 -- a block is there, and has the length of its name
 pub record IsThere (blocks : Blocks) (b : BlockId) : Type 0 where
@@ -29,11 +30,13 @@ pub record IsThere (blocks : Blocks) (b : BlockId) : Type 0 where
 -- each block of each slice that has a row is there
 abbrev pub HasBlocks : ℕ → Rows → Blocks → Type 0
 HasBlocks block rows blocks = (id : ℕ) (slice : SliceRow) → slice_row_at rows id ≡ Some slice
-    → (index : ℕ) → index < block_count slice.size block → IsThere blocks (block_at id slice.size block index)
+    → (index : ℕ) → index < block_count slice.size block
+    → IsThere blocks (block_at id slice.size block index)
 
 -- no block is of a slice whose number is still to be given
 abbrev pub AreBelow : Rows → Blocks → Type 0
-AreBelow rows blocks = (b : BlockId) (bytes : List ℕ) → blocks b ≡ Some bytes → b.id < next_slice rows
+AreBelow rows blocks =
+    (b : BlockId) (bytes : List ℕ) → blocks b ≡ Some bytes → b.id < next_slice rows
 
 -- a block is put there, and others stay
 pub record IsPut (b : BlockId) (bytes : List ℕ) (before after : Blocks) : Type 0 where

@@ -19,7 +19,8 @@ spot_byte known_bytes (Slice id size at) = known_bytes id size at
 
 -- the bytes that rows have, by inode and position
 abbrev pub bytes_of : KnownBytes → Rows → ℕ → ℕ → ℕ
-bytes_of known_bytes rows inode position = spot_byte known_bytes (place_in (lists_of rows inode) position)
+bytes_of known_bytes rows inode position =
+    spot_byte known_bytes (place_in (lists_of rows inode) position)
 
 -- the tree of rows, with the bytes of files
 abbrev pub tree_with : KnownBytes → Rows → Tree

@@ -15,7 +15,8 @@ record_count rows = sum_over (λ key cell. length (listed key (Some cell))) rows
 -- Lists have changed and counts not yet: to each slice's count the records that came are still to be added, and those that went to be
 -- taken off.
 pub record Behind (rows : Rows) (gone added : List Rec) : Type 0 where
-  pub by : (id : ℕ) → 0 < id → slice_count rows id + records_naming id added ≡ named_by rows id + records_naming id gone
+  pub by : (id : ℕ) → 0 < id
+      → slice_count rows id + records_naming id added ≡ named_by rows id + records_naming id gone
 
 -- a slice's row has gone, and it is dead from then on
 pub record HasDied (after : Rows) (id size : ℕ) : Type 0 where
@@ -34,7 +35,9 @@ pub record HadSize (rows : Rows) (id size : ℕ) : Type 0 where
 pub record KeepsOthers (own more : ℕ) (rows after : Rows) : Type 0 where
   pub next : next_slice after ≡ next_slice rows
   pub unknown : (id : ℕ) → 0 < id → id ≢ own → IsUnknown rows id → IsUnknown after id
-  pub had : (id : ℕ) (slice : SliceRow) → id ≢ own → slice_row_at after id ≡ Some slice → HadSize rows id slice.size
-  pub dies : (id : ℕ) (slice : SliceRow) → slice_row_at rows id ≡ Some slice → slice_row_at after id ≡ None → HasDied after id slice.size
+  pub had : (id : ℕ) (slice : SliceRow) → id ≢ own → slice_row_at after id ≡ Some slice
+      → HadSize rows id slice.size
+  pub dies : (id : ℕ) (slice : SliceRow) → slice_row_at rows id ≡ Some slice
+      → slice_row_at after id ≡ None → HasDied after id slice.size
   pub dead : (id : ℕ) (dead : Dead) → dead_at rows id ≡ Some dead → dead_at after id ≡ Some dead
   pub records : record_count after ≤ record_count rows + more

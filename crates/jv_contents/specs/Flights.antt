@@ -24,8 +24,10 @@ pub record InFlight (block : ℕ) (rows : Rows) (blocks : Blocks) (f : Flight) :
   pub some : 0 < f.id
   pub below : f.id < next_slice rows
   pub unknown : IsUnknown rows f.id
-  pub those : (index : ℕ) → index < f.put → blocks (flight_block block f index) ≡ Some (flight_bytes block f index)
-  pub only : (b : BlockId) (bytes : List ℕ) → b.id ≡ f.id → blocks b ≡ Some bytes → (index : ℕ) × (index < f.put) × (b ≡ flight_block block f index)
+  pub those : (index : ℕ) → index < f.put
+      → blocks (flight_block block f index) ≡ Some (flight_bytes block f index)
+  pub only : (b : BlockId) (bytes : List ℕ) → b.id ≡ f.id → blocks b ≡ Some bytes
+      → (index : ℕ) × (index < f.put) × (b ≡ flight_block block f index)
 
 -- all of them were put
 abbrev pub IsComplete : ℕ → Flight → Type 0

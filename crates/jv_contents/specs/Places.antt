@@ -17,7 +17,8 @@ with_list window records lists w = (if w == window then records else lists w)
 
 -- places with others over a range, each by its distance from there
 abbrev pub put_over : (ℕ → Spot) → ℕ → ℕ → (ℕ → Spot) → ℕ → Spot
-put_over places from len new position = (if in_range from len position then new (position - from) else places position)
+put_over places from len new position =
+    (if in_range from len position then new (position - from) else places position)
 
 -- places up to a length
 abbrev pub cut_at : (ℕ → Spot) → ℕ → ℕ → Spot
@@ -32,4 +33,5 @@ zero_record pos = record { pos = pos; id = 0; size = 0; off = 0; len = WINDOW - 
 abbrev pub cut_list : ℕ → ℕ → List Rec → List Rec
 cut_list len window [] = []
 cut_list len window (r ∷ rs) = (if nat_le len (window * WINDOW) then []
-    else if nat_lt len (window * WINDOW + WINDOW) then (r ∷ rs) ++ zero_record (len - window * WINDOW) ∷ [] else r ∷ rs)
+    else if nat_lt len (window * WINDOW + WINDOW)
+    then (r ∷ rs) ++ zero_record (len - window * WINDOW) ∷ [] else r ∷ rs)

@@ -5,7 +5,7 @@ use Rattle.std.proofs.lemmas.Bool.{cases_eq}
 use Rattle.std.proofs.lemmas.Option.{same_Some}
 use Rattle.std.specs.Prelude.{◌==◌, ◌||◌, not, nat_lt, nat_le, IsTrue, if◌then◌else◌}
 use Rattle.std.specs.Option.{option_map}
-use Rattle.jv_model.specs.declared.limits.TheConstants.{FILE_END}
+use Rattle.jv_model.specs.declared.limits.TheConstants.{FILE_END, ROOT, TRASH_ROOT}
 use Rattle.jv_model.specs.declared.row.Counters.{Counters}
 use Rattle.jv_model.specs.declared.row.Node.{Node as NodeRow}
 use Rattle.jv_model.specs.declared.row.Row.TheVariants.{OfNode}
@@ -14,7 +14,7 @@ use Rattle.jv_model.specs.FiniteMap.{number_key, get, insert}
 use Rattle.jv_model.specs.declared.row.RowKey.{RowKey}
 use Rattle.jv_model.specs.rows.RowKeys.{row_key}
 use Rattle.jv_model.specs.rows.RowPlaces.{counters_key, node_key}
-use Rattle.jv_model.specs.tree.Tree.{Tree, Node, Kind, File, Directory, Symlink, Content, node_at, content_at, is_counted, paged, node_space, kind_space, used_space, used_inodes, space_limit, inode_limit, sum_fits, fits, root, trash_root}
+use Rattle.jv_model.specs.tree.Tree.{Tree, Node, Kind, File, Directory, Symlink, Content, node_at, content_at, is_counted, paged, node_space, kind_space, used_space, used_inodes, space_limit, inode_limit, sum_fits, fits}
 use Rattle.jv_model.specs.tree.Changes.{touched, put_node, set_node, with_content, content_of}
 use Rattle.jv_model.proofs.FiniteMapLaws.{same_maps}
 use Rattle.jv_model.proofs.TestLaws.{and_true}
@@ -70,15 +70,15 @@ same_put bytes changed rows inode node others = λ i. record (put_node (tree_of 
 
 -- files count for used space, since the root and what is in the trash's place are directories
 file_counted : (t : Tree) (inode : ℕ) → WholeShape (shape_of t) → form_of (node_at t inode) ≡ Regular → is_counted inode ≡ true
-file_counted t inode w is = ap (λ b. not b && nat_lt inode trash_root) (ne_eqb inode root no_root) ∙ below (nat_lt trash_root inode) refl
+file_counted t inode w is = ap (λ b. not b && nat_lt inode TRASH_ROOT) (ne_eqb inode ROOT no_root) ∙ below (nat_lt TRASH_ROOT inode) refl
   where
-    no_root : inode ≡ root → ⊥
+    no_root : inode ≡ ROOT → ⊥
     no_root same = (let both = sym is ∙ ap (λ k. form_of (node_at t k)) same ∙ w.root_there in absurd (cc))
 
-    no_trash : inode ≡ trash_root → ⊥
+    no_trash : inode ≡ TRASH_ROOT → ⊥
     no_trash same = (let both = sym is ∙ ap (λ k. form_of (node_at t k)) same ∙ w.trash_there in absurd (cc))
 
-    below : (b : Bool) → nat_lt trash_root inode ≡ b → nat_lt inode trash_root ≡ true
+    below : (b : Bool) → nat_lt TRASH_ROOT inode ≡ b → nat_lt inode TRASH_ROOT ≡ true
     below true e = (let both = sym is ∙ (w.hours inode (subst (λ f. IsTrue (is_there f)) (sym is) refl) e).1 in absurd (cc))
     below false e = grind (arith, e, no_trash)
 

@@ -33,29 +33,39 @@ pub record Makes : Type 0 where
 
 -- each slice that had a row, and has none any more, is dead, with its size, until it may go
 abbrev pub DieUntil : (Setting → ℕ) → Rows → Rows → Type 0
-DieUntil due rows after = (setting : Setting) → setting_at rows ≡ Some setting → (id : ℕ) (slice : SliceRow) → slice_row_at rows id ≡ Some slice
-    → slice_row_at after id ≡ None → dead_at after id ≡ Some (record { size = slice.size; due = due setting })
+DieUntil due rows after = (setting : Setting) → setting_at rows ≡ Some setting
+    → (id : ℕ) (slice : SliceRow) → slice_row_at rows id ≡ Some slice
+    → slice_row_at after id ≡ None
+    → dead_at after id ≡ Some (record { size = slice.size; due = due setting })
 
 -- A transaction that was made: the rows left are whole, their tree is the model's after it, other slices are kept, and those that nothing
 -- names any more are dead.
-pub record Changed (makes : Makes) (known : RowMap) (after : Option RowMap) (known_bytes : KnownBytes) (reply : Reply) (act : Tree → Result Outcome Fault) : Type 0 where
+pub record Changed (makes : Makes) (known : RowMap) (after : Option RowMap)
+    (known_bytes : KnownBytes) (reply : Reply) (act : Tree → Result Outcome Fault) : Type 0 where
   pub left : RowMap
   pub is : after ≡ Some left
   pub whole : Whole (typed left)
   pub others : KeepsOthers makes.own makes.more (typed known) (typed left)
-  pub size : (slice : SliceRow) → slice_row_at (typed left) makes.own ≡ Some slice → slice.size ≡ makes.size
+  pub size : (slice : SliceRow) → slice_row_at (typed left) makes.own ≡ Some slice
+      → slice.size ≡ makes.size
   pub dies : DieUntil makes.due (typed known) (typed left)
-  pub model : act (tree_with known_bytes (typed known)) ≡ Ok (record { tree = tree_with known_bytes (typed left); reply = reply })
+  pub model : act (tree_with known_bytes (typed known)) ≡ Ok
+      (record { tree = tree_with known_bytes (typed left); reply = reply })
 
 -- a slice can't be named more often, which the tree doesn't see, and the model's transaction is refused for no other reason
-pub record IsFull (crowded : Rows → Type 0) (rows : Rows) (fault : Fault) (wanted : Result Outcome Fault) : Type 0 where
+pub record IsFull (crowded : Rows → Type 0) (rows : Rows) (fault : Fault)
+    (wanted : Result Outcome Fault) : Type 0 where
   pub fault_is : fault ≡ NoSpace
   pub full : crowded rows
   pub otherwise : IfErr wanted (λ other. other ≡ NoSpace)
 
-abbrev pub LandsChanged : {A : Type 0} → Makes → (Rows → Type 0) → RowMap → Option RowMap → KnownBytes → (A → Reply) → (Tree → Result Outcome Fault) → Result A TxFault → Type 0
-LandsChanged makes crowded known after known_bytes reply act (Ok x) = Changed makes known after known_bytes (reply x) act
-LandsChanged makes crowded known after known_bytes reply act (Err (Refused fault)) = (act (tree_with known_bytes (typed known)) ≡ Err fault) ⊎ IsFull crowded (typed known) fault (act (tree_with known_bytes (typed known)))
+abbrev pub LandsChanged : {A : Type 0} → Makes → (Rows → Type 0) → RowMap → Option RowMap
+    → KnownBytes → (A → Reply) → (Tree → Result Outcome Fault) → Result A TxFault → Type 0
+LandsChanged makes crowded known after known_bytes reply act (Ok x) =
+    Changed makes known after known_bytes (reply x) act
+LandsChanged makes crowded known after known_bytes reply act (Err (Refused fault)) =
+    (act (tree_with known_bytes (typed known)) ≡ Err fault)
+    ⊎ IsFull crowded (typed known) fault (act (tree_with known_bytes (typed known)))
 LandsChanged makes crowded known after known_bytes reply act (Err (Moved list)) = ⊥
 LandsChanged makes crowded known after known_bytes reply act (Err (OfRows (Bad at bytes))) = ⊥
 LandsChanged makes crowded known after known_bytes reply act (Err (OfRows Failed)) = Unit {0}
@@ -63,24 +73,30 @@ LandsChanged makes crowded known after known_bytes reply act (Err (OfRows Memory
 
 -- A transaction on the bytes of files: after an error the rows are as before, and over whole rows that are ready for it, whatever is
 -- known of slices, it does what the model's does to their tree.
-pub record Changes {A : Type 0} (makes : Makes) (ready : Rows → KnownBytes → Type 0) (crowded : Rows → Type 0) (before after : Store) (result : Result A TxFault)
+pub record Changes {A : Type 0} (makes : Makes) (ready : Rows → KnownBytes → Type 0)
+    (crowded : Rows → Type 0) (before after : Store) (result : Result A TxFault)
     (reply : A → Reply) (act : Tree → Result Outcome Fault) : Type 0 where
   pub opened_at : after.opened ≡ before.opened
   pub counts : TransactionCounts before.faults after.faults result
   pub undone : OnErr result (after.rows ≡ before.rows)
-  pub lands : (known : RowMap) → before.rows ≡ Some known → Whole (typed known) → (known_bytes : KnownBytes) → ready (typed known) known_bytes
+  pub lands : (known : RowMap) → before.rows ≡ Some known → Whole (typed known)
+      → (known_bytes : KnownBytes) → ready (typed known) known_bytes
       → LandsChanged makes crowded known after.rows known_bytes reply act result
   pub bad : IfErr result (λ fault. IfSome before.rows (λ known. BadFault (typed known) fault))
 
 -- the rows that a transaction on a file's bytes may change: the counters, slices and dead slices, and the file's own row and lists
 abbrev pub may_change : ℕ → RowKey → Bool
-may_change inode key = (key.tab == TABLE_OF_COUNTERS) || (key.tab == TABLE_OF_SLICES) || (key.tab == TABLE_OF_DEAD) || (((key.tab == TABLE_OF_LISTS) || (key.tab == TABLE_OF_NODES)) && (key.a == inode))
+may_change inode key = (key.tab == TABLE_OF_COUNTERS) || (key.tab == TABLE_OF_SLICES)
+    || (key.tab == TABLE_OF_DEAD) || (((key.tab == TABLE_OF_LISTS) || (key.tab == TABLE_OF_NODES))
+    && (key.a == inode))
 
 -- Where a transaction on a file's bytes was made over whole rows, all rows that it may not change are as before: those of the setting, of
 -- entries, sessions, sustained and dropped files, and other files' rows and lists.
 abbrev pub KeepsRest : {A : Type 0} → ℕ → Store → Store → Result A TxFault → Type 0
-KeepsRest inode before after result = OnOk result ((known left : RowMap) → before.rows ≡ Some known → Whole (typed known)
-    → after.rows ≡ Some left → (key : RowKey) → may_change inode key ≡ false → get (typed left) key ≡ get (typed known) key)
+KeepsRest inode before after result =
+    OnOk result ((known left : RowMap) → before.rows ≡ Some known → Whole (typed known)
+    → after.rows ≡ Some left → (key : RowKey) → may_change inode key ≡ false
+    → get (typed left) key ≡ get (typed known) key)
 
 -- no transaction is refused but as the model's is
 abbrev pub Never : Rows → Type 0

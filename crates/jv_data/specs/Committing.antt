@@ -24,7 +24,8 @@ length_in (Ok node) = Ok node.length
 length_in (Err fault) = Err fault
 
 -- A reading of a file's row: over whole rows it is the model's look, and the row, one that the grammar allows, stands there.
-pub record HasFile (sid inode : ℕ) (before after : Store) (result : Result Node TxFault) : Type 0 where
+pub record HasFile (sid inode : ℕ) (before after : Store)
+    (result : Result Node TxFault) : Type 0 where
   pub looks : Looks before after (length_in result) (length_seen sid inode)
   pub stands : IfOk result (λ node. HasNodeRow after inode node)
   pub file : IfOk result (λ node. node.kind ≡ 1)
@@ -39,9 +40,11 @@ pub record Begun (rows after : Rows) (inode end now : ℕ) : Type 0 where
 
 -- The beginning of a commit of bytes that end at a position: over whole rows it is refused where the model's commit is, whatever
 -- the bytes are. The changes leave lists and slices alone, and over whole rows they are that the file reaches there.
-pub record BeginsCommit (sid now inode end started : ℕ) (before after : Store) (changes : List Change) (result : Result (Unit {0}) TxFault) : Type 0 where
+pub record BeginsCommit (sid now inode end started : ℕ) (before after : Store)
+    (changes : List Change) (result : Result (Unit {0}) TxFault) : Type 0 where
   pub looks : (from : ℕ) (patch : List ℕ) → from + length patch ≡ end
-      → Looks before after result (λ t. commit_of sid inode from patch started now t >>= (λ left. Ok tt))
+      → Looks before after result (λ t. commit_of sid inode from patch started now t
+      >>= (λ left. Ok tt))
   pub leaves : OnOk result (LeaveSlices before.rows changes)
   pub begun : OnOk result ((known : RowMap) → before.rows ≡ Some known → Whole (typed known)
       → Begun (typed known) (drafted changes known) inode end now)

@@ -32,13 +32,16 @@ use Rattle.jv_data.specs.Changing.{Changes, Never}
 
 -- no malformed row stands at a key, where rows are known
 abbrev pub IsWellFormed : RowKey → Option RowMap → Type 0
-IsWellFormed key rows = IfSome rows (λ known. (bytes : List ℕ) → get (typed known) key ≢ Some (Err bytes))
+IsWellFormed key rows =
+    IfSome rows (λ known. (bytes : List ℕ) → get (typed known) key ≢ Some (Err bytes))
 
 -- A reading of a window's records, none where there is no list: over whole rows it succeeds, as far as keeper and memory go. A
 -- malformed row is an error.
-pub record HasRecords (inode window : ℕ) (before after : Store) (result : Result (List Rec) TxFault) : Type 0 where
+pub record HasRecords (inode window : ℕ) (before after : Store)
+    (result : Result (List Rec) TxFault) : Type 0 where
   pub looks : Looks before after (without_answer result) (λ t. Ok tt)
-  pub list : IfOk result (λ list. IfSome before.rows (λ known. list ≡ lists_of (typed known) inode window))
+  pub list : IfOk result (λ list.
+      IfSome before.rows (λ known. list ≡ lists_of (typed known) inode window))
   pub records : IfOk result (AllByRecursion IsRecord)
   pub formed : OnOk result (IsWellFormed (list_key inode window) before.rows)
 
@@ -47,9 +50,11 @@ length_viewed (Ok view) = Ok view.length
 length_viewed (Err fault) = Err fault
 
 -- A look at a window of a file: its length, and the window's records. A malformed row of the list is an error.
-pub record LooksAt (sid inode window : ℕ) (before after : Store) (result : Result View TxFault) : Type 0 where
+pub record LooksAt (sid inode window : ℕ) (before after : Store)
+    (result : Result View TxFault) : Type 0 where
   pub looks : Looks before after (length_viewed result) (length_seen sid inode)
-  pub list : IfOk result (λ view. IfSome before.rows (λ known. view.list ≡ lists_of (typed known) inode window))
+  pub list : IfOk result (λ view.
+      IfSome before.rows (λ known. view.list ≡ lists_of (typed known) inode window))
   pub records : IfOk result (λ view. AllByRecursion IsRecord view.list)
   pub formed : OnOk result (IsWellFormed (list_key inode window) before.rows)
 
@@ -73,8 +78,11 @@ pub record Numbered (known : RowMap) (after : Option RowMap) (id : ℕ) : Type 0
   pub others : (key : RowKey) → get (typed left) key ≡ get (typed known) key ⊎ (key ≡ counters_key)
 
 abbrev pub LandsNumber : ℕ → RowMap → Option RowMap → Result ℕ TxFault → Type 0
-LandsNumber sid known after (Ok id) = (number_given sid (typed known) (tree_of no_bytes (typed known)) ≡ Ok id) × Numbered known after id
-LandsNumber sid known after (Err (Refused fault)) = number_given sid (typed known) (tree_of no_bytes (typed known)) ≡ Err fault
+LandsNumber sid known after (Ok id) =
+    (number_given sid (typed known) (tree_of no_bytes (typed known)) ≡ Ok id)
+    × Numbered known after id
+LandsNumber sid known after (Err (Refused fault)) =
+    number_given sid (typed known) (tree_of no_bytes (typed known)) ≡ Err fault
 LandsNumber sid known after (Err (Moved list)) = ⊥
 LandsNumber sid known after (Err (OfRows (Bad at bytes))) = ⊥
 LandsNumber sid known after (Err (OfRows Failed)) = Unit {0}
@@ -85,7 +93,8 @@ pub record TakesNumber (sid : ℕ) (before after : Store) (result : Result ℕ T
   pub opened_at : after.opened ≡ before.opened
   pub counts : TransactionCounts before.faults after.faults result
   pub undone : OnErr result (after.rows ≡ before.rows)
-  pub lands : (known : RowMap) → before.rows ≡ Some known → Whole (typed known) → LandsNumber sid known after.rows result
+  pub lands : (known : RowMap) → before.rows ≡ Some known → Whole (typed known)
+      → LandsNumber sid known after.rows result
   pub bad : IfErr result (λ fault. IfSome before.rows (λ known. BadFault (typed known) fault))
 
 -- the bytes that a record shows
@@ -94,19 +103,24 @@ pub record Shows (known_bytes : KnownBytes) (rec : Rec) (bytes : List ℕ) : Typ
   pub each : (n : ℕ) → n < rec.len → spot_byte known_bytes (shown rec n) ≡ slice_index bytes n
 
 -- a record's slice has a number and nothing else names it, and the record shows these bytes
-pub record IsNew (rec : Rec) (bytes : List ℕ) (rows : Rows) (known_bytes : KnownBytes) : Type 0 where
+pub record IsNew (rec : Rec) (bytes : List ℕ) (rows : Rows)
+    (known_bytes : KnownBytes) : Type 0 where
   pub unknown : IsUnknown rows rec.id
   pub below : rec.id < next_slice rows
   pub shows : Shows known_bytes rec bytes
 
 -- the model's commit of bytes to a file, whose first block was begun at a moment
-abbrev pub committing : (sid inode from : ℕ) → List ℕ → (started now : ℕ) → Tree → Result Outcome Fault
+abbrev pub committing : (sid inode from : ℕ) → List ℕ → (started now : ℕ) → Tree
+    → Result Outcome Fault
 committing sid inode from bytes started now t = do
   after ← commit_of sid inode from bytes started now t
   done after
 
 -- a commit of a record of a new slice to a window of a file, by which no slice dies: each that did would be due at any moment
-abbrev pub CommitsRecord : (sid now inode window : ℕ) → Rec → (started : ℕ) → Store → Store → Result (Unit {0}) TxFault → Type 0
-CommitsRecord sid now inode window rec started before after result = (bytes : List ℕ) (due : Setting → ℕ)
-    → Changes (record { own = rec.id; size = rec.size; more = 1; due = due }) (IsNew rec bytes) Never before after result (λ unit. Done)
+abbrev pub CommitsRecord : (sid now inode window : ℕ) → Rec → (started : ℕ) → Store → Store
+    → Result (Unit {0}) TxFault → Type 0
+CommitsRecord sid now inode window rec started before after result =
+    (bytes : List ℕ) (due : Setting → ℕ)
+    → Changes (record { own = rec.id; size = rec.size; more = 1; due = due })
+    (IsNew rec bytes) Never before after result (λ unit. Done)
     (committing sid inode (window * WINDOW + rec.pos) bytes started now)

@@ -28,8 +28,10 @@ used_after c before after = (c.used_space + paged after) - paged before
 
 -- the counters once a file of one length has another, where the volume has room for that
 abbrev pub Resizes : Setting → Counters → ℕ → ℕ → Option Counters → Type 0
-Resizes setting c before after None = sum_fits (space_limit setting) c.used_space (used_after c before after) ≡ false
-Resizes setting c before after (Some left) = (sum_fits (space_limit setting) c.used_space (used_after c before after) ≡ true)
+Resizes setting c before after None =
+    sum_fits (space_limit setting) c.used_space (used_after c before after) ≡ false
+Resizes setting c before after (Some left) =
+    (sum_fits (space_limit setting) c.used_space (used_after c before after) ≡ true)
     × (left ≡ record c { used_space = used_after c before after })
 
 -- the row of a file with another length and both times at a moment
@@ -38,7 +40,8 @@ row_sized was length now = record was { length = length; mtime = now; ctime = no
 
 -- rows with a file's row and the counters that its other length makes
 abbrev pub rows_sized : Rows → ℕ → Node → Counters → ℕ → ℕ → Rows
-rows_sized rows inode was c length now = insert (insert rows (node_key inode) (Ok (OfNode (row_sized was length now))))
+rows_sized rows inode was c length now =
+    insert (insert rows (node_key inode) (Ok (OfNode (row_sized was length now))))
     counters_key (Ok (OfCounters (record c { used_space = used_after c was.length length })))
 
 pub record AreSized (rows after : Rows) (inode : ℕ) (was : Node) (length now : ℕ) : Type 0 where
@@ -49,9 +52,11 @@ pub record AreSized (rows after : Rows) (inode : ℕ) (was : Node) (length now :
 
 -- A file gets another length, and both times: over whole rows, whatever bytes it then has, it is refused where the model's volume has no
 -- room for them. The changes leave lists and slices alone, and over whole rows they are of the file's row and of the counters.
-pub record ResizesFile (inode : ℕ) (was : Node) (length now : ℕ) (before after : Store) (changes : List Change) (result : Result (Unit {0}) TxFault) : Type 0 where
+pub record ResizesFile (inode : ℕ) (was : Node) (length now : ℕ) (before after : Store)
+    (changes : List Change) (result : Result (Unit {0}) TxFault) : Type 0 where
   pub looks : (content : Tree → Content) → ((t : Tree) → (content t).length ≡ length)
-      → Looks before after result (λ t. require (fits t (with_content t now inode (content t))) NoSpace)
+      → Looks before after result (λ t.
+      require (fits t (with_content t now inode (content t))) NoSpace)
   pub leaves : OnOk result (LeaveSlices before.rows changes)
   pub sized : OnOk result ((known : RowMap) → before.rows ≡ Some known → Whole (typed known)
       → AreSized (typed known) (drafted changes known) inode was length now)

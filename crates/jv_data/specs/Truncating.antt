@@ -38,7 +38,9 @@ HaveSlices rows records = AllByRecursion (λ r. r.id ≢ 0 → HasSlice rows r.i
 abbrev pub rows_ended : ℕ → ℕ → ℕ → List Rec → Rows → Rows
 rows_ended inode window pos [] rows = rows
 rows_ended inode window pos (r ∷ rs) rows =
-    (if pos == 0 then rows else alter rows (list_key inode window) (Some (Ok (OfList ((r ∷ rs) ++ zero_record pos ∷ [])))))
+    (if pos == 0 then rows
+    else alter rows (list_key inode window)
+    (Some (Ok (OfList ((r ∷ rs) ++ zero_record pos ∷ [])))))
 
 -- rows without lists of a file, the latest first, each with its window
 abbrev pub rows_without : ℕ → List (ℕ × List Rec) → Rows → Rows
@@ -69,7 +71,8 @@ Follow rows inode last [] = Unit {0}
 Follow rows inode last (d ∷ ds) = IsNext rows inode (latest last ds) d × Follow rows inode last ds
 
 -- lists of a file that were dropped, one after another
-pub record Dropping (inode : ℕ) (last now : Option ℕ) (rows middle after : Rows) (gone : List Rec) : Type 0 where
+pub record Dropping (inode : ℕ) (last now : Option ℕ) (rows middle after : Rows)
+    (gone : List Rec) : Type 0 where
   pub lists : List (ℕ × List Rec)
   pub follow : Follow rows inode last lists
   pub now_is : now ≡ latest last lists
@@ -77,7 +80,8 @@ pub record Dropping (inode : ℕ) (last now : Option ℕ) (rows middle after : R
   pub is : after ≡ rows_without inode lists middle
 
 -- all of a file's lists after a window
-pub record Dropped (inode : ℕ) (last : Option ℕ) (rows middle after : Rows) (gone : List Rec) : Type 0 where
+pub record Dropped (inode : ℕ) (last : Option ℕ) (rows middle after : Rows)
+    (gone : List Rec) : Type 0 where
   pub now : Option ℕ
   pub so_far : Dropping inode last now rows middle after gone
   pub ends : HaveWindows rows → HasNoList rows inode now None
@@ -99,56 +103,71 @@ pub record ListsCut (inode len now : ℕ) (rows middle after : Rows) : Type 0 wh
   pub last_is : IsLastBefore len last
   pub without : Rows
   pub gone : List Rec
-  pub dropped : Dropped inode last rows (rows_ended inode (len / WINDOW) (len % WINDOW) (lists_of rows inode (len / WINDOW)) middle) without gone
+  pub dropped : Dropped inode last rows (rows_ended inode (len / WINDOW) (len % WINDOW)
+      (lists_of rows inode (len / WINDOW)) middle) without gone
   pub due : ℕ
   pub is_due : IsDue now rows due
   pub adjusted : Adjusted gone [] due without after
 
 -- changes that leave setting, lists, slices and dead slices as they are stored
 abbrev pub LeaveSlices : Option RowMap → List Change → Type 0
-LeaveSlices rows changes = (known : RowMap) → rows ≡ Some known → (key : RowKey) → IsTrue ((key.tab == TABLE_OF_SETTING) || is_of_slices key.tab)
+LeaveSlices rows changes = (known : RowMap) → rows ≡ Some known → (key : RowKey)
+    → IsTrue ((key.tab == TABLE_OF_SETTING) || is_of_slices key.tab)
     → get (drafted changes known) key ≡ get (typed known) key
 
 -- The moment when slices that die at a moment are due.
 pub record SaysDue (now : ℕ) (before after : Store) (result : Result ℕ TxFault) : Type 0 where
   pub looks : Looks before after (without_answer result) (λ t. Ok tt)
-  pub due : IfOk result (λ due. (known : RowMap) → before.rows ≡ Some known → IsDue now (typed known) due)
+  pub due : IfOk result (λ due. (known : RowMap) → before.rows ≡ Some known
+      → IsDue now (typed known) due)
 
 -- The changes end the list that a length lies inside of.
-pub record EndsList (inode len : ℕ) (before after : Store) (changes changed : List Change) (result : Result (Unit {0}) TxFault) : Type 0 where
+pub record EndsList (inode len : ℕ) (before after : Store) (changes changed : List Change)
+    (result : Result (Unit {0}) TxFault) : Type 0 where
   pub looks : Looks before after result (λ t. Ok tt)
   pub ended : OnOk result ((known : RowMap) → before.rows ≡ Some known
-      → drafted changed known ≡ rows_ended inode (len / WINDOW) (len % WINDOW) (lists_of (typed known) inode (len / WINDOW)) (drafted changes known))
+      → drafted changed known ≡ rows_ended inode (len / WINDOW) (len % WINDOW)
+      (lists_of (typed known) inode (len / WINDOW)) (drafted changes known))
 
 -- A slice that a record of a list names has a row.
-pub record ChecksSlice (id : ℕ) (before after : Store) (result : Result (Unit {0}) TxFault) : Type 0 where
+pub record ChecksSlice (id : ℕ) (before after : Store)
+    (result : Result (Unit {0}) TxFault) : Type 0 where
   pub looks : Looks before after result (λ t. Ok tt)
-  pub slice : OnOk result ((known : RowMap) → before.rows ≡ Some known → id ≢ 0 → HasSlice (typed known) id)
+  pub slice : OnOk result ((known : RowMap) → before.rows ≡ Some known → id ≢ 0
+      → HasSlice (typed known) id)
 
 -- Each slice that a list's records name has a row.
-pub record ChecksSlices (list : List Rec) (before after : Store) (result : Result (Unit {0}) TxFault) : Type 0 where
+pub record ChecksSlices (list : List Rec) (before after : Store)
+    (result : Result (Unit {0}) TxFault) : Type 0 where
   pub looks : Looks before after result (λ t. Ok tt)
-  pub slices : OnOk result ((known : RowMap) → before.rows ≡ Some known → HaveSlices (typed known) list)
+  pub slices : OnOk result ((known : RowMap) → before.rows ≡ Some known
+      → HaveSlices (typed known) list)
 
 -- The changes drop all lists of a file after a window; the answer is their records.
-pub record DropsLists (inode : ℕ) (last : Option ℕ) (before after : Store) (changes changed : List Change) (result : Result (List Rec) TxFault) : Type 0 where
+pub record DropsLists (inode : ℕ) (last : Option ℕ) (before after : Store)
+    (changes changed : List Change) (result : Result (List Rec) TxFault) : Type 0 where
   pub looks : Looks before after (without_answer result) (λ t. Ok tt)
   pub dropped : IfOk result (λ gone. (known : RowMap) → before.rows ≡ Some known
       → Dropped inode last (typed known) (drafted changes known) (drafted changed known) gone)
 
 -- The changes cut a file's lists to a length, over those that leave lists and slices as they are stored.
-pub record CutsLists (inode len now : ℕ) (before after : Store) (changes changed : List Change) (result : Result (Unit {0}) TxFault) : Type 0 where
+pub record CutsLists (inode len now : ℕ) (before after : Store) (changes changed : List Change)
+    (result : Result (Unit {0}) TxFault) : Type 0 where
   pub looks : Looks before after result (λ t. Ok tt)
-  pub cut : OnOk result ((known : RowMap) → before.rows ≡ Some known → ListsCut inode len now (typed known) (drafted changes known) (drafted changed known))
+  pub cut : OnOk result ((known : RowMap) → before.rows ≡ Some known
+      → ListsCut inode len now (typed known) (drafted changes known) (drafted changed known))
 
 -- rows whose lists are cut where a file gets shorter, and are as before where it doesn't
 pub data Shortened (inode was len now : ℕ) (rows middle after : Rows) : Type 0 where
-  Cut : len < was → ListsCut inode len now rows middle after → Shortened inode was len now rows middle after
+  Cut : len < was → ListsCut inode len now rows middle after
+      → Shortened inode was len now rows middle after
   Kept : was ≤ len → after ≡ middle → Shortened inode was len now rows middle after
 
-pub record Shortens (inode was len now : ℕ) (before after : Store) (changes changed : List Change) (result : Result (Unit {0}) TxFault) : Type 0 where
+pub record Shortens (inode was len now : ℕ) (before after : Store) (changes changed : List Change)
+    (result : Result (Unit {0}) TxFault) : Type 0 where
   pub looks : Looks before after result (λ t. Ok tt)
-  pub lists : OnOk result ((known : RowMap) → before.rows ≡ Some known → Shortened inode was len now (typed known) (drafted changes known) (drafted changed known))
+  pub lists : OnOk result ((known : RowMap) → before.rows ≡ Some known
+      → Shortened inode was len now (typed known) (drafted changes known) (drafted changed known))
 
 -- the list of a window of a file that had one length, once it has another
 abbrev pub list_after : (was len window : ℕ) → List Rec → List Rec
@@ -157,6 +176,9 @@ list_after was len window list = (if nat_lt len was then cut_list len window lis
 -- Where a truncate was made over whole rows, each list of the file is cut to the length if that is less than its length was, and is as
 -- before if not: a list from the length on is gone, and no list comes.
 abbrev pub CutsFile : (inode len : ℕ) → Store → Store → Result (Unit {0}) TxFault → Type 0
-CutsFile inode len before after result = OnOk result ((known left : RowMap) → before.rows ≡ Some known → Whole (typed known)
-    → after.rows ≡ Some left → (was : Node) → node_row_at (typed known) inode ≡ Some was → (window : ℕ)
-    → lists_of (typed left) inode window ≡ list_after was.length len window (lists_of (typed known) inode window))
+CutsFile inode len before after result =
+    OnOk result ((known left : RowMap) → before.rows ≡ Some known → Whole (typed known)
+    → after.rows ≡ Some left → (was : Node) → node_row_at (typed known) inode ≡ Some was
+    → (window : ℕ)
+    → lists_of (typed left) inode window ≡ list_after was.length len window
+    (lists_of (typed known) inode window))

@@ -56,7 +56,8 @@ IsMissing cache b = LacksBlock b.size (found_in cache (cache_key b))
 abbrev pub Asks : Need → ℕ → Cached → Cached → Type 0
 Asks (Look window) most before after = LooksUpFew most before after
 Asks (Block b) most before after =
-    (middle : Cached) × LooksUpFew most before middle × (after ≡ noted_in middle (cache_key b)) × IsMissing before b
+    (middle : Cached) × LooksUpFew most before middle × (after ≡ noted_in middle (cache_key b))
+    × IsMissing before b
 Asks Nothing most before after = LooksUpFew most before after
 
 -- a block that came is kept, or not where memory is out
@@ -66,12 +67,15 @@ pub data Keeps (b : BlockId) (bytes : List ℕ) (before after : Cached) : Type 0
 
 -- what the cache has under the name of a block of these records is that block
 pub record CachedOf (blocks : Blocks) (list : List Rec) (block : ℕ) (cache : Cached) : Type 0 where
-  pub has : (b : BlockId) → IsNamed list block b → (bytes : List ℕ) → found_in cache (cache_key b) ≡ Some bytes
+  pub has : (b : BlockId) → IsNamed list block b → (bytes : List ℕ)
+      → found_in cache (cache_key b) ≡ Some bytes
       → blocks b ≡ Some bytes
 
 -- and so of the records of each view
-pub record HasCached (blocks : Blocks) (views : SeenViews) (block : ℕ) (cache : Cached) : Type 0 where
-  pub has : (window : ℕ) (view : View) → view_at views window ≡ Some view → CachedOf blocks view.list block cache
+pub record HasCached (blocks : Blocks) (views : SeenViews) (block : ℕ)
+    (cache : Cached) : Type 0 where
+  pub has : (window : ℕ) (view : View) → view_at views window ≡ Some view
+      → CachedOf blocks view.list block cache
 
 -- no other block that views name has this one's slice and index
 pub record IsOnly (views : SeenViews) (block : ℕ) (b : BlockId) : Type 0 where

@@ -16,7 +16,8 @@ use Rattle.jv_fetching.specs.Shows.{place_of, shown_bytes, shown_len}
 pub record IsBegunBy (block : ℕ) (asked : Asked) (view : View) (begun : Begun) : Type 0 where
   pub entry : begun.entry ≡ view.entry
   pub full : begun.is_full ≡ nat_le asked.to view.length
-  pub part : IsPartOf view.list (place_of asked) (place_of asked + shown_len view asked) block begun.part
+  pub part : IsPartOf view.list (place_of asked)
+      (place_of asked + shown_len view asked) block begun.part
   pub named : All (IsNamed view.list block) begun.part.left
 
 -- what has begun is the first of the parts, by what its handle saw
@@ -30,11 +31,13 @@ abbrev pub CanFetch : SeenViews → Fetching → Type 0
 CanFetch views f = HasBegun views f.block f.begun f.parts
 
 -- a part was read by a view, by these blocks and by all that may come later
-pub record IsShown (blocks : Blocks) (views : SeenViews) (block : ℕ) (asked : Asked) (view : View) (read : Read)
+pub record IsShown (blocks : Blocks) (views : SeenViews) (block : ℕ) (asked : Asked) (view : View)
+    (read : Read)
     : Type 0 where
   pub seen : view_at views asked.window ≡ Some view
   pub entry : read.entry ≡ view.entry
-  pub bytes : (later : Blocks) → Grows blocks later → read.bytes ≡ shown_bytes (known_by block later) view asked
+  pub bytes : (later : Blocks) → Grows blocks later
+      → read.bytes ≡ shown_bytes (known_by block later) view asked
 
 -- parts were read from the first on, and others are left; after one that the file doesn't fill none is read
 abbrev pub HasRead : Blocks → SeenViews → ℕ → List Asked → List Read → List Asked → Type 0
@@ -46,7 +49,8 @@ HasRead blocks views block (asked ∷ others) (read ∷ reads) parts =
     × (view.length < asked.to → (reads ≡ []) × (parts ≡ []))
 
 -- the reading of one or two parts has gone on well
-pub record IsFetching (blocks : Blocks) (views : SeenViews) (all : List Asked) (f : Fetching) : Type 0 where
+pub record IsFetching (blocks : Blocks) (views : SeenViews) (all : List Asked)
+    (f : Fetching) : Type 0 where
   pub some : 1 ≤ length all
   pub few : length all ≤ 2
   pub read : HasRead blocks views f.block all f.read f.parts

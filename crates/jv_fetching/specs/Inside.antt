@@ -63,7 +63,8 @@ pub record IsSound (f : Inside) : Type 0 where
   pub wide : 0 < f.block
   pub in_order : f.course.value.first ≡ None → f.course.value.second ≡ None
   pub within : AllByRecursion IsWithin (parts_of f.course.value.parts)
-  pub few : length (reads_of f.course.value.first f.course.value.second) + length (parts_of f.course.value.parts) ≤ 2
+  pub few : length (reads_of f.course.value.first f.course.value.second)
+      + length (parts_of f.course.value.parts) ≤ 2
   pub some : IfSome f.course.value.begun (λ begun. 1 ≤ length (parts_of f.course.value.parts))
 
 -- ---- a part begins
@@ -87,11 +88,15 @@ Starts views block parts (StartBegun begun) = FirstBegins views block parts begu
 
 -- and so a reading, unless it has begun before or is done
 pub data BeginsPart (views : SeenViews) (before after : Fetching) : Option ℕ → Type 0 where
-  HadBegun : (begun : Begun) → before.begun ≡ Some begun → after ≡ before → BeginsPart views before after None
-  BeginsNow : (begun : Begun) → before.begun ≡ None → FirstBegins views before.block before.parts begun
+  HadBegun : (begun : Begun) → before.begun ≡ Some begun → after ≡ before
+      → BeginsPart views before after None
+  BeginsNow : (begun : Begun) → before.begun ≡ None
+      → FirstBegins views before.block before.parts begun
       → after ≡ record before { begun = Some begun } → BeginsPart views before after None
-  IsOver : before.begun ≡ None → before.parts ≡ [] → after ≡ before → BeginsPart views before after None
-  LooksFirst : (window : ℕ) → before.begun ≡ None → first_unseen views before.parts window → after ≡ before
+  IsOver : before.begun ≡ None → before.parts ≡ [] → after ≡ before
+      → BeginsPart views before after None
+  LooksFirst : (window : ℕ) → before.begun ≡ None → first_unseen views before.parts window
+      → after ≡ before
       → BeginsPart views before after (Some window)
 
 -- ---- blocks are filled in
@@ -118,7 +123,8 @@ pub record HasFilled (cache : Cached) (b : BlockId) (before after : Part) : Type
 pub record Fills (cache later : Cached) (before after : Part) : Type 0 where
   pub further : IsFurther before after
   pub looks : LooksUpFew (length before.left - length after.left) cache later
-  pub reads : (blocks : Blocks) → CachedOf blocks before.list before.block cache → ReadsBlocks blocks before
+  pub reads : (blocks : Blocks) → CachedOf blocks before.list before.block cache
+      → ReadsBlocks blocks before
       → ReadsBlocks blocks after
 
 -- up to one that it doesn't have, which was looked up too
@@ -167,22 +173,26 @@ pub record FillsBegun (bytes : List ℕ) (before after : Fetching) : Type 0 wher
   pub is : after ≡ waiting begun part before
 
 -- a part's blocks are filled in as far as the cache has them: it waits for one, or was read
-pub data GoesOn (begun : Begun) (cache later : Cached) (before after : Fetching) : Option Need → Type 0 where
+pub data GoesOn (begun : Begun) (cache later : Cached) (before after : Fetching) : Option Need
+    → Type 0 where
   Waits : (part : Part) (b : BlockId) → Misses cache later begun.part part b
       → after ≡ waiting begun part before → GoesOn begun cache later before after (Some (Block b))
   Ended : (part : Part) → Fills cache later begun.part part → part.left ≡ [] → (bytes : List ℕ)
       → ((known_bytes : KnownBytes) → ReadsAs known_bytes part
       → bytes ≡ bytes_from (window_byte known_bytes part.list) part.from (part.to - part.from))
-      → after ≡ ended begun.entry begun.is_full bytes before → GoesOn begun cache later before after None
+      → after ≡ ended begun.entry begun.is_full bytes before
+      → GoesOn begun cache later before after None
 
 -- where one has begun; and nothing happens where none has
 abbrev pub GoesOnAny : Cached → Cached → Fetching → Fetching → Option Begun → Option Need → Type 0
-GoesOnAny cache later before after None result = (result ≡ None) × (after ≡ before) × (later ≡ cache)
+GoesOnAny cache later before after None result =
+    (result ≡ None) × (after ≡ before) × (later ≡ cache)
 GoesOnAny cache later before after (Some begun) result =
     GoesOn begun cache later (record before { begun = None }) after result
 
 -- what the cache has of the part that has begun is filled in
-pub record FillsFrom (cache later : Cached) (before after : Fetching) (result : Option BlockId) : Type 0 where
+pub record FillsFrom (cache later : Cached) (before after : Fetching)
+    (result : Option BlockId) : Type 0 where
   pub begun : Begun
   pub part : Part
   pub was : before.begun ≡ Some begun
@@ -195,7 +205,8 @@ pub record EndsPart (before after : Fetching) : Type 0 where
   pub bytes : List ℕ
   pub was : before.begun ≡ Some begun
   pub are : (known_bytes : KnownBytes) → ReadsAs known_bytes begun.part
-      → bytes ≡ bytes_from (window_byte known_bytes begun.part.list) begun.part.from (begun.part.to - begun.part.from)
+      → bytes ≡ bytes_from (window_byte known_bytes begun.part.list) begun.part.from
+      (begun.part.to - begun.part.from)
   pub is : after ≡ ended begun.entry begun.is_full bytes before
 
 -- a reading goes on by views and cache
@@ -203,7 +214,8 @@ pub record Goes (views : SeenViews) (cache later : Cached) (before after : Fetch
   pub block : after.block ≡ before.block
   pub can : CanFetch views before → CanFetch views after
   pub falls : fetch_left after ≤ fetch_left before
-  pub begins : before.begun ≡ None → first_seen views before.parts → fetch_left after < fetch_left before
+  pub begins : before.begun ≡ None → first_seen views before.parts
+      → fetch_left after < fetch_left before
   pub looks : LooksUpFew (fetch_left before - fetch_left after) cache later
   pub reads : (blocks : Blocks) (all : List Asked) → HasCached blocks views before.block cache
       → IsFetching blocks views all before
@@ -213,10 +225,12 @@ pub record Goes (views : SeenViews) (cache later : Cached) (before after : Fetch
 abbrev pub Ends : Cached → Cached → Cached → Option Need → Type 0
 Ends cache middle later None = later ≡ middle
 Ends cache middle later (Some (Look window)) = later ≡ middle
-Ends cache middle later (Some (Block b)) = (later ≡ noted_in middle (cache_key b)) × IsMissing cache b
+Ends cache middle later (Some (Block b)) =
+    (later ≡ noted_in middle (cache_key b)) × IsMissing cache b
 Ends cache middle later (Some Nothing) = later ≡ middle
 
-pub record GoesTo (views : SeenViews) (cache later : Cached) (before after : Fetching) (result : Option Need) : Type 0
+pub record GoesTo (views : SeenViews) (cache later : Cached) (before after : Fetching)
+    (result : Option Need) : Type 0
   where
     pub middle : Cached
     pub goes : Goes views cache middle before after
@@ -224,5 +238,6 @@ pub record GoesTo (views : SeenViews) (cache later : Cached) (before after : Fet
 
 -- it stops where something is needed, or where it is done with one part more
 abbrev pub Stops : SeenViews → Fetching → Fetching → Option Need → Type 0
-Stops views before after None = (after.begun ≡ None) × (length after.parts ≤ length before.parts - 1)
+Stops views before after None =
+    (after.begun ≡ None) × (length after.parts ≤ length before.parts - 1)
 Stops views before after (Some need) = Wants views after need

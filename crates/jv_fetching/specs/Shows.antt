@@ -17,17 +17,26 @@ shown_len view asked = min asked.to view.length - asked.from
 
 -- the bytes that a view shows of a part, as far as the file went, by what is known of slices
 abbrev pub shown_bytes : KnownBytes → View → Asked → List ℕ
-shown_bytes known_bytes view asked = bytes_from (window_byte known_bytes view.list) (place_of asked) (shown_len view asked)
+shown_bytes known_bytes view asked =
+    bytes_from (window_byte known_bytes view.list) (place_of asked) (shown_len view asked)
 
 -- What is read of these parts: the entries of the views, and their bytes. The part after one that the file doesn't fill
 -- isn't read, and cites none.
-pub data IsReadBy (known_bytes : KnownBytes) (views : SeenViews) (parts : List Asked) (read : ℕ × ℕ × List ℕ) : Type 0 where
+pub data IsReadBy (known_bytes : KnownBytes) (views : SeenViews) (parts : List Asked)
+    (read : ℕ × ℕ × List ℕ) : Type 0 where
   One : (asked : Asked) → (others : List Asked) → (view : View) → parts ≡ asked ∷ others
       → view_at views asked.window ≡ Some view → (others ≡ []) ⊎ (view.length < asked.to)
-      → read ≡ (view.entry, 0, shown_bytes known_bytes view asked) → IsReadBy known_bytes views parts read
-  Two : (asked other : Asked) → (view next : View) → parts ≡ asked ∷ other ∷ [] → view_at views asked.window ≡ Some view
+      → read ≡ (view.entry, 0, shown_bytes known_bytes view asked)
+      → IsReadBy known_bytes views parts read
+  Two : (asked other : Asked) → (view next : View) → parts ≡ asked ∷ other ∷ []
+      → view_at views asked.window ≡ Some view
       → asked.to ≤ view.length → view_at views other.window ≡ Some next
-      → read ≡ (view.entry, next.entry, shown_bytes known_bytes view asked ++ shown_bytes known_bytes next other)
+      → read ≡ (
+        view.entry,
+        next.entry,
+        shown_bytes known_bytes view asked
+            ++ shown_bytes known_bytes next other,
+      )
       → IsReadBy known_bytes views parts read
 
 -- the first window without a view, where the views of all parts before it show all that is asked of them

@@ -25,14 +25,14 @@ fn bytes_of(alloc: Global, block: BlockId) -> Result<Bytes, AllocError>
     Ok(Bytes::from_vec(block_bytes(alloc, block)?))
 }
 
-/// Slice 1 in the last 60 positions of the first window; in the second, from the tenth position on, 12 bytes of slice 2 that
-/// lie in two blocks.
+/// Slice 1 in the last 60 positions of the first window; in the second, from the tenth position on, 12 bytes of slice 2
+/// that lie in two blocks.
 fn view_of(alloc: Global, window: u32, length: u64) -> Result<View, AllocError>
     ensures { IfOk result HasRecords }
 {
     let shown = if window == 0 {
         Rec {
-            pos: 67_108_804,
+            pos: WINDOW as u32 - 60,
             id: 1,
             size: 60,
             off: 0,
@@ -110,7 +110,7 @@ const FIRST: BlockId = BlockId {
 const LOW: BlockId = BlockId {
     id: 2,
     index: 0,
-    size: 65_536,
+    size: BLOCK,
 };
 
 const HIGH: BlockId = BlockId {

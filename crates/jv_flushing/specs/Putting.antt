@@ -31,9 +31,12 @@ IsCalm was is = IsAt was is was.opened
 -- The put of the next block of a flight, by the result. Only the device that failed counts a fault.
 abbrev pub PutsFlight : (client now : ℕ) → Flight → YardValue → YardValue → Carriage → Carriage
     → Result (Unit {0}) PutFault → Type 0
-PutsFlight client now f before after was is (Ok unit) = IsNextPut client now f before after × IsCalm was is
-PutsFlight client now f before after was is (Err Carrier) = (after ≡ before) × FailsToCarry was is Failed
-PutsFlight client now f before after was is (Err Depot) = Refuses before after YardDepot × IsCalm was is
+PutsFlight client now f before after was is (Ok unit) =
+    IsNextPut client now f before after × IsCalm was is
+PutsFlight client now f before after was is (Err Carrier) =
+    (after ≡ before) × FailsToCarry was is Failed
+PutsFlight client now f before after was is (Err Depot) =
+    Refuses before after YardDepot × IsCalm was is
 PutsFlight client now f before after was is (Err Memory) = (after ≡ before) × IsCalm was is
 
 -- what an error of the carrier is to a put

@@ -69,7 +69,7 @@ fn has_blocks(alloc: Global, depot: &mut MemDepot, bytes: &[u8]) -> Result<bool,
         b"test/chunks/0/0/7_1_65536".as_slice(),
         b"test/chunks/0/0/7_2_32768".as_slice(),
     ];
-    for (name, part) in names.iter().zip(bytes.chunks(65_536)) {
+    for (name, part) in names.iter().zip(bytes.chunks(MIN_BLOCK as usize)) {
         if !has(alloc, depot, *name, part)? {
             return Ok(false);
         }

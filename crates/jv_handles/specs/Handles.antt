@@ -26,12 +26,14 @@ new_handle inode entry = record { inode = inode; opened = entry; views = no_view
 -- a handle without views of a file that changed
 abbrev pub unseen : ℕ → Option Handle → Option Handle
 unseen inode None = None
-unseen inode (Some handle) = if handle.inode == inode then Some (record handle { views = no_views }) else Some handle
+unseen inode (Some handle) =
+    if handle.inode == inode then Some (record handle { views = no_views }) else Some handle
 
 -- a handle with a view of a window
 abbrev pub seen_by : ℕ → View → Option Handle → Option Handle
 seen_by window view None = None
-seen_by window view (Some handle) = Some (record handle { views = with_view window view handle.views })
+seen_by window view (Some handle) =
+    Some (record handle { views = with_view window view handle.views })
 
 -- a handle without its view of a window
 abbrev pub unseen_by : ℕ → Option Handle → Option Handle

@@ -15,7 +15,8 @@ SamePlace P (Some x) None = ⊥
 SamePlace P (Some x) (Some y) = P x y
 
 -- two tables, whose places are numbered from a number on, have the same places in use, and what stands there is related
-abbrev pub SameTable : {X Y : Type 0} → (ℕ → X → Y → Type 0) → ℕ → List (Option X) → List (Option Y) → Type 0
+abbrev pub SameTable : {X Y : Type 0} → (ℕ → X → Y → Type 0) → ℕ → List (Option X) → List (Option Y)
+    → Type 0
 SameTable P number [] [] = Unit {0}
 SameTable P number [] (y ∷ ys) = ⊥
 SameTable P number (x ∷ xs) [] = ⊥
@@ -27,7 +28,8 @@ pub record IsSeen (g : Known) (v : Shared) (window : ℕ) (m : ModelView) (view 
   pub shows : IsView g v window view.length view.list m.content
 
 -- an open file of the model is the one of a handle, opened by now, with the fresh views of its windows
-pub record IsHandle (g : Known) (v : Shared) (views : List ModelView) (count : ℕ) (number : ℕ) (file : OpenFile)
+pub record IsHandle (g : Known) (v : Shared) (views : List ModelView) (count : ℕ) (number : ℕ)
+    (file : OpenFile)
     (handle : Handle) : Type 0 where
   pub inode : file.inode ≡ handle.inode
   pub opened : file.opened ≡ handle.opened
@@ -36,5 +38,6 @@ pub record IsHandle (g : Known) (v : Shared) (views : List ModelView) (count : �
       (view_at handle.views window)
 
 -- all of a client's open files
-abbrev pub AreHandles : Known → Shared → List ModelView → ℕ → List (Option OpenFile) → List (Option Handle) → Type 0
+abbrev pub AreHandles : Known → Shared → List ModelView → ℕ → List (Option OpenFile)
+    → List (Option Handle) → Type 0
 AreHandles g v views count files handles = SameTable (IsHandle g v views count) 1 files handles

@@ -25,6 +25,7 @@ use Rattle.jv_rows.specs.declared.walking.EntryPlace.{EntryPlace}
 use Rattle.jv_rows.specs.declared.walking.Place.{Place}
 use Rattle.jv_rows.specs.Transactions.{Looks}
 use Rattle.jv_rows.specs.Walks.{HasNodeRow, pair_in, entry_pair, Comes, ComesToEntry}
+use Rattle.jv_tree.proofs.MakeLaws.{by_pair}
 use Rattle.jv_rows.proofs.TransactionLaws.{Past, past-start, past-as, past-calm, past-looks, past-stops, past-gives, past-refuses}
 use Rattle.jv_volume.specs.TypedRows.{typed}
 use Rattle.jv_volume.specs.TreeOf.{tree_of}
@@ -74,11 +75,6 @@ module _ (before after : Store) (at : EntryKey) (place : Place) where
 
 abbrev key_of : ℕ × List ℕ → EntryKey
 key_of pair = record { dir = pair.0; name = pair.1 }
-
-by_pair : {B : Type 0} (r : Result EntryKey Fault) (next : EntryKey → Result B Fault)
-    → (r >>= next) ≡ ((r >>= (λ at. Ok (pair_in at))) >>= (λ pair. next (key_of pair)))
-by_pair (Ok place) next = refl
-by_pair (Err fault) next = refl
 
 abbrev at_last : Tree → EntryKey → EntryKey → Result Move Fault
 at_last t from to = some_or (get t.entries from) NotFound >>=

@@ -3,6 +3,7 @@ use Rattle.std.proofs.Common.{◌≡◌, ℕ, ◌+◌, Bool, true, false, not, �
 use Rattle.std.specs.Prelude.{nat_lt, nat_le, if◌then◌else◌}
 use Rattle.std.specs.List.{list_any}
 use Rattle.std.proofs.lemmas.Bool.{false≢true, false_from_ne_true, leb-true, leb-false, ltb-true, lt-ltb}
+use Rattle.jv_model.specs.declared.limits.TheConstants.{TRASH_ROOT}
 use Rattle.jv_model.specs.declared.fault.Fault.{Fault}
 use Rattle.jv_model.specs.declared.fault.RowFault.{RowFault}
 use Rattle.jv_model.specs.declared.fault.TxFault.{TxFault}
@@ -16,7 +17,7 @@ use Rattle.jv_model.specs.rows.RowKeys.{RowMap}
 use Rattle.jv_model.specs.rows.RowPlaces.{setting_key, node_key}
 use Rattle.jv_model.specs.tree.Caller.{Caller}
 use Rattle.jv_model.specs.tree.Removing as model
-use Rattle.jv_model.specs.tree.Tree.{Tree, EntryKey, trash_root, in_trash, is_directory, entry_count, link_count, node_at}
+use Rattle.jv_model.specs.tree.Tree.{Tree, EntryKey, in_trash, is_directory, entry_count, link_count, node_at}
 use Rattle.jv_outside.specs.declared.batch.Change.{Change}
 use Rattle.jv_outside.specs.Store.{Store}
 use Rattle.jv_rows.specs.Drafts.{drafted, Sees, Needs}
@@ -127,14 +128,14 @@ module _ (caller : Caller) (place : EntryKey) (inode : ℕ) (draft : List Change
 
         module _ (dir : ℕ) (in_dir : place.dir ≡ dir) (held : List ℕ) (held_is : caller.held ≡ held)
             (few : nat_lt 1 row.nlink ≡ false) where
-          told : (days used : Bool) → (nat_lt 0 setting.trash_days && nat_lt dir trash_root) ≡ days
+          told : (days used : Bool) → (nat_lt 0 setting.trash_days && nat_lt dir TRASH_ROOT) ≡ days
               → list_any (λ h. h == inode) held ≡ used → (fate : Fate)
               → fate ≡ fate_in (fate_by false days used) → SaysFate caller place inode draft before (Ok fate)
           told days used days_are used_is fate fate_is known is bytes t m r =
               let day_test : (nat_lt 0 t.setting.trash_days && not (in_trash place.dir)) ≡ days =
               ap (λ (x : Setting). nat_lt 0 x.trash_days && not (in_trash place.dir)) (setting_is known is bytes t m)
               ∙ ap (λ b. nat_lt 0 setting.trash_days && b)
-              (not_le trash_root place.dir (nat_le trash_root place.dir) refl ∙ ap (λ d. nat_lt d trash_root)
+              (not_le TRASH_ROOT place.dir (nat_le TRASH_ROOT place.dir) refl ∙ ap (λ d. nat_lt d TRASH_ROOT)
               in_dir) ∙ days_are in
               fate_is ∙ sym (ap (λ b. fate_in
               (fate_by b (nat_lt 0 t.setting.trash_days && not (in_trash place.dir))
@@ -144,18 +145,18 @@ module _ (caller : Caller) (place : EntryKey) (inode : ℕ) (draft : List Change
               ∙ ap (λ b. fate_in (fate_by false days b)) (ap (list_any (λ h. h == inode)) held_is ∙ used_is))
 
           -- it goes to the trash
-          pub says-trashed : (nat_lt 0 setting.trash_days && nat_lt dir trash_root) ≡ true
+          pub says-trashed : (nat_lt 0 setting.trash_days && nat_lt dir TRASH_ROOT) ≡ true
               → SaysFate caller place inode draft before (Ok Trashed)
           says-trashed days = told true (list_any (λ h. h == inode) held) days refl Trashed refl
 
           -- the session keeps it
-          pub says-sustained : (nat_lt 0 setting.trash_days && nat_lt dir trash_root) ≡ false
+          pub says-sustained : (nat_lt 0 setting.trash_days && nat_lt dir TRASH_ROOT) ≡ false
               → list_any (λ h. h == inode) held ≡ true
               → SaysFate caller place inode draft before (Ok Sustained)
           says-sustained days used = told false true days used Sustained refl
 
           -- it is gone
-          pub says-dropped : (nat_lt 0 setting.trash_days && nat_lt dir trash_root) ≡ false
+          pub says-dropped : (nat_lt 0 setting.trash_days && nat_lt dir TRASH_ROOT) ≡ false
               → list_any (λ h. h == inode) held ≡ false
               → SaysFate caller place inode draft before (Ok Dropped)
           says-dropped days used = told false false days used Dropped refl

@@ -3,7 +3,7 @@
 use Rattle.std.proofs.Common.{◌≡◌, ℕ, zero, suc, ◌≤◌, ◌<◌, ◌≢◌, Bool, true, false, not, ◌&&◌, ◌||◌, ◌==◌, if◌then◌else◌, inl, inr, List, [], ◌∷◌, ◌++◌, length, Option, None, Some, is_some, Result, Ok, Err, refl, sym, ap, ◌∙◌, arith}
 use Rattle.std.specs.Prelude.{nat_le, nat_lt, IsTrue}
 use Rattle.std.proofs.lemmas.Bool.{false≢true, and_from, and_parts, eq-eqb, eqb-true, leb-true, lt-ltb, ltb-true, ltb-false, cases_eq}
-use Rattle.jv_model.specs.declared.limits.TheConstants.{MAX_NAME, MAX_PATH, MAX_SYMLINKS}
+use Rattle.jv_model.specs.declared.limits.TheConstants.{MAX_NAME, MAX_PATH, MAX_SYMLINKS, ROOT, TRASH_ROOT}
 use Rattle.jv_model.specs.declared.fault.Fault.{Fault}
 use Rattle.jv_model.specs.declared.fault.Fault.TheVariants.{NotFound, NotADirectory, Invalid, NameTooLong, NotPermitted, SymlinkLoop}
 use Rattle.jv_model.specs.FiniteMap.{get}
@@ -12,7 +12,7 @@ use Rattle.jv_model.specs.declared.fault.TxFault.TheVariants.{Refused}
 use Rattle.jv_model.specs.rows.RowKeys.{RowMap}
 use Rattle.jv_model.specs.tree.Attempt.{◌>>=◌, require, some_or}
 use Rattle.jv_model.specs.tree.Making.{is_trashed}
-use Rattle.jv_model.specs.tree.Tree.{Tree, EntryKey, entry_key, root, trash_root, in_trash, parent_at, is_directory, trash_entry}
+use Rattle.jv_model.specs.tree.Tree.{Tree, EntryKey, entry_key, in_trash, parent_at, is_directory, trash_entry}
 use Rattle.jv_model.specs.tree.Walk.{is_absolute, names_of, is_dot, is_dot_dot, is_trash, named_from, stepped, way_on, walk_names, walk, inode_by, all_but_last, entry_of}
 use Rattle.jv_model.proofs.FiniteMapLaws.{IsFound, first_where-found}
 use Rattle.jv_model.specs.Lists.{is_nil, last_item}
@@ -42,7 +42,7 @@ then_last t last r = r >>= (λ dir. stepped t dir last)
 abbrev goes_by : (ℕ → List (List ℕ) → Result ℕ Fault) → Tree → Bool → ℕ → List (List ℕ) → ℕ → Option (List ℕ)
     → Result ℕ Fault
 goes_by again t follow inode names next None = walk_names again t follow next names
-goes_by again t follow inode names next (Some target) = again (if is_absolute target then root else inode)
+goes_by again t follow inode names next (Some target) = again (if is_absolute target then ROOT else inode)
     (names_of target ++ names)
 
 append_more : (xs ys : List (List ℕ)) (z : List ℕ) → xs ++ (ys ++ (z ∷ [])) ≡ (xs ++ ys) ++ (z ∷ [])
@@ -65,8 +65,8 @@ goes_split : (t : Tree) (last : List ℕ) (again onto : ℕ → List (List ℕ) 
     (goes_by onto t true inode names next o)
 goes_split t last again onto inode names next None splits rest = rest
 goes_split t last again onto inode names next (Some target) splits rest =
-    ap (again (if is_absolute target then root else inode)) (append_more (names_of target) names last)
-    ∙ splits (if is_absolute target then root else inode) (names_of target ++ names)
+    ap (again (if is_absolute target then ROOT else inode)) (append_more (names_of target) names last)
+    ∙ splits (if is_absolute target then ROOT else inode) (names_of target ++ names)
 
 -- the step of a name, and the rest by its outcome
 bind_then : (r : Result ℕ Fault) (t : Tree) (last : List ℕ) (f g : ℕ → Result ℕ Fault)
@@ -141,14 +141,14 @@ module _ (t : Tree) (w : WholeShape (shape_of t)) (inode : ℕ) (leaf : is_direc
   step_by : (dir parent : ℕ) (last : List ℕ) (dot dots trash : Bool) → is_dot last ≡ dot → is_dot_dot last ≡ dots
       → is_trash dir last ≡ trash
       → parent_at t dir ≡ Some parent → nat_le (length last) MAX_NAME ≡ true
-      → (if dot then Ok dir else if dots then Ok parent else if trash then Ok trash_root else some_or
+      → (if dot then Ok dir else if dots then Ok parent else if trash then Ok TRASH_ROOT else some_or
       (get t.entries (record { dir = dir; name = last })) NotFound) ≡ Ok inode
       → IsStep t dir last inode
   step_by dir parent last true dots trash e f g is short h = no_directory dir (sym (same_Ok dir inode h))
       (ap is_some is)
   step_by dir parent last false true trash e f g is short h = no_directory parent (sym (same_Ok parent inode h))
       (parent_directory t w dir parent is)
-  step_by dir parent last false false true e f g is short h = no_directory trash_root (sym (same_Ok trash_root inode h))
+  step_by dir parent last false false true e f g is short h = no_directory TRASH_ROOT (sym (same_Ok TRASH_ROOT inode h))
       (trash_directory t w)
   step_by dir parent last false false false e f g is short h = record {
     within = ap is_some is;
@@ -179,21 +179,21 @@ module _ (t : Tree) (w : WholeShape (shape_of t)) (inode : ℕ) (leaf : is_direc
     of_dir name dir = require (is_directory t dir) NotADirectory >>= (λ _. of_length name dir)
 
     abbrev above : Result ℕ Fault
-    above = walk MAX_SYMLINKS t true root (all_but_last (names_of path))
+    above = walk MAX_SYMLINKS t true ROOT (all_but_last (names_of path))
 
     abbrev of_name : List ℕ → Result EntryKey Fault
     of_name name = require (not (is_dot name || is_dot_dot name)) Invalid >>= (λ _. above >>= of_dir name)
 
-    own_by : nat_le (length path) MAX_PATH ≡ true → walk MAX_SYMLINKS t false root (names_of path) ≡ Ok inode
+    own_by : nat_le (length path) MAX_PATH ≡ true → walk MAX_SYMLINKS t false ROOT (names_of path) ≡ Ok inode
         → Lasts (names_of path) → IsOwn t path inode
     unfolding walk walk_names
     own_by fits walked (Nameless none) =
-        no_directory root (same_Ok inode root (sym walked ∙ ap (walk MAX_SYMLINKS t false root) none))
+        no_directory ROOT (same_Ok inode ROOT (sym walked ∙ ap (walk MAX_SYMLINKS t false ROOT) none))
         (root_directory t w)
     own_by fits walked (Last last is split) =
-        let by_last = sym (walk_split t last MAX_SYMLINKS root (all_but_last (names_of path)))
-        ∙ ap (walk MAX_SYMLINKS t false root) (sym split) ∙ walked in
-        let dir = went_on (walk MAX_SYMLINKS t true root (all_but_last (names_of path))) (λ dir. stepped t dir last)
+        let by_last = sym (walk_split t last MAX_SYMLINKS ROOT (all_but_last (names_of path)))
+        ∙ ap (walk MAX_SYMLINKS t false ROOT) (sym split) ∙ walked in
+        let dir = went_on (walk MAX_SYMLINKS t true ROOT (all_but_last (names_of path))) (λ dir. stepped t dir last)
         inode by_last in
         let step = is_step dir.0 last dir.2 in
         record {
@@ -204,7 +204,7 @@ module _ (t : Tree) (w : WholeShape (shape_of t)) (inode : ℕ) (leaf : is_direc
       where
         ends : nat_le (length path) MAX_PATH ≡ true → (last : List ℕ) → last_item (names_of path) ≡ Some last
             → not (is_dot last || is_dot_dot last) ≡ true
-            → (dir : ℕ) → walk MAX_SYMLINKS t true root (all_but_last (names_of path)) ≡ Ok dir
+            → (dir : ℕ) → walk MAX_SYMLINKS t true ROOT (all_but_last (names_of path)) ≡ Ok dir
             → is_directory t dir ≡ true → nat_le (length last) MAX_NAME ≡ true
             → entry_of t path ≡ Ok (record { dir = dir; name = last })
         ends fits last is plain dir walked within short =
@@ -219,13 +219,13 @@ module _ (t : Tree) (w : WholeShape (shape_of t)) (inode : ℕ) (leaf : is_direc
     own : IsOwn t path inode
     own =
         let short = went_on (require (nat_le (length path) MAX_PATH) NameTooLong)
-        (λ _. walk MAX_SYMLINKS t false root (names_of path)) inode h in
+        (λ _. walk MAX_SYMLINKS t false ROOT (names_of path)) inode h in
         own_by (required _ NameTooLong short.0 short.1) short.2 (lasts (names_of path))
 
     -- ---- the trash
 
-    high_hour : (dir : ℕ) → IsTrue (is_dir ((shape_of t).form dir)) → trash_root < dir → IsTrue (is_hour dir)
-    high_hour dir is high = (w.hours dir (there_of_dir ((shape_of t).form dir) is) (lt-ltb trash_root dir high)).0
+    high_hour : (dir : ℕ) → IsTrue (is_dir ((shape_of t).form dir)) → TRASH_ROOT < dir → IsTrue (is_hour dir)
+    high_hour dir is high = (w.hours dir (there_of_dir ((shape_of t).form dir) is) (lt-ltb TRASH_ROOT dir high)).0
 
     no_hour : {A : Type 0} → IsTrue (is_there ((shape_of t).form inode)) → IsTrue (is_hour inode) → A
     no_hour there hour =
@@ -234,21 +234,21 @@ module _ (t : Tree) (w : WholeShape (shape_of t)) (inode : ℕ) (leaf : is_direc
     -- an entry in the trash is the only one
     only_there : (at place : EntryKey) → get t.entries at ≡ Some inode → in_trash at.dir ≡ true
         → get t.entries place ≡ Some inode → place ≡ at
-    only_there at place is high names_it = elim (cases_eq at.dir trash_root) [
+    only_there at place is high names_it = elim (cases_eq at.dir TRASH_ROOT) [
       | inl e ↦ no_hour (w.entry at inode is).there ((w.entry at inode is).hour e).hour
       | inr apart ↦
-          let low = leb-true trash_root at.dir high in
+          let low = leb-true TRASH_ROOT at.dir high in
           only_one t.entries at place inode
           ((w.entry at inode is).trashed
           (high_hour at.dir (w.entry at inode is).within (strictly at.dir low apart))).only is names_it
     ]
       where
-        strictly : (d : ℕ) → trash_root ≤ d → d ≢ trash_root → trash_root < d
-        strictly d low apart = by_test (nat_lt trash_root d) refl
+        strictly : (d : ℕ) → TRASH_ROOT ≤ d → d ≢ TRASH_ROOT → TRASH_ROOT < d
+        strictly d low apart = by_test (nat_lt TRASH_ROOT d) refl
           where
-            by_test : (b : Bool) → nat_lt trash_root d ≡ b → trash_root < d
-            by_test true is = ltb-true trash_root d is
-            by_test false is = (let high = ltb-false trash_root d is in absurd (apart (omega (arith, low, high))))
+            by_test : (b : Bool) → nat_lt TRASH_ROOT d ≡ b → TRASH_ROOT < d
+            by_test true is = ltb-true TRASH_ROOT d is
+            by_test false is = (let high = ltb-false TRASH_ROOT d is in absurd (apart (omega (arith, low, high))))
 
     -- so any entry shows whether there is one in the trash
     trashed_by : (place : EntryKey) → get t.entries place ≡ Some inode → (b : Bool) → in_trash place.dir ≡ b

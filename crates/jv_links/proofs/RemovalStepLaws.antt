@@ -2,10 +2,11 @@
 use Rattle.std.proofs.Common.{◌≡◌, ◌≢◌, ℕ, ◌<◌, true, false, not, ◌==◌, inl, inr, Some, is_some, sym, ap, subst, ◌∙◌, arith, ne_eqb}
 use Rattle.std.specs.Prelude.{nat_lt}
 use Rattle.std.proofs.lemmas.Bool.{false≢true, and_from, not-true, or_parts, lt-ltb, eqb-false, cases_lt}
+use Rattle.jv_model.specs.declared.limits.TheConstants.{ROOT, TRASH_ROOT}
 use Rattle.jv_model.specs.FiniteMap.{get}
 use Rattle.jv_model.specs.tree.Changes.{touched, take_entry}
 use Rattle.jv_model.specs.tree.Removing.{may_go}
-use Rattle.jv_model.specs.tree.Tree.{Tree, EntryKey, entry_key, root, trash_root, is_counted, is_directory, has_entries, node_at}
+use Rattle.jv_model.specs.tree.Tree.{Tree, EntryKey, entry_key, is_counted, is_directory, has_entries, node_at}
 use Rattle.jv_model.specs.tree.Walk.{is_trash}
 use Rattle.jv_changes.specs.Ready.{StandsAt, MayGo}
 use Rattle.jv_volume.specs.Shape.{WholeShape, shape_of, is_dir, names}
@@ -26,50 +27,50 @@ module _ (t : Tree) (place : EntryKey) (inode : ℕ) (whole : WholeShape (shape_
   pub stands_at : place.dir ≢ inode → StandsAt t place inode
   stands_at apart = record { named = is; within = place_within; there = node_there; apart = apart }
 
-  pub top_apart : (inode ≢ root) × (inode ≢ trash_root)
+  pub top_apart : (inode ≢ ROOT) × (inode ≢ TRASH_ROOT)
   top_apart =
-      let parts = or_parts (inode == root) (inode == trash_root) (whole.entry place inode is).free in
-      (eqb-false inode root parts.0, eqb-false inode trash_root parts.1)
+      let parts = or_parts (inode == ROOT) (inode == TRASH_ROOT) (whole.entry place inode is).free in
+      (eqb-false inode ROOT parts.0, eqb-false inode TRASH_ROOT parts.1)
 
-  counted_low : inode < trash_root → is_counted inode ≡ true
-  counted_low low = and_from (not (inode == root)) (nat_lt inode trash_root) (ap not (ne_eqb inode root top_apart.0))
-      (lt-ltb inode trash_root low)
+  counted_low : inode < TRASH_ROOT → is_counted inode ≡ true
+  counted_low low = and_from (not (inode == ROOT)) (nat_lt inode TRASH_ROOT) (ap not (ne_eqb inode ROOT top_apart.0))
+      (lt-ltb inode TRASH_ROOT low)
 
   -- what goes with its only entry
-  may_go_low : (now : ℕ) → place.dir ≢ inode → inode < trash_root
+  may_go_low : (now : ℕ) → place.dir ≢ inode → inode < TRASH_ROOT
       → ((at : EntryKey) → get t.entries at ≡ Some inode → at ≡ place) → MayGo (take_entry t now place) inode
   may_go_low now apart low only = record {
     there = ap is_some (change_node-apart t place.dir (touched now) inode (λ e. apart (sym e))) ∙ node_there;
     unnamed = λ at there. (let kept = was_kept entry_key t.entries place at inode there in kept.0 (only at kept.1));
     counted = counted_low low;
     given = subst (λ n. inode < n) (sym (change_node-next_inode t place.dir (touched now)))
-        (whole.below inode (whole.entry place inode is).there (lt-ltb inode trash_root low));
+        (whole.below inode (whole.entry place inode is).there (lt-ltb inode TRASH_ROOT low));
   }
 
   -- a file or a symlink is none of the trash's directories, and a directory that may go isn't either
-  leaf_low : is_directory t inode ≡ false → inode < trash_root
-  leaf_low leaf = elim (cases_lt inode trash_root) [
+  leaf_low : is_directory t inode ≡ false → inode < TRASH_ROOT
+  leaf_low leaf = elim (cases_lt inode TRASH_ROOT) [
     | inl low ↦ low
     | inr high ↦
         let other = top_apart.1 in
         let hours = whole.hours inode (whole.entry place inode is).there
-        (lt-ltb trash_root inode (omega (arith, high, other))) in
+        (lt-ltb TRASH_ROOT inode (omega (arith, high, other))) in
         absurd (false≢true (sym (is_dir-form (node_at t inode) ∙ leaf) ∙ ap is_dir hours.1))
   ]
 
-  off_trash : may_go place ≡ true → place.dir ≢ trash_root
+  off_trash : may_go place ≡ true → place.dir ≢ TRASH_ROOT
   off_trash may e =
-      let parts = or_parts (place.dir == trash_root) (is_trash place.dir place.name) (not-true _ may) in
-      eqb-false place.dir trash_root parts.0 e
+      let parts = or_parts (place.dir == TRASH_ROOT) (is_trash place.dir place.name) (not-true _ may) in
+      eqb-false place.dir TRASH_ROOT parts.0 e
 
-  directory_low : may_go place ≡ true → inode < trash_root
-  directory_low may = elim (cases_lt inode trash_root) [
+  directory_low : may_go place ≡ true → inode < TRASH_ROOT
+  directory_low may = elim (cases_lt inode TRASH_ROOT) [
     | inl low ↦ low
     | inr high ↦
         let other = top_apart.1 in
         let names_it = whole.entry place inode is in
-        let hours = whole.hours inode names_it.there (lt-ltb trash_root inode (omega (arith, high, other))) in
-        let entered = whole.entered inode trash_root hours.1 names_it.free in
+        let hours = whole.hours inode names_it.there (lt-ltb TRASH_ROOT inode (omega (arith, high, other))) in
+        let entered = whole.entered inode TRASH_ROOT hours.1 names_it.free in
         absurd (off_trash may (ap (λ (q : EntryKey). q.dir) (entered.only place is)))
   ]
 

@@ -2,7 +2,7 @@
 use Rattle.std.proofs.Common.{◌≡◌, ◌≢◌, ℕ, ◌≤◌, true, false, not, ◌&&◌, ◌||◌, ◌==◌, List, [], Option, is_some, Result, Ok, Err, refl, sym, ap, subst, ◌∙◌, arith, ne_eqb}
 use Rattle.std.proofs.lemmas.Bool.{not-true, or_parts}
 use Rattle.jv_model.specs.declared.basics.How.{How}
-use Rattle.jv_model.specs.declared.limits.TheConstants.{MAX_LINKS, LAST_MOMENT}
+use Rattle.jv_model.specs.declared.limits.TheConstants.{MAX_LINKS, LAST_MOMENT, TRASH_ROOT}
 use Rattle.jv_model.specs.declared.fault.Down.{Down}
 use Rattle.jv_model.specs.declared.fault.Fault.{Fault}
 use Rattle.jv_model.specs.declared.fault.Fault.TheVariants.{Invalid, NotADirectory, IsADirectory, DirectoryNotEmpty, NoSpace}
@@ -17,7 +17,7 @@ use Rattle.jv_model.specs.tree.Caller.{Caller, Outcome, outcome, done}
 use Rattle.jv_model.specs.tree.Making.{may_be_new}
 use Rattle.jv_model.specs.tree.Removing.{may_go}
 use Rattle.jv_model.specs.tree.Renaming.{is_inside, moved, within_links, without_target, replacing}
-use Rattle.jv_model.specs.tree.Tree.{Tree, EntryKey, trash_root, in_trash, is_directory, has_entries, is_sustained, links_fit}
+use Rattle.jv_model.specs.tree.Tree.{Tree, EntryKey, in_trash, is_directory, has_entries, is_sustained, links_fit}
 use Rattle.jv_model.specs.tree.Walk.{is_trash}
 use Rattle.jv_outside.specs.declared.batch.Change.{Change}
 use Rattle.jv_outside.specs.Store.{Store, Commits}
@@ -44,7 +44,7 @@ use Rattle.jv_links.proofs.RenameAnswerLaws.{has_node, links_low}
 goes_by : (place : EntryKey) → may_be_new place ≡ true → may_go place ≡ true
 goes_by place may =
     let low = new_below place may in
-    let off : (place.dir == trash_root) ≡ false = ne_eqb place.dir trash_root (λ e. absurd (omega (arith, low, e))) in
+    let off : (place.dir == TRASH_ROOT) ≡ false = ne_eqb place.dir TRASH_ROOT (λ e. absurd (omega (arith, low, e))) in
     let plain : is_trash place.dir place.name ≡ false =
     (or_parts (in_trash place.dir) (is_trash place.dir place.name) (not-true _ may)).1 in
     ap (λ b. not (b || is_trash place.dir place.name)) off ∙ ap (λ b. not b) plain

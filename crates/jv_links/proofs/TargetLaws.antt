@@ -4,14 +4,14 @@ use Rattle.std.specs.Prelude.{IsTrue, nat_lt}
 use Rattle.std.specs.List.{list_any}
 use Rattle.std.proofs.lemmas.Bool.{false≢true, cond_both, and_parts, not-true, le-leb, leb-true}
 use Rattle.std.proofs.lemmas.Option.{same_Some}
-use Rattle.jv_model.specs.declared.limits.TheConstants.{MAX_LINKS, READ_ONLY_MODE}
+use Rattle.jv_model.specs.declared.limits.TheConstants.{MAX_LINKS, READ_ONLY_MODE, TRASH_ROOT}
 use Rattle.jv_model.specs.tree.Caller.{Caller}
 use Rattle.jv_model.specs.tree.Changes.{status_changed, take_entry, put_entry, with_node}
 use Rattle.jv_model.specs.tree.HourNames.{hour_at}
 use Rattle.jv_model.specs.tree.Removing.{Fate, Linked, Trashed, Sustained, Dropped, fate_of, with_fate, remove_entry, remove_directory}
 use Rattle.jv_model.specs.tree.Renaming.{without_target}
 use Rattle.jv_model.specs.tree.Trash.{hour_inode, hour_place, trash_place, trash_name, with_hour}
-use Rattle.jv_model.specs.tree.Tree.{Tree, Node, Directory, EntryKey, trash_root, in_trash, new_node, node_at, is_directory, entry_count, link_count, links_fit}
+use Rattle.jv_model.specs.tree.Tree.{Tree, Node, Directory, EntryKey, in_trash, new_node, node_at, is_directory, entry_count, link_count, links_fit}
 use Rattle.jv_volume.specs.Shape.{Shape, WholeShape, shape_of, is_there, is_dir, names, named}
 use Rattle.jv_volume.specs.TypedRows.{is_entry_name}
 use Rattle.jv_volume.proofs.ClimbLaws.{avoids_outside, avoids_without, outside_avoids}
@@ -31,9 +31,9 @@ use Rattle.jv_links.proofs.TrashStepLaws.{trash_hour, trash_stands, leaf_made}
 
 -- an hour's directory that comes changes the links of the trash alone
 module _ (less : Tree) (now : ℕ) (place : EntryKey) (inode : ℕ) (may : IsToTrash less now place inode) (j : ℕ)
-    (off : j ≢ trash_root) (here : is_some (node_at less j) ≡ true) where
+    (off : j ≢ TRASH_ROOT) (here : is_some (node_at less j) ≡ true) where
   abbrev hour_node : Node
-  hour_node = new_node (Directory trash_root) READ_ONLY_MODE now
+  hour_node = new_node (Directory TRASH_ROOT) READ_ONLY_MODE now
 
   beside : link_count (with_hour less now (hour_at now)) j ≡ link_count less j
   unfolding with_hour
@@ -69,7 +69,7 @@ module _ (less : Tree) (now : ℕ) (place : EntryKey) (inode : ℕ) (may : IsToT
 
 module _ (t : Tree) (who : Caller) (place : EntryKey) (inode : ℕ) (may : MayLose t who place inode)
     (name : IsTrue (is_entry_name place.name))
-    (j : ℕ) (other : j ≢ inode) (off : j ≢ trash_root) (here : IsTrue (is_there ((shape_of t).form j))) where
+    (j : ℕ) (other : j ≢ inode) (off : j ≢ TRASH_ROOT) (here : IsTrue (is_there ((shape_of t).form j))) where
   abbrev less : Tree
   less = take_entry t who.now place
 
@@ -139,7 +139,7 @@ module _ (t : Tree) (who : Caller) (from : EntryKey) (source : ℕ) (to : EntryK
   to_within : is_directory t to.dir ≡ true
   to_within = rename.within
 
-  least_by : (b : Bool) → is_directory t other ≡ b → (j : ℕ) → j ≢ other → j ≢ trash_root
+  least_by : (b : Bool) → is_directory t other ≡ b → (j : ℕ) → j ≢ other → j ≢ TRASH_ROOT
       → IsTrue (is_there ((shape_of t).form j))
       → link_count (elim b as (λ _. Tree) [
         | true ↦ remove_directory t who.now to other
@@ -163,7 +163,7 @@ module _ (t : Tree) (who : Caller) (from : EntryKey) (source : ℕ) (to : EntryK
       }) name j aside off here in
       omega (arith, all)
 
-  fits : (j : ℕ) → j ≢ other → j ≢ trash_root → IsTrue (is_there ((shape_of t).form j)) → links_fit t j ≡ true
+  fits : (j : ℕ) → j ≢ other → j ≢ TRASH_ROOT → IsTrue (is_there ((shape_of t).form j)) → links_fit t j ≡ true
       → links_fit (without_target t who to other) j ≡ true
   fits j aside off here fit =
       let least = least_by (is_directory t other) refl j aside off here in

@@ -3,14 +3,14 @@
 use Rattle.std.proofs.Common.{◌≡◌, ◌≢◌, ℕ, ◌+◌, ◌<◌, ◌≤◌, Bool, true, false, ◌&&◌, ◌==◌, inl, inr, None, Some, is_some, Ok, refl, sym, ap, subst, ◌∙◌, arith, ne_eqb, le-leb}
 use Rattle.std.specs.Prelude.{IsTrue, if◌then◌else◌}
 use Rattle.std.proofs.lemmas.Bool.{false≢true, cases_eq, lt-ltb}
-use Rattle.jv_model.specs.declared.limits.TheConstants.{MAX_LINKS}
+use Rattle.jv_model.specs.declared.limits.TheConstants.{MAX_LINKS, TRASH_ROOT}
 use Rattle.jv_model.specs.declared.fault.Fault.TheVariants.{NoSpace}
 use Rattle.jv_model.specs.FiniteMap.{get, remove, sum_over}
 use Rattle.jv_model.specs.tree.Attempt.{◌>>=◌, require}
 use Rattle.jv_model.specs.tree.Changes.{put_entry}
 use Rattle.jv_model.specs.tree.HourNames.{hour_at}
 use Rattle.jv_model.specs.tree.Trash.{hour_inode, hour_place, with_hour, trash_place, trash_name}
-use Rattle.jv_model.specs.tree.Tree.{Tree, EntryKey, entry_key, trash_root, in_trash, is_directory, link_count, links_fit, node_at, name_count}
+use Rattle.jv_model.specs.tree.Tree.{Tree, EntryKey, entry_key, in_trash, is_directory, link_count, links_fit, node_at, name_count}
 use Rattle.jv_changes.specs.Ready.{MayHaveHour, MayStandAt, IsThere, entry_put}
 use Rattle.jv_links.specs.Losses.{IsToTrash}
 use Rattle.jv_volume.specs.Shape.{Form, Absent, Dir, Shape, Names, form_of, shape_of, is_there, is_dir, named, names, is_hour}
@@ -24,7 +24,7 @@ use Rattle.jv_volume.proofs.TrashLaws.{trash_place_free}
 
 -- ---- the entries and the forms with an hour's directory
 
-hour_entries : (s after : Shape) (hour : ℕ) → WithHour s hour after → (at : EntryKey) → at.dir ≢ trash_root
+hour_entries : (s after : Shape) (hour : ℕ) → WithHour s hour after → (at : EntryKey) → at.dir ≢ TRASH_ROOT
     → named after at ≡ named s at
 hour_entries s after hour (Was there same) at apart = ap (λ (x : Shape). named x at) same
 hour_entries s after hour (Comes absent same) at apart = ap (λ (x : Shape). named x at) same
@@ -35,14 +35,14 @@ hour_forms : (s after : Shape) (hour : ℕ) → WithHour s hour after → (inode
     → after.form inode ≡ s.form inode
 hour_forms s after hour (Was there same) inode apart = ap (λ (x : Shape). x.form inode) same
 hour_forms s after hour (Comes absent same) inode apart = ap (λ (x : Shape). x.form inode) same
-    ∙ with_form-apart s.form (hour_inode hour) (Dir trash_root) inode apart
+    ∙ with_form-apart s.form (hour_inode hour) (Dir TRASH_ROOT) inode apart
 
 hour_form : (s after : Shape) (hour : ℕ) → WithHour s hour after
-    → (IsTrue (is_there (s.form (hour_inode hour))) → s.form (hour_inode hour) ≡ Dir trash_root)
-    → after.form (hour_inode hour) ≡ Dir trash_root
+    → (IsTrue (is_there (s.form (hour_inode hour))) → s.form (hour_inode hour) ≡ Dir TRASH_ROOT)
+    → after.form (hour_inode hour) ≡ Dir TRASH_ROOT
 hour_form s after hour (Was there same) is = ap (λ (x : Shape). x.form (hour_inode hour)) same ∙ is there
 hour_form s after hour (Comes absent same) is = ap (λ (x : Shape). x.form (hour_inode hour)) same
-    ∙ with_form-here s.form (hour_inode hour) (Dir trash_root)
+    ∙ with_form-here s.form (hour_inode hour) (Dir TRASH_ROOT)
 
 hour_counts : (s after : Shape) (hour : ℕ) → WithHour s hour after
     → (s.form (hour_inode hour) ≡ Absent → named s (hour_place hour) ≡ None)
@@ -78,7 +78,7 @@ module _ (less : Tree) (now : ℕ) (place : EntryKey) (inode : ℕ) (may : IsToT
   low : hour_at now ≤ last_hour
   low = let clock = may.clock in omega (arith, clock)
 
-  high : trash_root < hour_inode (hour_at now)
+  high : TRASH_ROOT < hour_inode (hour_at now)
   high = hour_inode_high (hour_at now) low
 
   shape_less : shape_of less ≡ with_entries s (remove s.entries place)
@@ -101,16 +101,16 @@ module _ (less : Tree) (now : ℕ) (place : EntryKey) (inode : ℕ) (may : IsToT
   was_there q i e = (was_kept entry_key s.entries place q i (sym (named_less q) ∙ e)).1
 
   hour_is_dir : IsTrue (is_there (s.form (hour_inode (hour_at now))))
-      → s.form (hour_inode (hour_at now)) ≡ Dir trash_root
-  hour_is_dir there = (may.whole.hours dir there (lt-ltb trash_root dir high)).1
+      → s.form (hour_inode (hour_at now)) ≡ Dir TRASH_ROOT
+  hour_is_dir there = (may.whole.hours dir there (lt-ltb TRASH_ROOT dir high)).1
 
   inode_apart : inode ≢ hour_inode (hour_at now)
   inode_apart e = false≢true (sym leaf_form ∙ ap is_dir
       (ap s.form e ∙ hour_is_dir (subst (λ i. IsTrue (is_there (s.form i))) e own.there)))
 
-  place_apart : (q : EntryKey) → trash_root ≤ q.dir → q ≢ place
+  place_apart : (q : EntryKey) → TRASH_ROOT ≤ q.dir → q ≢ place
   place_apart q in_it e = false≢true
-      (sym may.outside ∙ ap (λ (x : EntryKey). in_trash x.dir) (sym e) ∙ le-leb trash_root q.dir in_it)
+      (sym may.outside ∙ ap (λ (x : EntryKey). in_trash x.dir) (sym e) ∙ le-leb TRASH_ROOT q.dir in_it)
 
   hour_off : (node_at less (hour_inode (hour_at now)) ≡ None) → s.form (hour_inode (hour_at now)) ≡ Absent
   hour_off none = sym (form_less dir) ∙ ap form_of none
@@ -127,7 +127,7 @@ module _ (less : Tree) (now : ℕ) (place : EntryKey) (inode : ℕ) (may : IsToT
   -- the directory of the hour is there, or may come
   pub trash_hour : MayHaveHour less (hour_at now)
   trash_hour = record {
-    trash = is_directory-form less trash_root ∙ ap is_dir (form_less trash_root ∙ may.whole.trash_there);
+    trash = is_directory-form less TRASH_ROOT ∙ ap is_dir (form_less TRASH_ROOT ∙ may.whole.trash_there);
     free = λ none. free_less (hour_off none);
     unnamed = λ none q e. not_there dir (hour_off none) (may.whole.entry q dir (was_there q dir e)).there;
     empty = λ none q i e within. not_there dir (hour_off none)
@@ -144,11 +144,11 @@ module _ (less : Tree) (now : ℕ) (place : EntryKey) (inode : ℕ) (may : IsToT
   form_made : (i : ℕ) → i ≢ hour_inode (hour_at now) → (shape_of (with_hour less now (hour_at now))).form i ≡ s.form i
   form_made i apart = hour_forms (shape_of less) (shape_of made) hour with_it i apart ∙ form_less i
 
-  dir_made : (shape_of (with_hour less now (hour_at now))).form (hour_inode (hour_at now)) ≡ Dir trash_root
+  dir_made : (shape_of (with_hour less now (hour_at now))).form (hour_inode (hour_at now)) ≡ Dir TRASH_ROOT
   dir_made = hour_form (shape_of less) (shape_of made) hour with_it
       (λ there. form_less dir ∙ hour_is_dir (subst (λ f. IsTrue (is_there f)) (form_less dir) there))
 
-  named_made : (q : EntryKey) → q.dir ≢ trash_root
+  named_made : (q : EntryKey) → q.dir ≢ TRASH_ROOT
       → get (with_hour less now (hour_at now)).entries q ≡ get less.entries q
   named_made q apart = hour_entries (shape_of less) (shape_of made) hour with_it q apart
 

@@ -10,7 +10,7 @@ use Rattle.jv_model.specs.declared.fault.Fault.{Fault}
 use Rattle.jv_model.specs.declared.fault.Fault.TheVariants.{NotPermitted}
 use Rattle.jv_model.specs.declared.fault.TxFault.{TxFault}
 use Rattle.jv_model.specs.declared.fault.TxFault.TheVariants.{Refused, Rows as OfRows}
-use Rattle.jv_model.specs.declared.limits.TheConstants.{LAST_MOMENT, READ_ONLY_MODE}
+use Rattle.jv_model.specs.declared.limits.TheConstants.{LAST_MOMENT, READ_ONLY_MODE, TRASH_ROOT}
 use Rattle.jv_model.specs.declared.op.Reply.{Reply}
 use Rattle.jv_model.specs.declared.op.Reply.TheVariants.{Done}
 use Rattle.jv_model.specs.FiniteMap.{Map, get, insert}
@@ -20,7 +20,7 @@ use Rattle.jv_model.specs.tree.Changes.{touched, status_changed, put_node, put_e
 use Rattle.jv_model.specs.tree.HourNames.{hour_at}
 use Rattle.jv_model.specs.tree.Removing.{Fate, Linked, Trashed, Sustained, Dropped, fate_of, with_fate, remove_entry, unlink}
 use Rattle.jv_model.specs.tree.Trash.{hour_inode, hour_place, trash_place, with_hour}
-use Rattle.jv_model.specs.tree.Tree.{Tree, Node, Directory, EntryKey, pair_key, trash_root, new_node, node_at, is_directory, is_sustained}
+use Rattle.jv_model.specs.tree.Tree.{Tree, Node, Directory, EntryKey, pair_key, new_node, node_at, is_directory, is_sustained}
 use Rattle.jv_outside.specs.declared.batch.Change.{Change}
 use Rattle.jv_outside.specs.Store.{Store, Commits}
 use Rattle.jv_rows.specs.Transactions.{IsFor, Transacts, Always}
@@ -47,13 +47,13 @@ unfolding with_hour
 with_hour-sustained t now hour = by_node (node_at t (hour_inode hour))
   where
     hour_node : Node
-    hour_node = new_node (Directory trash_root) READ_ONLY_MODE now
+    hour_node = new_node (Directory TRASH_ROOT) READ_ONLY_MODE now
 
     by_node : (o : Option Node) → (elim o as (λ _. Tree) [
       | None ↦ with_node t now (hour_place hour) (hour_inode hour) hour_node
       | Some node ↦ t
     ]).sustained ≡ t.sustained
-    by_node None = change_node-sustained (put_node t (hour_inode hour) hour_node) trash_root (touched now)
+    by_node None = change_node-sustained (put_node t (hour_inode hour) hour_node) TRASH_ROOT (touched now)
     by_node (Some node) = refl
 
 module _ (t : Tree) (who : Caller) (place : EntryKey) (inode : ℕ) (may : MayLose t who place inode) (i : ℕ) where

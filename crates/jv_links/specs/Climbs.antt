@@ -15,4 +15,5 @@ pub record IsNear (known : RowMap) (dir steps : ℕ) : Type 0 where
 
 -- and so over whole rows; of other rows nothing is said
 abbrev pub StandsNear : Store → ℕ → ℕ → Type 0
-StandsNear store dir steps = (known : RowMap) → store.rows ≡ Some known → Whole (typed known) → IsNear known dir steps
+StandsNear store dir steps =
+    (known : RowMap) → store.rows ≡ Some known → Whole (typed known) → IsNear known dir steps

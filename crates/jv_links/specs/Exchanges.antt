@@ -11,7 +11,8 @@ use Rattle.jv_volume.specs.Shape.{WholeShape, shape_of}
 use Rattle.jv_volume.specs.TypedRows.{is_entry_name}
 
 -- Two entries of a whole tree that may change places. The links of what they name can be stored.
-pub record MayExchange (t : Tree) (from : EntryKey) (source : ℕ) (to : EntryKey) (other : ℕ) : Type 0 where
+pub record MayExchange (t : Tree) (from : EntryKey) (source : ℕ) (to : EntryKey)
+    (other : ℕ) : Type 0 where
   pub whole : WholeShape (shape_of t)
   pub is : get t.entries from ≡ Some source
   pub also : get t.entries to ≡ Some other
@@ -26,7 +27,8 @@ pub record MayExchange (t : Tree) (from : EntryKey) (source : ℕ) (to : EntryKe
 -- an inode moved in from elsewhere, where the link counts of its new directory and its own can be stored
 abbrev pub entry_moved : ℕ → EntryKey → ℕ → Tree → Result Tree Fault
 entry_moved now place inode t = do
-  _ ← require (links_fit (put_entry t now place inode) place.dir && links_fit (put_entry t now place inode) inode)
+  _ ← require (links_fit (put_entry t now place inode) place.dir
+      && links_fit (put_entry t now place inode) inode)
       NoSpace
   Ok (move_in t now place inode)
 

@@ -32,7 +32,8 @@ pub record Move : Type 0 where
   pub to : EntryKey
 
 abbrev pub move_of : Ends → Move
-move_of ends = record { from = place_of ends.from; source = ends.source.inode; to = place_of ends.to }
+move_of ends =
+    record { from = place_of ends.from; source = ends.source.inode; to = place_of ends.to }
 
 abbrev pub move_in : Result Ends TxFault → Result Move TxFault
 move_in (Ok ends) = Ok (move_of ends)
@@ -68,7 +69,8 @@ pub record EndsStand (store : Store) (ends : Ends) : Type 0 where
   pub source : Stands store ends.source
 
 -- the ends of a rename: over whole rows they are the model's, and the rows of their nodes stand there
-pub record FindsEnds (before after : Store) (result : Result Ends TxFault) (finds : Tree → Result Move Fault) : Type 0
+pub record FindsEnds (before after : Store) (result : Result Ends TxFault)
+    (finds : Tree → Result Move Fault) : Type 0
   where
     pub looks : Looks before after (move_in result) finds
     pub stand : IfOk result (EndsStand after)
@@ -83,19 +85,22 @@ pub record IsMove (t : Tree) (sid : ℕ) (how : How) (m : Move) : Type 0 where
   pub name : IsTrue (is_entry_name m.to.name)
 
 -- and that no entry is in its target's place
-pub record IsFreeMove (t : Tree) (sid : ℕ) (how : How) (from : EntryKey) (source : ℕ) (to : EntryKey) : Type 0 where
+pub record IsFreeMove (t : Tree) (sid : ℕ) (how : How) (from : EntryKey) (source : ℕ)
+    (to : EntryKey) : Type 0 where
   pub move : IsMove t sid how (record { from = from; source = source; to = to })
   pub free : get t.entries to ≡ None
 
 -- and that its target names an inode; what the caller has open are files
-pub record IsOverMove (t : Tree) (who : Caller) (how : How) (from : EntryKey) (source : ℕ) (to : EntryKey)
+pub record IsOverMove (t : Tree) (who : Caller) (how : How) (from : EntryKey) (source : ℕ)
+    (to : EntryKey)
     (other : ℕ) : Type 0 where
   pub move : IsMove t who.sid how (record { from = from; source = source; to = to })
   pub there : get t.entries to ≡ Some other
   pub held : HoldsFiles who.held t
 
 -- the model's rename of a kind, by what its target names
-abbrev pub renamed_with : How → Tree → Caller → EntryKey → ℕ → EntryKey → Option ℕ → Result Outcome Fault
+abbrev pub renamed_with : How → Tree → Caller → EntryKey → ℕ → EntryKey → Option ℕ
+    → Result Outcome Fault
 renamed_with Plain t who from source to target = renamed_over t who from source to target
 renamed_with NoReplace t who from source to target = do
   _ ← require (not (is_some target)) AlreadyExists
@@ -105,7 +110,8 @@ renamed_with Exchange t who from source to target = do
   unless_same t source other (λ _. exchanging t who from source to other)
 
 -- a transaction that renames, and answers what became of what it replaced
-pub record Renames (sid : ℕ) (ready : Tree → Type 0) (before after : Store) (result : Result (Option Removed) TxFault)
+pub record Renames (sid : ℕ) (ready : Tree → Type 0) (before after : Store)
+    (result : Result (Option Removed) TxFault)
     (act : Tree → Result Outcome Fault) : Type 0 where
   pub does : Transacts ready before after result (λ removed. Done) act
   pub says : SaysSustained sid ready before (renamed_in result) act
@@ -120,7 +126,8 @@ StandsIf store None = Unit {0}
 StandsIf store (Some place) = Stands store place
 
 -- what an entry names, if it is there: over whole rows it is the tree's, and the row of its node stands there
-pub record FindsEntry (before after : Store) (result : Result (Option Place) TxFault) (place : EntryKey) : Type 0 where
+pub record FindsEntry (before after : Store) (result : Result (Option Place) TxFault)
+    (place : EntryKey) : Type 0 where
   pub looks : Looks before after (inode_of result) (λ t. Ok (get t.entries place))
   pub stand : IfOk result (StandsIf after)
 
@@ -138,5 +145,6 @@ pub record MayMove (t : Tree) (from : EntryKey) (source : ℕ) (to : EntryKey) :
 -- an inode moved from one entry to another, where the links of both directories can be stored
 abbrev pub moved_within : ℕ → EntryKey → ℕ → EntryKey → Tree → Result Tree Fault
 moved_within now from source to t = do
-  _ ← require (links_fit (moved t now from source to) from.dir && links_fit (moved t now from source to) to.dir) NoSpace
+  _ ← require (links_fit (moved t now from source to) from.dir
+      && links_fit (moved t now from source to) to.dir) NoSpace
   Ok (moved t now from source to)

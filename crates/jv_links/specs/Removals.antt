@@ -23,7 +23,8 @@ pub use Rattle.jv_model.specs.Lists.{has_no_zero}
 
 -- what a caller has open of a tree's inodes are files
 abbrev pub HoldsFiles : List ℕ → Tree → Type 0
-HoldsFiles held t = (inode : ℕ) → IsTrue (list_any (λ h. h == inode) held) → IsTrue (is_there ((shape_of t).form inode))
+HoldsFiles held t = (inode : ℕ) → IsTrue (list_any (λ h. h == inode) held)
+    → IsTrue (is_there ((shape_of t).form inode))
     → (shape_of t).form inode ≡ Regular
 
 -- an entry of a file or a symlink of a whole tree, which a caller whose session is there removes at a moment of the
@@ -44,9 +45,11 @@ fate_in model.Dropped = Dropped
 
 -- the fate that a removal answers is the model's, for each tree that the rows in mind are those of
 abbrev pub SaysFate : Caller → EntryKey → ℕ → List Change → Store → Result Fate TxFault → Type 0
-SaysFate who place inode was before result = IfOk result (λ fate. (known : RowMap) → before.rows ≡ Some known
+SaysFate who place inode was before result =
+    IfOk result (λ fate. (known : RowMap) → before.rows ≡ Some known
     → (bytes : ℕ → ℕ → ℕ) (t : Tree)
-    → Minds known was bytes t → MayLose t who place inode → fate ≡ fate_in (model.fate_of t who place inode))
+    → Minds known was bytes t → MayLose t who place inode
+    → fate ≡ fate_in (model.fate_of t who place inode))
 
 -- the file that a session keeps once something was removed
 abbrev pub kept_by : Fate → ℕ → Option ℕ
@@ -73,11 +76,13 @@ renamed_in (Ok removed) = Some removed
 renamed_in (Err fault) = None
 
 -- Over whole rows, whose tree is ready, what was removed says which file the session keeps from then on.
-abbrev pub SaysSustained : ℕ → (Tree → Type 0) → Store → Option (Option Removed) → (Tree → Result Outcome Fault)
+abbrev pub SaysSustained : ℕ → (Tree → Type 0) → Store → Option (Option Removed)
+    → (Tree → Result Outcome Fault)
     → Type 0
-SaysSustained sid ready before result act = IfSome result (λ removed. (known : RowMap) → before.rows ≡ Some known
+SaysSustained sid ready before result act =
+    IfSome result (λ removed. (known : RowMap) → before.rows ≡ Some known
     → Whole (typed known) → (bytes : ℕ → ℕ → ℕ)
     → ready (tree_of bytes (typed known)) → (inode : ℕ)
-    → (is_sustained (outcome (tree_of bytes (typed known)) (act (tree_of bytes (typed known)))).tree sid inode && not
-    (is_sustained (tree_of bytes (typed known)) sid inode))
+    → (is_sustained (outcome (tree_of bytes (typed known)) (act (tree_of bytes (typed known)))).tree sid
+    inode && not (is_sustained (tree_of bytes (typed known)) sid inode))
     ≡ is_inode (kept_of removed) inode)

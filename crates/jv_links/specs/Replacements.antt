@@ -27,7 +27,8 @@ may_replace t dir source other = do
   require (not (is_directory t other && has_entries t other)) DirectoryNotEmpty
 
 -- an entry of a whole tree that may go with what it names: a file, a symlink, or an empty directory
-pub record MayClear (t : Tree) (who : Caller) (place : EntryKey) (inode : ℕ) (directory : Bool) : Type 0 where
+pub record MayClear (t : Tree) (who : Caller) (place : EntryKey) (inode : ℕ)
+    (directory : Bool) : Type 0 where
   pub whole : WholeShape (shape_of t)
   pub is : get t.entries place ≡ Some inode
   pub kind : is_directory t inode ≡ directory
@@ -38,9 +39,11 @@ pub record MayClear (t : Tree) (who : Caller) (place : EntryKey) (inode : ℕ) (
   pub clock : who.now ≤ LAST_MOMENT
 
 -- What was removed says which file the session keeps from then on, for each tree that the rows in mind are those of.
-abbrev pub SaysCleared : Caller → EntryKey → ℕ → Bool → List Change → Store → Result (Option Removed) TxFault → Type 0
+abbrev pub SaysCleared : Caller → EntryKey → ℕ → Bool → List Change → Store
+    → Result (Option Removed) TxFault → Type 0
 SaysCleared who place inode directory was before result = IfOk result (λ removed. (known : RowMap)
     → before.rows ≡ Some known → (bytes : ℕ → ℕ → ℕ) (t : Tree)
     → Minds known was bytes t → MayClear t who place inode directory → (i : ℕ)
-    → (is_sustained (without_target t who place inode) who.sid i && not (is_sustained t who.sid i)) ≡ is_inode
+    → (is_sustained (without_target t who place inode) who.sid i
+    && not (is_sustained t who.sid i)) ≡ is_inode
     (kept_of removed) i)

@@ -4,6 +4,7 @@ use Rattle.std.specs.Prelude.{IsTrue, is_some, not, ◌&&◌}
 use Rattle.std.specs.Int.{w64, from_be_bytes}
 use Rattle.std.proofs.lemmas.Bool.{cases_order, lt-ltb, ne_eqb}
 use Rattle.std.proofs.lemmas.Nat.{from_be_bytes-to_be_bytes_8}
+use Rattle.jv_model.specs.declared.limits.TheConstants.{ROOT, TRASH_ROOT}
 use Rattle.jv_model.specs.declared.basics.Who.{Who}
 use Rattle.jv_model.specs.declared.fault.Fault.{Fault}
 use Rattle.jv_model.specs.declared.fault.RowFault.{RowFault}
@@ -23,7 +24,7 @@ use Rattle.jv_model.specs.tree.Attempt.{◌>>=◌}
 use Rattle.jv_model.specs.tree.Caller.{Caller, Outcome, done}
 use Rattle.jv_model.specs.tree.Changes.{drop_node}
 use Rattle.jv_model.specs.tree.Sessions.{release, released}
-use Rattle.jv_model.specs.tree.Tree.{Tree, node_at, root, trash_root, is_counted, is_sustained}
+use Rattle.jv_model.specs.tree.Tree.{Tree, node_at, is_counted, is_sustained}
 use Rattle.jv_model.proofs.TestLaws.{none_if}
 use Rattle.jv_outside.specs.declared.batch.Change.{Change}
 use Rattle.jv_outside.specs.Store.{Store, Commits}
@@ -72,17 +73,17 @@ module _ (t : Tree) (sid inode : ℕ) (w : WholeShape (shape_of t)) (is : is_sus
   apart_from top parent d same = not_dir form parent keeps_it.file (ap (shape_of t).form same ∙ d)
 
   -- a file's inode is below the trash, whose hours are directories
-  kept_below : inode < trash_root
-  kept_below = elim (cases_order inode trash_root) [
-    | inl same ↦ absurd (apart_from trash_root root w.trash_there same)
+  kept_below : inode < TRASH_ROOT
+  kept_below = elim (cases_order inode TRASH_ROOT) [
+    | inl same ↦ absurd (apart_from TRASH_ROOT ROOT w.trash_there same)
     | inr other ↦ elim other [
       | inl low ↦ low
-      | inr high ↦ not_dir form trash_root keeps_it.file (w.hours inode there_is (lt-ltb trash_root inode high)).1
+      | inr high ↦ not_dir form TRASH_ROOT keeps_it.file (w.hours inode there_is (lt-ltb TRASH_ROOT inode high)).1
     ]
   ]
 
   kept_counted : is_counted inode ≡ true
-  kept_counted = (λ i. not (ne_eqb inode root (apart_from root root w.root_there) i) && lt-ltb inode trash_root kept_below i)
+  kept_counted = (λ i. not (ne_eqb inode ROOT (apart_from ROOT ROOT w.root_there) i) && lt-ltb inode TRASH_ROOT kept_below i)
 
   -- the model lets it go, and then its node may go
   pub kept-may_go : MayGo (letting_go sid inode t) inode
@@ -90,7 +91,7 @@ module _ (t : Tree) (sid inode : ℕ) (w : WholeShape (shape_of t)) (is : is_sus
     there = kept-there;
     unnamed = λ at. uncounted t.entries at inode keeps_it.unnamed;
     counted = kept_counted;
-    given = w.below inode there_is (lt-ltb inode trash_root kept_below);
+    given = w.below inode there_is (lt-ltb inode TRASH_ROOT kept_below);
   }
 
 -- the row of a pair is a file that the session keeps

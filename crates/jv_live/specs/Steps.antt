@@ -30,11 +30,13 @@ ending_session sid t = record t { sessions = remove t.sessions sid }
 
 -- without a file that a session keeps
 abbrev pub letting_go : ℕ → ℕ → Tree → Tree
-letting_go sid inode t = record t { sustained = remove t.sustained (record { sid = sid; inode = inode }) }
+letting_go sid inode t =
+    record t { sustained = remove t.sustained (record { sid = sid; inode = inode }) }
 
 -- the session keeps the file, where the rows are known
 abbrev pub HasPair : Store → ℕ → ℕ → Type 0
-HasPair store sid inode = IfSome store.rows (λ known. get (typed known) (sustained_key sid inode) ≡ Some (Ok OfSustained))
+HasPair store sid inode =
+    IfSome store.rows (λ known. get (typed known) (sustained_key sid inode) ≡ Some (Ok OfSustained))
 
 -- ---- the files that a session keeps, one after another
 
@@ -64,12 +66,15 @@ IsSpelled (r ∷ rows) = IfSome (number_in r.0.b) (λ number. r.0.b ≡ long num
 
 -- the session keeps no file between the two
 abbrev pub KeepsNone : Rows → ℕ → Option ℕ → Option ℕ → Type 0
-KeepsNone rows sid after next = (inode : ℕ) → inode < 2 ^ 64 → is_past after inode ≡ true → is_ahead next inode ≡ true → sustained_at rows sid inode ≡ false
+KeepsNone rows sid after next = (inode : ℕ) → inode < 2 ^ 64 → is_past after inode ≡ true
+    → is_ahead next inode ≡ true → sustained_at rows sid inode ≡ false
 
 -- A reading of the next file that a session keeps, after one or from the first on.
-pub record FindsKept (sid : ℕ) (after : Option ℕ) (before now : Store) (result : Result (Option ℕ) TxFault) : Type 0 where
+pub record FindsKept (sid : ℕ) (after : Option ℕ) (before now : Store)
+    (result : Result (Option ℕ) TxFault) : Type 0 where
   pub looks : Looks before now (without_answer result) (λ t. Ok tt)
   pub past : IfOk result (λ found. IfSome found (λ inode. is_past after inode ≡ true))
   pub small : IfOk result (λ found. IfSome found (λ inode. inode < 2 ^ 64))
   pub there : IfOk result (λ found. IfSome found (HasPair before sid))
-  pub least : IfOk result (λ found. (known : RowMap) → before.rows ≡ Some known → Whole (typed known) → KeepsNone (typed known) sid after found)
+  pub least : IfOk result (λ found. (known : RowMap) → before.rows ≡ Some known
+      → Whole (typed known) → KeepsNone (typed known) sid after found)

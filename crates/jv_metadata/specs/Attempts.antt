@@ -80,10 +80,14 @@ pub record Asks (caller : Caller) (handle inode : ℕ) : Type 0 where
 
 -- the file that the session keeps from then on, by whole rows whose caller has files open, is the one that is answered
 abbrev pub KeepsOne : Caller → Op → Store → Option ℕ → Type 0
-KeepsOne who o before kept = (known : RowMap) → before.rows ≡ Some known → Whole (typed known) → (bytes : ℕ → ℕ → ℕ) → HoldsFiles who.held (tree_of bytes (typed known))
+KeepsOne who o before kept = (known : RowMap) → before.rows ≡ Some known → Whole (typed known)
+    → (bytes : ℕ → ℕ → ℕ) → HoldsFiles who.held (tree_of bytes (typed known))
     → (inode : ℕ)
-    → (is_sustained (outcome (tree_of bytes (typed known)) (attempt (tree_of bytes (typed known)) who o)).tree who.sid inode
+    → (is_sustained (outcome (tree_of bytes (typed known))
+    (attempt (tree_of bytes (typed known)) who o)).tree who.sid inode
     && not (is_sustained (tree_of bytes (typed known)) who.sid inode)) ≡ is_inode kept inode
 
 abbrev pub SaysKept : Caller → Op → Store → Result Answer TxFault → Type 0
-SaysKept who o before result = IfOk result (λ answer. MatchBool (takes_entries o) (KeepsOne who o before answer.kept) (answer.kept ≡ None))
+SaysKept who o before result =
+    IfOk result (λ answer.
+    MatchBool (takes_entries o) (KeepsOne who o before answer.kept) (answer.kept ≡ None))

@@ -1,6 +1,5 @@
 -- What is known of an outcome.
 use Rattle.std.proofs.Common.{◌≡◌, true, ℕ, List, Option, Some, None, is_some, Result, Ok, Err, OnOk, OnErr, Bor, refl}
-use Rattle.std.proofs.lemmas.Bool.{false≢true}
 use Rattle.std.proofs.lemmas.Option.{none-some}
 use Rattle.std.specs.Option.{option_copied}
 
@@ -11,10 +10,6 @@ map_ok (Err e) P Q f h = h
 pub map_err : {T E : Type 0} (r : Result T E) (P Q : Type 0) → (P → Q) → OnErr r P → OnErr r Q
 map_err (Ok x) P Q f h = h
 map_err (Err e) P Q f h = f h
-
-pub some_value : (o : Option (List ℕ)) → is_some o ≡ true → (v : List ℕ) × (o ≡ Some v)
-some_value None h = absurd (false≢true h)
-some_value (Some v) h = (v, refl)
 
 pub some_copied : (o : Option (Bor (List ℕ))) (v : List ℕ) → option_copied o ≡ Some v → is_some o ≡ true
 some_copied None v h = absurd (none-some v h)

@@ -19,4 +19,5 @@ part_of w = record {
 pub record IsSound (w : Inside) : Type 0 where
   pub long : length w.bytes.items ≡ w.to - w.from
   pub named : All (IsNamed w.list.value w.block) w.needed.items
-  pub has : HasOverlaps w.block (λ n. stored_place w.list.value (w.from + n)) (w.to - w.from) (w.to - w.from) (overlaps_at w.table)
+  pub has : HasOverlaps w.block (λ n. stored_place w.list.value (w.from + n)) (w.to - w.from)
+      (w.to - w.from) (overlaps_at w.table)

@@ -9,7 +9,8 @@ use Rattle.jv_reading.specs.Parts.{FillsIn, IsNamed, IsKnownOf, Part, ReadsAs}
 
 -- of each block that is there its bytes are known
 abbrev pub BlocksAreKnown : Type 0
-BlocksAreKnown = (block : ℕ) (blocks : Blocks) (b : BlockId) (bytes : List ℕ) → blocks b ≡ Some bytes → IsKnownOf (known_by block blocks) block bytes b
+BlocksAreKnown = (block : ℕ) (blocks : Blocks) (b : BlockId) (bytes : List ℕ)
+    → blocks b ≡ Some bytes → IsKnownOf (known_by block blocks) block bytes b
 
 -- the slices of the records have rows with their sizes
 abbrev pub HaveSlices : Rows → List Rec → Type 0
@@ -22,10 +23,14 @@ NamedAreThere = (block : ℕ) (rows : Rows) (blocks : Blocks) (list : List Rec) 
 
 -- a part reads as these blocks have it, and as all do that may be there later
 abbrev pub ReadsBlocks : Blocks → Part → Type 0
-ReadsBlocks blocks part = (later : Blocks) → Grows blocks later → ReadsAs (known_by part.block later) part
+ReadsBlocks blocks part =
+    (later : Blocks) → Grows blocks later → ReadsAs (known_by part.block later) part
 
 -- that goes on where blocks come, and where a block that is there is filled in
 pub record ReadsGoOn : Type 0 where
-  pub come : (blocks later : Blocks) (part : Part) → Grows blocks later → ReadsBlocks blocks part → ReadsBlocks later part
-  pub filled : (blocks : Blocks) (b : BlockId) (bytes : List ℕ) (before after : Part) → blocks b ≡ Some bytes → slice_get before.left 0 ≡ Some b
-      → after.block ≡ before.block → FillsIn bytes before after → ReadsBlocks blocks before → ReadsBlocks blocks after
+  pub come : (blocks later : Blocks) (part : Part) → Grows blocks later → ReadsBlocks blocks part
+      → ReadsBlocks later part
+  pub filled : (blocks : Blocks) (b : BlockId) (bytes : List ℕ) (before after : Part)
+      → blocks b ≡ Some bytes → slice_get before.left 0 ≡ Some b
+      → after.block ≡ before.block → FillsIn bytes before after → ReadsBlocks blocks before
+      → ReadsBlocks blocks after

@@ -49,7 +49,8 @@ Overlaps = BlockId → List Overlap
 
 -- with one overlap of a block more
 abbrev pub with_overlap : Overlaps → BlockId → Overlap → Overlaps
-with_overlap overlaps block overlap b = (if is_same_block block b then overlaps b ++ overlap ∷ [] else overlaps b)
+with_overlap overlaps block overlap b =
+    (if is_same_block block b then overlaps b ++ overlap ∷ [] else overlaps b)
 
 -- the overlap has this position
 abbrev pub reaches : ℕ → Overlap → Bool
@@ -58,27 +59,33 @@ reaches position overlap = in_range overlap.start overlap.len position
 -- the spot is the byte at a place of a block
 abbrev pub IsByteOf : ℕ → BlockId → ℕ → Spot → Type 0
 IsByteOf block b place Zero = ⊥
-IsByteOf block b place (Slice id size at) = (block_at id size block (at / block) ≡ b) × (at % block ≡ place) × (at < size)
+IsByteOf block b place (Slice id size at) =
+    (block_at id size block (at / block) ≡ b) × (at % block ≡ place) × (at < size)
 
 -- an overlap of a block with a part of this length whose positions show these places
-pub record IsOverlap (block : ℕ) (places : ℕ → Spot) (len : ℕ) (b : BlockId) (overlap : Overlap) : Type 0 where
-  pub shows : (k : ℕ) → k < overlap.len → IsByteOf block b (overlap.place + k) (places (overlap.start + k))
+pub record IsOverlap (block : ℕ) (places : ℕ → Spot) (len : ℕ) (b : BlockId)
+    (overlap : Overlap) : Type 0 where
+  pub shows : (k : ℕ) → k < overlap.len
+      → IsByteOf block b (overlap.place + k) (places (overlap.start + k))
   pub in_block : overlap.place + overlap.len ≤ b.size
   pub in_part : overlap.start + overlap.len ≤ len
 
 -- a position that shows a byte of a block is in one of the block's overlaps
 abbrev pub IsListed : ℕ → Overlaps → ℕ → Spot → Type 0
 IsListed block overlaps position Zero = Unit {0}
-IsListed block overlaps position (Slice id size at) = list_any (reaches position) (overlaps (block_at id size block (at / block))) ≡ true
+IsListed block overlaps position (Slice id size at) =
+    list_any (reaches position) (overlaps (block_at id size block (at / block))) ≡ true
 
 -- overlaps of blocks with a part: all of the positions before one
-pub record HasOverlaps (block : ℕ) (places : ℕ → Spot) (len before : ℕ) (overlaps : Overlaps) : Type 0 where
+pub record HasOverlaps (block : ℕ) (places : ℕ → Spot) (len before : ℕ)
+    (overlaps : Overlaps) : Type 0 where
   pub each : (b : BlockId) → All (IsOverlap block places len b) (overlaps b)
   pub all : (position : ℕ) → position < before → IsListed block overlaps position (places position)
 
 -- positions show a piece from one on
 abbrev pub ShowsPiece : (ℕ → Spot) → ℕ → Piece → Type 0
-ShowsPiece places start piece = (k : ℕ) → k < piece.len → places (start + k) ≡ place_after piece.spot k
+ShowsPiece places start piece =
+    (k : ℕ) → k < piece.len → places (start + k) ≡ place_after piece.spot k
 
 abbrev pub BeginsBy : ℕ → Piece → Type 0
 BeginsBy from piece = from ≤ piece.from

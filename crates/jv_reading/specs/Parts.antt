@@ -34,16 +34,21 @@ IsOfNone block blocks (Slice id size at) = Contains blocks (block_at id size blo
 
 -- each position has the byte that is known of it, unless that is of a block that is left
 abbrev pub ReadsAs : KnownBytes → Part → Type 0
-ReadsAs known_bytes part = (n : ℕ) → n < part.to - part.from → IsOfNone part.block part.left (stored_place part.list (part.from + n))
+ReadsAs known_bytes part = (n : ℕ) → n < part.to - part.from
+    → IsOfNone part.block part.left (stored_place part.list (part.from + n))
     → slice_index part.bytes n ≡ window_byte known_bytes part.list (part.from + n)
 
 -- these bytes are known of a block
 abbrev pub IsKnownOf : KnownBytes → ℕ → List ℕ → BlockId → Type 0
-IsKnownOf known_bytes block bytes b = (id size at : ℕ) → at < size → block_at id size block (at / block) ≡ b → slice_index bytes (at % block) ≡ known_bytes id size at
+IsKnownOf known_bytes block bytes b = (id size at : ℕ) → at < size
+    → block_at id size block (at / block) ≡ b
+    → slice_index bytes (at % block) ≡ known_bytes id size at
 
 -- where the bytes are those of the block that is next, the part reads as is known, as it did before
 abbrev pub FillsIn : List ℕ → Part → Part → Type 0
-FillsIn bytes before after = (known_bytes : KnownBytes) → IfSome (slice_get before.left 0) (IsKnownOf known_bytes before.block bytes) → ReadsAs known_bytes before → ReadsAs known_bytes after
+FillsIn bytes before after = (known_bytes : KnownBytes)
+    → IfSome (slice_get before.left 0) (IsKnownOf known_bytes before.block bytes)
+    → ReadsAs known_bytes before → ReadsAs known_bytes after
 
 -- a block of the slice of one of the records
 pub record IsNamed (list : List Rec) (block : ℕ) (b : BlockId) : Type 0 where

@@ -3,12 +3,13 @@ use Rattle.std.proofs.Common.{◌≡◌, ℕ, zero, suc, ◌+◌, ◌-◌, ◌<�
 use Rattle.std.proofs.Math.Seq.{drop-length}
 use Rattle.std.proofs.lemmas.List.{length-drop}
 use Rattle.std.specs.Prelude.{if◌then◌else◌, ◌&&◌, ◌||◌, ◌==◌, not}
+use Rattle.jv_model.specs.declared.limits.TheConstants.{ROOT}
 use Rattle.jv_model.specs.declared.fault.Fault.{Fault}
 use Rattle.jv_model.specs.declared.fault.Fault.TheVariants.{SymlinkLoop}
 use Rattle.jv_model.specs.declared.fault.TxFault.{TxFault}
 use Rattle.jv_model.specs.declared.fault.TxFault.TheVariants.{Refused}
 use Rattle.jv_model.specs.tree.Attempt.{◌>>=◌}
-use Rattle.jv_model.specs.tree.Tree.{Tree, root}
+use Rattle.jv_model.specs.tree.Tree.{Tree}
 use Rattle.jv_model.specs.tree.Walk.{names_of, is_absolute, stepped, way_on, walk_names, walk}
 use Rattle.jv_model.specs.Lists.{is_nil}
 use Rattle.jv_outside.specs.Store.{Store}
@@ -30,16 +31,16 @@ last_goes l r = record { looks = last_part l r.looks; stands = r.stands; allowed
 
 -- a walk that goes on from the root
 pub goes_from_root : {before after : Store} (dir : ℕ) (target : List ℕ) (behind all : List (List ℕ)) (from : Place) → is_absolute target ≡ true → all ≡ names_of target ++ behind
-    → Comes before after (Ok from) (λ t. Ok root) → Goes before after (Ok (Follows from all)) (λ t. Ok (onward dir target behind))
+    → Comes before after (Ok from) (λ t. Ok ROOT) → Goes before after (Ok (Follows from all)) (λ t. Ok (onward dir target behind))
 goes_from_root {before = before} dir target behind all from absolute is comes = record {
   looks = answered (Onward from.inode all) (found_part (λ inode t. Ok (Onward inode all)) from.inode
       (in_other_words (past-start before (λ t. Ok (onward dir target behind))) (λ known rows_are whole bytes.
-      (λ i. Ok (Onward (if absolute i then root else dir) (sym is i))))) comes.looks);
+      (λ i. Ok (Onward (if absolute i then ROOT else dir) (sym is i))))) comes.looks);
   stands = comes.stands;
   allowed = comes.allowed;
 }
 
-pub root_fails : {before after : Store} (dir : ℕ) (target : List ℕ) (behind : List (List ℕ)) (fault : TxFault) → Comes before after (Err fault) (λ t. Ok root)
+pub root_fails : {before after : Store} (dir : ℕ) (target : List ℕ) (behind : List (List ℕ)) (fault : TxFault) → Comes before after (Err fault) (λ t. Ok ROOT)
     → Goes before after (Err fault) (λ t. Ok (onward dir target behind))
 root_fails {before = before} dir target behind fault comes = record {
   looks = failed_part (λ inode t. Ok (onward dir target behind)) fault (past-start before (λ t. Ok (onward dir target behind))) comes.looks;
@@ -138,13 +139,13 @@ module _ (more : ℕ → List (List ℕ) → Result ℕ Fault) (t : Tree) (follo
   by_course (name ∷ names) inode = by_step (by_course names) (stepped t inode name)
     where
       by_target : (next : ℕ) (target : Option (List ℕ)) → ((i : ℕ) → walk_names more t follow i names ≡ (course t follow i names >>= finished more))
-          → (elim target [ None ↦ walk_names more t follow next names | Some target ↦ more (if is_absolute target then root else inode) (names_of target ++ names) ])
+          → (elim target [ None ↦ walk_names more t follow next names | Some target ↦ more (if is_absolute target then ROOT else inode) (names_of target ++ names) ])
           ≡ (behind_name follow inode next names t target >>= finished more)
       by_target next None rest = rest next
       by_target next (Some target) rest = refl
 
       by_step : ((i : ℕ) → walk_names more t follow i names ≡ (course t follow i names >>= finished more)) → (found : Result ℕ Fault)
-          → (found >>= λ next. elim (way_on t follow names next) [ None ↦ walk_names more t follow next names | Some target ↦ more (if is_absolute target then root else inode) (names_of target ++ names) ])
+          → (found >>= λ next. elim (way_on t follow names next) [ None ↦ walk_names more t follow next names | Some target ↦ more (if is_absolute target then ROOT else inode) (names_of target ++ names) ])
           ≡ ((found >>= λ next. behind_name follow inode next names t (way_on t follow names next)) >>= finished more)
       by_step rest (Ok next) = by_target next (way_on t follow names next) rest
       by_step rest (Err fault) = refl
@@ -188,7 +189,7 @@ module _ {start now : Store} {asked : Tree → Result ℕ Fault} (left : ℕ) (f
       let is : left ≡ suc (left - 1) = omega arith in
       in_other_words (goes_again from rest goes) (λ known rows_are whole bytes. ap (λ n. again n (tree_of bytes (typed known)) follow from.inode rest) is)
 
-pub walk_begins_nowhere : {before after : Store} (left : ℕ) (follow : Bool) (names : List (List ℕ)) (fault : TxFault) → Comes before after (Err fault) (λ t. Ok root)
-    → Comes before after (Err fault) (λ t. walk left t follow root names)
+pub walk_begins_nowhere : {before after : Store} (left : ℕ) (follow : Bool) (names : List (List ℕ)) (fault : TxFault) → Comes before after (Err fault) (λ t. Ok ROOT)
+    → Comes before after (Err fault) (λ t. walk left t follow ROOT names)
 walk_begins_nowhere {before = before} left follow names fault comes =
-    failed_to_come (failed_part (λ inode t. walk left t follow inode names) fault (past-start before (λ t. walk left t follow root names)) comes.looks)
+    failed_to_come (failed_part (λ inode t. walk left t follow inode names) fault (past-start before (λ t. walk left t follow ROOT names)) comes.looks)

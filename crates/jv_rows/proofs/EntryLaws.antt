@@ -2,13 +2,13 @@
 use Rattle.std.proofs.Common.{◌≡◌, ◌≢◌, ℕ, ◌<◌, ◌≤◌, Bool, true, false, List, [], ◌∷◌, ◌++◌, length, Option, Result, Ok, Err, refl, ap, ◌∙◌, eq-eqb, ne_eqb}
 use Rattle.std.specs.Prelude.{◌||◌, ◌==◌, not, nat_le}
 use Rattle.std.proofs.lemmas.Bool.{le-leb, lt-leb}
-use Rattle.jv_model.specs.declared.limits.TheConstants.{MAX_NAME, MAX_PATH, MAX_SYMLINKS}
+use Rattle.jv_model.specs.declared.limits.TheConstants.{MAX_NAME, MAX_PATH, MAX_SYMLINKS, ROOT}
 use Rattle.jv_model.specs.declared.fault.Fault.{Fault}
 use Rattle.jv_model.specs.declared.fault.Fault.TheVariants.{Invalid, NotADirectory, NameTooLong}
 use Rattle.jv_model.specs.declared.fault.TxFault.{TxFault}
 use Rattle.jv_model.specs.declared.fault.TxFault.TheVariants.{Refused}
 use Rattle.jv_model.specs.tree.Attempt.{◌>>=◌, require, some_or}
-use Rattle.jv_model.specs.tree.Tree.{Tree, EntryKey, root, is_directory}
+use Rattle.jv_model.specs.tree.Tree.{Tree, EntryKey, is_directory}
 use Rattle.jv_model.specs.tree.Walk.{names_of, is_dot, is_dot_dot, walk}
 use Rattle.jv_outside.specs.Store.{Store}
 use Rattle.jv_volume.specs.TypedRows.{typed}
@@ -38,7 +38,7 @@ paired found = (found >>= λ at. Ok (pair_in at))
 
 -- the entry of a name, behind others
 abbrev entry_behind : Bool → Tree → List (List ℕ) → List ℕ → Result EntryKey Fault
-entry_behind good t names name = (require good Invalid >>= λ unit. walk MAX_SYMLINKS t true root names >>= λ dir. entry_within (is_directory t dir) (nat_le (length name) MAX_NAME) dir name)
+entry_behind good t names name = (require good Invalid >>= λ unit. walk MAX_SYMLINKS t true ROOT names >>= λ dir. entry_within (is_directory t dir) (nat_le (length name) MAX_NAME) dir name)
 
 -- what is left once the walk is at the entry's directory
 abbrev entry_left : List ℕ → ℕ → Tree → Result (ℕ × List ℕ) Fault
@@ -61,18 +61,18 @@ module _ (path : List ℕ) (names : List (List ℕ)) (name : List ℕ) (short : 
       no_entry_place (refused Invalid (in_other_words (behind_names store) (λ known rows_are whole bytes. ap (λ d. paired (entry_behind (not d) (tree_of bytes (typed known)) names name)) dots)))
 
   module _ (good : (is_dot name || is_dot_dot name) ≡ false) where
-    by_walk : (store : Store) → Past store store (λ t. entry_pair t path) (λ t. walk MAX_SYMLINKS t true root names >>= λ dir. entry_left name dir t)
+    by_walk : (store : Store) → Past store store (λ t. entry_pair t path) (λ t. walk MAX_SYMLINKS t true ROOT names >>= λ dir. entry_left name dir t)
     by_walk store =
         in_other_words (behind_names store) (λ known rows_are whole bytes. let t = tree_of bytes (typed known) in
         ap (λ d. paired (entry_behind (not d) t names name)) good
-        ∙ bound (walk MAX_SYMLINKS t true root names) (λ dir. entry_within (is_directory t dir) (nat_le (length name) MAX_NAME) dir name) (λ at. Ok (pair_in at)))
+        ∙ bound (walk MAX_SYMLINKS t true ROOT names) (λ dir. entry_within (is_directory t dir) (nat_le (length name) MAX_NAME) dir name) (λ at. Ok (pair_in at)))
 
     -- the walk to its directory fails
-    pub directory_fails : {before after : Store} (fault : TxFault) → Comes before after (Err fault) (λ t. walk MAX_SYMLINKS t true root names)
+    pub directory_fails : {before after : Store} (fault : TxFault) → Comes before after (Err fault) (λ t. walk MAX_SYMLINKS t true ROOT names)
         → ComesToEntry before after (Err fault) (λ t. entry_pair t path)
     directory_fails {before = before} fault comes = no_entry_place (failed_part (entry_left name) fault (by_walk before) comes.looks)
 
-    module _ {before after : Store} (place : Place) (comes : Comes before after (Ok place) (λ t. walk MAX_SYMLINKS t true root names)) where
+    module _ {before after : Store} (place : Place) (comes : Comes before after (Ok place) (λ t. walk MAX_SYMLINKS t true ROOT names)) where
       in_place : Past before after (λ t. entry_pair t path) (λ t. paired (entry_within (place.node.kind == 2) (nat_le (length name) MAX_NAME) place.inode name))
       in_place =
           let found = found_part (entry_left name) place.inode (by_walk before) comes.looks in

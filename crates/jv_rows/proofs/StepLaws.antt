@@ -2,7 +2,7 @@
 use Rattle.std.proofs.Common.{◌≡◌, ℕ, Bool, List, [], length, Option, None, Some, Result, Ok, Err, option_map, refl, sym, ap, subst, ◌∙◌, ◌≢◌, ◌<◌, ◌≤◌, eq-eqb, ne_eqb}
 use Rattle.std.proofs.lemmas.Bool.{le-leb, lt-leb}
 use Rattle.std.specs.Prelude.{if◌then◌else◌, nat_le, IsTrue}
-use Rattle.jv_model.specs.declared.limits.TheConstants.{MAX_NAME}
+use Rattle.jv_model.specs.declared.limits.TheConstants.{MAX_NAME, TRASH_ROOT}
 use Rattle.jv_model.specs.declared.row.Row.TheVariants.{OfEdge}
 use Rattle.jv_model.specs.declared.row.Node.{Node as NodeRow}
 use Rattle.jv_model.specs.declared.row.Edge.{Edge}
@@ -16,7 +16,7 @@ use Rattle.jv_model.specs.rows.RowGrammar.{is_node, is_edge}
 use Rattle.jv_model.specs.rows.RowKeys.{RowMap}
 use Rattle.jv_model.specs.rows.RowPlaces.{edge_key}
 use Rattle.jv_model.specs.tree.Attempt.{◌>>=◌, some_or, require}
-use Rattle.jv_model.specs.tree.Tree.{Tree, trash_root}
+use Rattle.jv_model.specs.tree.Tree.{Tree}
 use Rattle.jv_model.specs.tree.Walk.{stepped, named_from, is_dot, is_dot_dot, is_trash}
 use Rattle.jv_outside.specs.Store.{Store}
 use Rattle.jv_volume.specs.TypedRows.{typed}
@@ -67,7 +67,7 @@ node_is store {inode = inode} {node = node} there = has-node store store inode n
 
 -- what a name leads to, by what it is
 abbrev named_by : Bool → Bool → Bool → Tree → ℕ → ℕ → List ℕ → Result ℕ Fault
-named_by dot dot_dot trash t dir parent name = (if dot then Ok dir else if dot_dot then Ok parent else if trash then Ok trash_root else entry_named dir name t)
+named_by dot dot_dot trash t dir parent name = (if dot then Ok dir else if dot_dot then Ok parent else if trash then Ok TRASH_ROOT else entry_named dir name t)
 
 -- one name from what is a directory or not, by its parent
 abbrev stepped_by : Option ℕ → Bool → Tree → ℕ → List ℕ → Result ℕ Fault

@@ -1,6 +1,7 @@
 -- A walk's places: what a reading of a node or an entry reaches, and which rows whole volumes have.
 use Rattle.std.proofs.Common.{◌≡◌, ◌≢◌, ℕ, Bool, true, false, List, [], Option, None, Some, Result, Ok, Err, option_map, refl, sym, ap, subst, ◌∙◌, true≢false, eqb-true}
 use Rattle.std.specs.Prelude.{if◌then◌else◌, ◌&&◌, ◌||◌, ◌==◌, IsTrue}
+use Rattle.jv_model.specs.declared.limits.TheConstants.{ROOT, TRASH_ROOT}
 use Rattle.jv_model.specs.declared.row.RowKey.{RowKey}
 use Rattle.jv_model.specs.declared.row.Row.TheVariants.{OfNode, OfEdge}
 use Rattle.jv_model.specs.declared.row.Node.{Node as NodeRow}
@@ -15,7 +16,7 @@ use Rattle.jv_model.specs.FiniteMap.{get}
 use Rattle.jv_model.specs.rows.RowGrammar.{node_bytes, is_node, edge_bytes, is_edge}
 use Rattle.jv_model.specs.rows.RowKeys.{RowMap, row_key, is_key_of}
 use Rattle.jv_model.specs.rows.RowPlaces.{node_key, edge_key}
-use Rattle.jv_model.specs.tree.Tree.{Tree, Kind, File, Directory, Symlink, Node, EntryKey, root, trash_root, node_at, parent_of, parent_at}
+use Rattle.jv_model.specs.tree.Tree.{Tree, Kind, File, Directory, Symlink, Node, EntryKey, node_at, parent_of, parent_at}
 use Rattle.jv_outside.specs.Store.{Store}
 use Rattle.jv_volume.specs.TypedRows.{typed}
 use Rattle.jv_volume.specs.Views.{row_in, node_in, edge_in}
@@ -70,14 +71,14 @@ not_come {before = before} {after = after} inode fault asked r = failed_to_come 
 
 -- the top directories
 
-either_top : (inode : ℕ) (a b : Bool) → (inode == root) ≡ a → (inode == trash_root) ≡ b → IsTrue (a || b) → (P : ℕ → Type 0) → P root → P trash_root → P inode
-either_top inode true b e f h P at_root at_trash = subst P (sym (eqb-true inode root e)) at_root
-either_top inode false true e f h P at_root at_trash = subst P (sym (eqb-true inode trash_root f)) at_trash
+either_top : (inode : ℕ) (a b : Bool) → (inode == ROOT) ≡ a → (inode == TRASH_ROOT) ≡ b → IsTrue (a || b) → (P : ℕ → Type 0) → P ROOT → P TRASH_ROOT → P inode
+either_top inode true b e f h P at_root at_trash = subst P (sym (eqb-true inode ROOT e)) at_root
+either_top inode false true e f h P at_root at_trash = subst P (sym (eqb-true inode TRASH_ROOT f)) at_trash
 either_top inode false false e f h P at_root at_trash = absurd (true≢false (sym h))
 
 -- what holds of both holds of a top directory
-pub of_top : (inode : ℕ) → IsTrue (is_top inode) → (P : ℕ → Type 0) → P root → P trash_root → P inode
-of_top inode h P at_root at_trash = either_top inode (inode == root) (inode == trash_root) refl refl h P at_root at_trash
+pub of_top : (inode : ℕ) → IsTrue (is_top inode) → (P : ℕ → Type 0) → P ROOT → P TRASH_ROOT → P inode
+of_top inode h P at_root at_trash = either_top inode (inode == ROOT) (inode == TRASH_ROOT) refl refl h P at_root at_trash
 
 absent_form : {node : Option Node} {form : Form} → node ≡ None → form_of node ≡ form → IsTrue (is_there form) → ⊥
 absent_form {form = form} none is there = true≢false (sym there ∙ sym (ap is_there is) ∙ ap (λ o. is_there (form_of o)) none)
@@ -105,7 +106,7 @@ module _ (known : RowMap) (whole : Whole (typed known)) where
 
   -- the parent of a directory is there
   parent_there : (dir parent : ℕ) (top : Bool) → is_top dir ≡ top → form_of (node_at bare dir) ≡ Dir parent → IsTrue (is_there (form_of (node_at bare parent)))
-  parent_there dir parent true top form = subst (λ p. IsTrue (is_there (form_of (node_at bare p)))) (of_top dir top (λ d. form_of (node_at bare d) ≡ Dir parent → root ≡ parent)
+  parent_there dir parent true top form = subst (λ p. IsTrue (is_there (form_of (node_at bare p)))) (of_top dir top (λ d. form_of (node_at bare d) ≡ Dir parent → ROOT ≡ parent)
       (λ is. dir_parent _ _ (sym shape.root_there ∙ is)) (λ is. dir_parent _ _ (sym shape.trash_there ∙ is)) form) (subst (λ f. IsTrue (is_there f)) (sym shape.root_there) refl)
   parent_there dir parent false top form =
       let entered = shape.entered dir parent form top in

@@ -1,5 +1,6 @@
 -- How a walk goes through a volume's rows: from node to node, and from one symlink to the next.
 use Rattle.std.specs.Prelude.{◌≡◌, ℕ, Bool, if◌then◌else◌, List, [], ◌∷◌, ◌++◌, None, Some, Result, Ok, Err, IfOk, IfSome, IsTrue}
+use Rattle.jv_model.specs.declared.limits.TheConstants.{ROOT}
 use Rattle.jv_model.specs.declared.fault.Fault.{Fault}
 use Rattle.jv_model.specs.declared.fault.TxFault.{TxFault}
 use Rattle.jv_model.specs.declared.row.Row.TheVariants.{OfNode, OfEdge}
@@ -9,7 +10,7 @@ use Rattle.jv_model.specs.FiniteMap.{get}
 use Rattle.jv_model.specs.rows.RowGrammar.{is_node}
 use Rattle.jv_model.specs.rows.RowPlaces.{node_key, edge_key}
 use Rattle.jv_model.specs.tree.Attempt.{◌>>=◌}
-use Rattle.jv_model.specs.tree.Tree.{Tree, EntryKey, root}
+use Rattle.jv_model.specs.tree.Tree.{Tree, EntryKey}
 use Rattle.jv_model.specs.tree.Walk.{names_of, is_absolute, stepped, way_on, entry_of, only_names}
 use Rattle.jv_outside.specs.Store.{Store}
 use Rattle.jv_rows.specs.Transactions.{Looks}
@@ -45,7 +46,7 @@ pub data Course : Type 0 where
 
 -- the names that a walk goes on by at a symlink, and from where
 abbrev pub onward : ℕ → List ℕ → List (List ℕ) → Course
-onward dir target names = Onward (if is_absolute target then root else dir) (names_of target ++ names)
+onward dir target names = Onward (if is_absolute target then ROOT else dir) (names_of target ++ names)
 
 -- a walk from a directory up to the first symlink that it follows
 abbrev pub course : Tree → Bool → ℕ → List (List ℕ) → Result Course Fault

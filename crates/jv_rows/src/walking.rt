@@ -8,7 +8,6 @@ ghost use Rattle.jv_model.specs.declared.limits.TheConstants.{MAX_SYMLINKS};
 ghost use Rattle.jv_model.specs.FiniteMap.{get};
 ghost use Rattle.jv_model.specs.rows.RowGrammar.{is_node};
 ghost use Rattle.jv_model.specs.tree.Attempt.{some_or};
-ghost use Rattle.jv_model.specs.tree.Tree.{root};
 ghost use Rattle.jv_model.specs.tree.Walk.{names_of, is_absolute, is_dot, is_dot_dot, is_trash, stepped, walk as walked, inode_by};
 ghost use Rattle.jv_rows.specs.Transactions.{Looks};
 ghost use Rattle.jv_rows.specs.Walks.{HasNodeRow, HasEdgeRow, Comes, ComesToEntry, Goes, onward, course, one_name, entry_pair};
@@ -138,7 +137,7 @@ fn walk_names<K: Keeper>(
     follow: bool,
 ) -> Result<Place, TxFault>
     ensures { Comes (K.seen k.old) (K.seen k.new) result
-        (λ t. walked MAX_SYMLINKS t follow root names) }
+        (λ t. walked MAX_SYMLINKS t follow ROOT names) }
 {
     let mut place = top(alloc, k, ROOT)?;
     let mut names = names;

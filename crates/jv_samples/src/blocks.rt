@@ -1,11 +1,11 @@
 //! Blocks whose bytes follow from their slice and place.
 ghost use Rattle.std.specs.Prelude.{◌≡◌, ◌<◌, ◌^◌, length, IfOk};
 
-use jv_model::BlockId;
+use jv_model::{BlockId, MIN_BLOCK};
 use std::alloc::{AllocError, Global};
 
 /// The length of blocks.
-pub const BLOCK: u32 = 65_536;
+pub const BLOCK: u32 = MIN_BLOCK;
 
 /// The byte at a place of a slice.
 pub fn byte(id: u64, place: u64) -> u8 {

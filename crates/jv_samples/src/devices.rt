@@ -1,5 +1,5 @@
 //! Devices and the setting of a volume.
-use jv_model::{Sequence, Setting, copied};
+use jv_model::{MIN_BLOCK, Sequence, Setting, copied};
 use jv_outside::Fails;
 use std::alloc::{AllocError, Global};
 
@@ -7,7 +7,7 @@ use std::alloc::{AllocError, Global};
 pub fn setting(alloc: Global) -> Result<Setting, AllocError> {
     Ok(Setting {
         version: 1,
-        block: 65_536,
+        block: MIN_BLOCK,
         trash_days: 1,
         capacity: 0,
         inodes: 0,
@@ -17,7 +17,7 @@ pub fn setting(alloc: Global) -> Result<Setting, AllocError> {
     })
 }
 
-/// The number of a device's only call that fails, or 0.
+/// Has one call of a device fail, counted from 1; none by 0.
 pub fn failing_at(alloc: Global, number: u64) -> Result<Fails, AllocError> {
     let mut numbers = Sequence::new(alloc);
     numbers.push(number)?;

@@ -78,7 +78,7 @@ pub struct BadScenes {
     pub why: BadSceneLine,
 }
 
-/// Reads all scenes of a text.
+/// Reads all scenes of a text. Fails at the first line that is none of a scene, or out of memory, with its number.
 pub fn read_scenes(alloc: Global, text: &str) -> Result<Vec<Scene>, BadScenes> {
     let mut reader = SceneReader::new(alloc);
     let mut number = 0u64;
@@ -186,8 +186,8 @@ impl SceneReader {
     }
 }
 
-/// Of which run a script is that begins now: of a further one where the scene has a script, and a run on what it left comes
-/// last.
+/// Of which run a script is that begins now: of a further one where the scene has a script, and a run on what it left
+/// comes last.
 fn kind_of(scene: &Scene) -> ScriptKind {
     match scene.further.last() {
         Some(Further::Repeat(_)) if !scene.script.is_empty() => ScriptKind::Further,

@@ -1,4 +1,6 @@
-use jv_model::{Attr, BlockId, Busy, Fault, FileKind, Gone, Reply, Sequence, Setting, copied};
+use jv_model::{
+    Attr, BlockId, Busy, Fault, FileKind, Gone, MIN_BLOCK, Reply, Sequence, Setting, copied,
+};
 use jv_script::print_reply;
 use std::alloc::{AllocError, Global};
 
@@ -7,7 +9,7 @@ fn setting(alloc: Global) -> Result<Setting, AllocError> {
     let bucket = copied(alloc, b"b")?;
     Ok(Setting {
         version: 1,
-        block: 65_536,
+        block: MIN_BLOCK,
         trash_days: 1,
         capacity: 0,
         inodes: 0,
@@ -47,7 +49,7 @@ fn prints_a_block(alloc: Global) -> bool {
     let block = BlockId {
         id: 1_234_567,
         index: 0,
-        size: 65_536,
+        size: MIN_BLOCK,
     };
     let reply = Reply::Uploaded(Some(block));
     prints(alloc, &reply, "ok test/chunks/1/1234/1234567_0_65536\n")

@@ -68,7 +68,7 @@ module _ (now : ℕ) (h : ClientValue) (made : Made) (before after : YardValue) 
     puts = [];
     objects = λ objects known. objects_same before.setting objects after.depot.content (same ∙ known);
   }
-  grows_by (PutsNext flight is request next) =
+  grows_by (PutsNext flight is request next noted) =
       let b = flight_block before.setting.block flight flight.put in
       let bytes = flight_bytes before.setting.block flight flight.put in
       record {

@@ -13,15 +13,19 @@ pub record HasName (setting : Setting) (blocks : List BlockId) (name : List ℕ)
   pub among : Contains blocks block
   pub named : name ≡ name_in setting block
 
--- The objects are still known, and none of them is gone. Those that don't have the name of one of the blocks are the same.
-pub record ObjectsStay (setting : Setting) (blocks : List BlockId) (before : ObjectMap) (content : Option ObjectMap) : Type 0 where
+-- The objects are still known, and none of them is gone. Those that don't have the name of one of the
+-- blocks are the same.
+pub record ObjectsStay (setting : Setting) (blocks : List BlockId) (before : ObjectMap)
+    (content : Option ObjectMap) : Type 0 where
   pub after : ObjectMap
   pub known : content ≡ Some after
   pub there : (name : List ℕ) → IsSome (get before name) → IsSome (get after name)
-  pub others : (name : List ℕ) → (HasName setting blocks name → ⊥) → get after name ≡ get before name
+  pub others : (name : List ℕ) → (HasName setting blocks name → ⊥)
+      → get after name ≡ get before name
 
 -- blocks were put, and nothing else was done to objects; nothing was staged or unstaged
 pub record YardGrows (before after : YardValue) : Type 0 where
   pub staged : after.staged ≡ before.staged
   pub puts : List BlockId
-  pub objects : (known : ObjectMap) → before.depot.content ≡ Some known → ObjectsStay before.setting puts known after.depot.content
+  pub objects : (known : ObjectMap) → before.depot.content ≡ Some known
+      → ObjectsStay before.setting puts known after.depot.content

@@ -64,10 +64,13 @@ end_of stopped.Memory = Memory
 
 -- from each past where the line may stand, when the clock still shows what the run's clock shows
 abbrev pub FromLine : (Past → Type 0) → ℕ → LineState → LineState → (Past → Type 0) → Type 0
-FromLine Where number before after Comes = (q : Past) → Where q → InLine q before.schedule before.devices → q.line ≡ number → q.state.count ≡ length before.journal
+FromLine Where number before after Comes = (q : Past) → Where q
+    → InLine q before.schedule before.devices → q.line ≡ number
+    → q.state.count ≡ length before.journal
     → ClockFor q.run.clock q.asked before.clock.answers after.clock.answers → Comes q
 
-pub record Finishes (Where : Past → Type 0) (number : ℕ) (before after : LineState) (text : List ℕ) : Type 0 where
+pub record Finishes (Where : Past → Type 0) (number : ℕ) (before after : LineState)
+    (text : List ℕ) : Type 0 where
   pub asks : ℕ
   pub failed : Device → ℕ
   pub uses : LineUses before after asks failed
@@ -81,7 +84,8 @@ pub record Breaks (Where : Past → Type 0) (number : ℕ) (before after : LineS
   pub goes : FromLine Where number before after (λ q. Break q asks before after)
 
 -- the line stopped at a row that is Bad, as none is where a past is stood for
-pub record FindsBad (Where : Past → Type 0) (number : ℕ) (before after : LineState) (key : RowKey) (bytes : List ℕ) : Type 0 where
+pub record FindsBad (Where : Past → Type 0) (number : ℕ) (before after : LineState) (key : RowKey)
+    (bytes : List ℕ) : Type 0 where
   pub asks : ℕ
   pub failed : Device → ℕ
   pub uses : LineUses before after asks failed
@@ -93,9 +97,11 @@ pub record FindsBad (Where : Past → Type 0) (number : ℕ) (before after : Lin
 abbrev pub LineGoes : (Past → Type 0) → ℕ → LineState → LineState → LineEnd → Type 0
 LineGoes Where number before after (Said text) = Finishes Where number before after text
 LineGoes Where number before after Quiet = ⊥
-LineGoes Where number before after ClockFailed = Breaks Where number before after × Rose before.clock.faults after.clock.faults
+LineGoes Where number before after ClockFailed =
+    Breaks Where number before after × Rose before.clock.faults after.clock.faults
 LineGoes Where number before after (Broken key bytes) = FindsBad Where number before after key bytes
-LineGoes Where number before after Memory = Breaks Where number before after × (after.clock.faults ≡ before.clock.faults)
+LineGoes Where number before after Memory =
+    Breaks Where number before after × (after.clock.faults ≡ before.clock.faults)
 
 -- where the line may stand
 
@@ -124,7 +130,8 @@ pub record IsMomentOf (s : ScheduleValue) (by now : ℕ) (before after : Ticks) 
 
 -- the call stopped before a step, with nothing changed
 abbrev pub StopsBefore : Ticks → Ticks → Stopped → Type 0
-StopsBefore before after stopped.Clock = (after.answers ≡ before.answers) × Rose before.faults after.faults
+StopsBefore before after stopped.Clock =
+    (after.answers ≡ before.answers) × Rose before.faults after.faults
 StopsBefore before after stopped.Memory = after ≡ before
 
 abbrev pub Moments : ScheduleValue → ℕ → Ticks → Ticks → Result ℕ Stopped → Type 0
@@ -132,28 +139,34 @@ Moments s by before after (Ok now) = IsMomentOf s by now before after
 Moments s by before after (Err stopped) = StopsBefore before after stopped
 
 -- the one entry of a line was appended
-pub record HasNoted (s s' : ScheduleValue) (number client : ℕ) (kind : ActKind) (by now : ℕ) (before after : Ticks) (journal more : List Act) : Type 0 where
+pub record HasNoted (s s' : ScheduleValue) (number client : ℕ) (kind : ActKind) (by now : ℕ)
+    (before after : Ticks) (journal more : List Act) : Type 0 where
   pub moment : IsMomentOf s by now before after
   pub later : s.at ≤ now
   pub eight : length s.clients ≡ CLIENTS
   pub appends : more ≡ journal ++ entry_of number now client kind ∷ []
   pub same : s' ≡ record s { at = now }
 
-pub record LeavesSchedule (s s' : ScheduleValue) (before after : Ticks) (journal more : List Act) (stopped : Stopped) : Type 0 where
+pub record LeavesSchedule (s s' : ScheduleValue) (before after : Ticks) (journal more : List Act)
+    (stopped : Stopped) : Type 0 where
   pub stops : StopsBefore before after stopped
   pub acts : more ≡ journal
   pub same : s' ≡ s
 
-abbrev pub Notes : ScheduleValue → ScheduleValue → ℕ → ℕ → ActKind → ℕ → Ticks → Ticks → List Act → List Act → Result ℕ Stopped → Type 0
-Notes s s' number client kind by before after journal more (Ok now) = HasNoted s s' number client kind by now before after journal more
-Notes s s' number client kind by before after journal more (Err stopped) = LeavesSchedule s s' before after journal more stopped
+abbrev pub Notes : ScheduleValue → ScheduleValue → ℕ → ℕ → ActKind → ℕ → Ticks → Ticks → List Act
+    → List Act → Result ℕ Stopped → Type 0
+Notes s s' number client kind by before after journal more (Ok now) =
+    HasNoted s s' number client kind by now before after journal more
+Notes s s' number client kind by before after journal more (Err stopped) =
+    LeavesSchedule s s' before after journal more stopped
 
 -- what clients share once the yard knows of a moment
 abbrev pub at_moment : ℕ → Shared → Shared
 at_moment now v = record v { yard = record v.yard { last = now } }
 
 -- A client of the schedule made a step at a moment that the yard got first.
-pub record HasStepped (s s' : ScheduleValue) (number client : ℕ) (before after : Ticks) (v used : Shared) (journal more : List Act) (step : Step) : Type 0
+pub record HasStepped (s s' : ScheduleValue) (number client : ℕ) (before after : Ticks)
+    (v used : Shared) (journal more : List Act) (step : Step) : Type 0
   where
     pub now : ℕ
     pub moment : IsMomentOf s 0 now before after
@@ -164,9 +177,12 @@ pub record HasStepped (s s' : ScheduleValue) (number client : ℕ) (before after
     pub steps : Steps number now old new (at_moment now v) used journal more step
     pub same : s' ≡ record s { at = now; clients = slice_set s.clients client new }
 
-abbrev pub MakesStep : ScheduleValue → ScheduleValue → ℕ → ℕ → Ticks → Ticks → Shared → Shared → List Act → List Act → Result Step Stopped → Type 0
-MakesStep s s' number client before after v used journal more (Ok step) = HasStepped s s' number client before after v used journal more step
-MakesStep s s' number client before after v used journal more (Err stopped) = LeavesSchedule s s' before after journal more stopped × (used ≡ v)
+abbrev pub MakesStep : ScheduleValue → ScheduleValue → ℕ → ℕ → Ticks → Ticks → Shared → Shared
+    → List Act → List Act → Result Step Stopped → Type 0
+MakesStep s s' number client before after v used journal more (Ok step) =
+    HasStepped s s' number client before after v used journal more step
+MakesStep s s' number client before after v used journal more (Err stopped) =
+    LeavesSchedule s s' before after journal more stopped × (used ≡ v)
 
 -- an operation was begun, or refused
 pub record HasBegun (s s' : ScheduleValue) (client : ℕ) (o : Op) : Type 0 where
@@ -182,7 +198,8 @@ pub record HasBegun (s s' : ScheduleValue) (client : ℕ) (o : Op) : Type 0 wher
 pub record HasRefused (s s' : ScheduleValue) (client : ℕ) (o : Op) (fault : Fault) : Type 0 where
   pub old : ClientValue
   pub found : slice_get s.clients client ≡ Some old
-  pub refused : (g : Known) (v : Shared) (m : ModelClient) (count : ℕ) → IsClient g v m count old → submission m o ≡ Some fault
+  pub refused : (g : Known) (v : Shared) (m : ModelClient) (count : ℕ) → IsClient g v m count old
+      → submission m o ≡ Some fault
   pub calm : IsCalm (ToldRefused fault)
   pub same : s' ≡ s
 

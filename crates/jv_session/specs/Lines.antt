@@ -27,7 +27,8 @@ pub record LineState : Type 0 where
   pub schedule : ScheduleValue
 
 abbrev pub line_state : Ticks → Shared → List Act → ScheduleValue → LineState
-line_state clock devices journal schedule = record { clock = clock; devices = devices; journal = journal; schedule = schedule }
+line_state clock devices journal schedule =
+    record { clock = clock; devices = devices; journal = journal; schedule = schedule }
 
 -- how many entries answer that the device failed
 abbrev pub device_failures : Device → List Act → ℕ
@@ -44,7 +45,8 @@ pub record AnswersSo (before after : List Act) (failed : Device → ℕ) : Type 
   pub failures : AreFailures acts failed
 
 -- the entries of one line, which has this number, were appended and are allowed, and the clock was asked `asks` times
-pub record Appends (p : Past) (more : List Line) (number asks : ℕ) (before after : List Act) (acts : List Act) (q : Past) : Type 0 where
+pub record Appends (p : Past) (more : List Line) (number asks : ℕ) (before after : List Act)
+    (acts : List Act) (q : Past) : Type 0 where
   pub grows : after ≡ before ++ acts
   pub allowed : AllAllowed p acts
   pub reaches : begun_to number (past p acts) ≡ q
@@ -60,7 +62,8 @@ abbrev pub BlocksStay : Shared → Shared → Type 0
 BlocksStay before after = Grows (present_in before) (present_in after)
 
 -- the line is done and prints this
-pub record Ran (p : Past) (more : List Line) (number asks : ℕ) (before after : LineState) (text : List ℕ) : Type 0 where
+pub record Ran (p : Past) (more : List Line) (number asks : ℕ) (before after : LineState)
+    (text : List ℕ) : Type 0 where
   pub acts : List Act
   pub end : Past
   pub appends : Appends p more number asks before.journal after.journal acts end
@@ -69,7 +72,8 @@ pub record Ran (p : Past) (more : List Line) (number asks : ℕ) (before after :
   pub said : end.said ≡ text
 
 -- the run stopped on the line, before a step or after its last one, and the schedule stands where it is then
-pub record Cut (p : Past) (more : List Line) (number asks : ℕ) (before after : LineState) : Type 0 where
+pub record Cut (p : Past) (more : List Line) (number asks : ℕ)
+    (before after : LineState) : Type 0 where
   pub acts : List Act
   pub end : Past
   pub appends : Appends p more number asks before.journal after.journal acts end
@@ -79,10 +83,13 @@ pub record Cut (p : Past) (more : List Line) (number asks : ℕ) (before after :
 
 -- From wherever the schedule stands, when the clock still shows what the run's clock shows: the outcome of the line.
 abbrev pub FromThere : Line → ℕ → LineState → LineState → (Past → List Line → Type 0) → Type 0
-FromThere line number before after Comes = (p : Past) (more : List Line) → Stands p before.schedule before.devices → p.line + 1 ≡ number → p.rest ≡ line ∷ more
-    → p.state.count ≡ length before.journal → ClockFor p.run.clock p.asked before.clock.answers after.clock.answers → Comes p more
+FromThere line number before after Comes = (p : Past) (more : List Line)
+    → Stands p before.schedule before.devices → p.line + 1 ≡ number → p.rest ≡ line ∷ more
+    → p.state.count ≡ length before.journal
+    → ClockFor p.run.clock p.asked before.clock.answers after.clock.answers → Comes p more
 
--- Devices are open where they were, and the shelf has the blocks that it had. The yard is one of the same volume, which blocks were put into.
+-- Devices are open where they were, and the shelf has the blocks that it had. The yard is one of the same
+-- volume, which blocks were put into.
 pub record StaysPut (before after : Shared) : Type 0 where
   pub keeper_at : after.keeper.opened ≡ before.keeper.opened
   pub carrier_at : after.carrier.opened ≡ before.carrier.opened
@@ -92,18 +99,21 @@ pub record StaysPut (before after : Shared) : Type 0 where
   pub setting : after.yard.setting ≡ before.yard.setting
   pub grows : YardGrows before.yard after.yard
 
--- What a line does to clock and devices, whatever these hold: how often the clock was asked, and how often each device failed, which
--- as many of its entries answer. The schedule has the same limits, and may go on with the yard.
+-- What a line does to clock and devices, whatever these hold: how often the clock was asked, and how often each device
+-- failed, which as many of its entries answer. The schedule has the same limits, and may go on with the yard.
 pub record LineUses (before after : LineState) (asks : ℕ) (failed : Device → ℕ) : Type 0 where
   pub passes : Passes before.clock.answers after.clock.answers asks
   pub stays : StaysPut before.devices after.devices
-  pub counts : (device : Device) → RoseTimes (failed device) (faults_of device before.devices) (faults_of device after.devices)
+  pub counts : (device : Device)
+      → RoseTimes (failed device) (faults_of device before.devices) (faults_of device after.devices)
   pub answers : AnswersSo before.journal after.journal failed
-  pub yard : IsYardOf before.schedule before.devices.yard → IsYardOf after.schedule after.devices.yard
+  pub yard : IsYardOf before.schedule before.devices.yard
+      → IsYardOf after.schedule after.devices.yard
   pub limits : after.schedule.limits ≡ before.schedule.limits
 
 -- the line was run
-pub record SaysLine (line : Line) (number : ℕ) (before after : LineState) (text : List ℕ) : Type 0 where
+pub record SaysLine (line : Line) (number : ℕ) (before after : LineState)
+    (text : List ℕ) : Type 0 where
   pub asks : ℕ
   pub failed : Device → ℕ
   pub uses : LineUses before after asks failed
@@ -118,7 +128,8 @@ pub record CutsLine (line : Line) (number : ℕ) (before after : LineState) : Ty
   pub stops : FromThere line number before after (λ p more. Cut p more number asks before after)
 
 -- The line stopped at a row that is Bad, which none is where the schedule stands for a past.
-pub record BreaksAt (line : Line) (number : ℕ) (before after : LineState) (key : RowKey) (bytes : List ℕ) : Type 0 where
+pub record BreaksAt (line : Line) (number : ℕ) (before after : LineState) (key : RowKey)
+    (bytes : List ℕ) : Type 0 where
   pub asks : ℕ
   pub failed : Device → ℕ
   pub uses : LineUses before after asks failed
@@ -137,12 +148,15 @@ pub record LeavesAll (before after : LineState) : Type 0 where
 abbrev pub LineRuns : Line → ℕ → LineState → LineState → LineEnd → Type 0
 LineRuns line number before after (Said text) = SaysLine line number before after text
 LineRuns line number before after Quiet = LeavesAll before after
-LineRuns line number before after ClockFailed = CutsLine line number before after × Rose before.clock.faults after.clock.faults
+LineRuns line number before after ClockFailed =
+    CutsLine line number before after × Rose before.clock.faults after.clock.faults
 LineRuns line number before after (Broken key bytes) = BreaksAt line number before after key bytes
-LineRuns line number before after Memory = CutsLine line number before after × (after.clock.faults ≡ before.clock.faults)
+LineRuns line number before after Memory =
+    CutsLine line number before after × (after.clock.faults ≡ before.clock.faults)
 
 -- a door has its yard before a call and after it, which the call took out
-pub record AtDoor (before after : Option YardValue) (Does : YardValue → YardValue → Type 0) : Type 0 where
+pub record AtDoor (before after : Option YardValue)
+    (Does : YardValue → YardValue → Type 0) : Type 0 where
   pub taken : YardValue
   pub taken_is : before ≡ Some taken
   pub left : YardValue

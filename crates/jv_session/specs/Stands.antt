@@ -29,8 +29,9 @@ fresh_schedule setting limits = record {
   limits = limits;
   at = 0;
   ticks = 0;
-  clients = fresh_client 0 limits ∷ fresh_client 1 limits ∷ fresh_client 2 limits ∷ fresh_client 3 limits
-      ∷ fresh_client 4 limits ∷ fresh_client 5 limits ∷ fresh_client 6 limits ∷ fresh_client 7 limits ∷ [];
+  clients = fresh_client 0 limits ∷ fresh_client 1 limits ∷ fresh_client 2 limits
+      ∷ fresh_client 3 limits ∷ fresh_client 4 limits ∷ fresh_client 5 limits
+      ∷ fresh_client 6 limits ∷ fresh_client 7 limits ∷ [];
   setting = setting;
 }
 
@@ -47,7 +48,8 @@ pub record IsSchedule (limits : Limits) (at ticks : ℕ) (clients : List ClientV
   pub eight : length clients ≡ CLIENTS
   pub members : (k : ℕ) → IfSome (slice_get clients k) (IsMember limits k)
 
--- A schedule may go on with this yard: its blocks have a length that there is, and it knows of no moment after the schedule's.
+-- A schedule may go on with this yard: its blocks have a length that there is, and it knows of no moment
+-- after the schedule's.
 pub record IsYardOf (s : ScheduleValue) (yard : YardValue) : Type 0 where
   pub block : IsLength yard.setting.block
   pub last : yard.last ≤ s.at
@@ -59,12 +61,14 @@ pub record IsClientAt (g : Known) (q : State) (v : Shared) (k : ℕ) (c : Client
 
 -- slices in flight of two clients have two numbers
 abbrev pub AreApart : List ClientValue → Type 0
-AreApart clients = (j k : ℕ) (c other : ClientValue) → j ≢ k → slice_get clients j ≡ Some c → slice_get clients k ≡ Some other
+AreApart clients = (j k : ℕ) (c other : ClientValue) → j ≢ k → slice_get clients j ≡ Some c
+    → slice_get clients k ≡ Some other
     → 0 < in_flight c → in_flight c ≢ in_flight other
 
--- The tree is that of the keeper's rows with the bytes of their blocks; numbers of slices and records are within what the run began
--- with and its entries; and each client of the model is the one of its number.
-pub record IsState (start : Start) (g : Known) (q : State) (clients : List ClientValue) (v : Shared) : Type 0 where
+-- The tree is that of the keeper's rows with the bytes of their blocks; numbers of slices and records are within what
+-- the run began with and its entries; and each client of the model is the one of its number.
+pub record IsState (start : Start) (g : Known) (q : State) (clients : List ClientValue)
+    (v : Shared) : Type 0 where
   pub has_store : HasStore q.tree g v
   pub within : IsWithin start q (rows_in v)
   pub clients_are : (k : ℕ) → IfSome (slice_get clients k) (IsClientAt g q v k)
@@ -106,4 +110,5 @@ client_is_busy s client = busy_in (slice_get s.clients client)
 -- the clock still shows what the run's clock shows from the next answer on
 abbrev pub ClockFor : Option (ℕ → ℕ) → ℕ → Option (ℕ → ℕ) → Option (ℕ → ℕ) → Type 0
 ClockFor None asked before after = Unit {0}
-ClockFor (Some answers) asked before after = IsSome after × IfSome before (λ rest. (n : ℕ) → rest n ≡ answers (n + asked))
+ClockFor (Some answers) asked before after =
+    IsSome after × IfSome before (λ rest. (n : ℕ) → rest n ≡ answers (n + asked))

@@ -11,10 +11,12 @@ pub enum LineEnd {
     Said(Bytes),
     /// The line does nothing and prints nothing.
     Quiet,
-    /// The clock failed before a step of the line. The steps before it are made, and the session stands where they lead.
+    /// The clock failed before a step of the line. The steps before it are made, and the session stands where they
+    /// lead.
     ClockFailed,
-    /// The row at this key, which has these bytes, is malformed, or names one that isn't there. A step of the line stopped
-    /// there with nothing changed; the steps before it are made.
+    /// The row at this key, which has these bytes, is malformed, or names one that isn't there, or is absent where each
+    /// volume has one, and then without bytes. A step of the line stopped there with nothing changed; the steps before
+    /// it are made.
     Broken(RowKey, Bytes),
     /// There was no memory for a step's entries or for the line's text. The session stands where the steps so far lead.
     Memory,

@@ -104,7 +104,7 @@ impl Schedule {
         }
     }
 
-    /// Answers an operation that is refused at its submission, and never since a device failed.
+    /// Answers an operation that is refused at its submission. No such refusal says that a device failed.
     fn refuse<C: Clock>(
         &mut self,
         client: ClientId,
@@ -119,10 +119,10 @@ impl Schedule {
             (line_state (C.seen clock.new) devices journal.new.acts self.new) result }
         ensures some { result ≢ LineEnd.Quiet }
     {
-        let told = ActKind::Answered {
+        let kind = ActKind::Answered {
             told: Told::Refused(fault),
         };
-        match self.note(client.number(), told, 0, number, clock, journal) {
+        match self.note(client.number(), kind, 0, number, clock, journal) {
             Ok(_) => said(self.print(&Reply::Refused(fault))),
             Err(stopped) => stopped.into_end(),
         }
@@ -382,7 +382,7 @@ impl Schedule {
             return Err(Stopped::Clock);
         };
         let passed = self.ticks.saturating_add(by);
-        let told = answer.seconds().saturating_add(passed);
-        Ok(Moment(LAST_MOMENT.min(self.at.max(told))))
+        let by_clock = answer.seconds().saturating_add(passed);
+        Ok(Moment(LAST_MOMENT.min(self.at.max(by_clock))))
     }
 }

@@ -47,7 +47,8 @@ impl Model for Schedule {
 }
 
 impl Schedule {
-    /// A session over a volume of this setting. Takes no memory.
+    /// A session over a volume of this setting. The buffer of `limits` has at least [`jv_model::MAX_DATA`] bytes. Takes
+    /// no memory.
     pub fn new(alloc: Global, setting: Setting, limits: Limits) -> Schedule
         requires { MAX_DATA ≤ limits.buffer }
         ensures { result ≡ fresh_schedule setting limits }

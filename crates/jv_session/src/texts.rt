@@ -1,5 +1,6 @@
 //! The texts of lines that answer no operation.
-ghost use Rattle.std.specs.Prelude.{◌≡◌, ◌++◌, ◌∷◌, [], IfOk, codes, decimal};
+ghost use Rattle.std.specs.Prelude.{◌≡◌, ◌++◌, IfOk, codes, decimal};
+ghost use Rattle.jv_model.specs.script.ReplyText.{with_feed};
 
 use itoa::Buffer;
 use jv_model::{Bytes, Sequence};
@@ -14,7 +15,7 @@ pub(crate) fn text(alloc: Global, text: &[u8]) -> Result<Bytes, AllocError>
 
 /// What a tick prints: the moment in seconds.
 pub(crate) fn moment_text(alloc: Global, seconds: u64) -> Result<Bytes, AllocError>
-    ensures { IfOk result (λ bytes. bytes ≡ (codes "now " ++ decimal seconds) ++ 10 ∷ []) }
+    ensures { IfOk result (λ bytes. bytes ≡ with_feed (codes "now " ++ decimal seconds)) }
 {
     let mut bytes = b"now ".to_vec(alloc)?;
     bytes.extend_from_slice(Buffer::new().format(seconds).as_bytes())?;

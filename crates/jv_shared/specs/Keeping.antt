@@ -11,7 +11,8 @@ use Rattle.jv_shared.specs.Shared.{HasStore, Known, Shared, present_in, rows_in}
 -- More is known later: no block changes, new ones are of the step's own slice, and only a slice that had no number gets a size.
 pub record Learns (own next : ℕ) (before after : Known) : Type 0 where
   pub blocks : Grows before.blocks after.blocks
-  pub only : (b : BlockId) (bytes : List ℕ) → b.id ≢ own → after.blocks b ≡ Some bytes → before.blocks b ≡ Some bytes
+  pub only : (b : BlockId) (bytes : List ℕ) → b.id ≢ own → after.blocks b ≡ Some bytes
+      → before.blocks b ≡ Some bytes
   pub sizes : (id : ℕ) → id < next → after.sizes id ≡ before.sizes id
 
 -- Numbers aren't given twice, and a slice that no row names is named by the step's own transaction alone.
@@ -22,10 +23,12 @@ pub record KeepsNumbers (own : ℕ) (rows after : Rows) : Type 0 where
 -- The depot keeps its blocks, and gets none but of the step's own slice.
 pub record KeepsBlocks (own : ℕ) (before after : Blocks) : Type 0 where
   pub grows : Grows before after
-  pub only : (b : BlockId) (bytes : List ℕ) → b.id ≢ own → after b ≡ Some bytes → before b ≡ Some bytes
+  pub only : (b : BlockId) (bytes : List ℕ) → b.id ≢ own → after b ≡ Some bytes
+      → before b ≡ Some bytes
 
 -- all of that
-pub record Keeps (own : ℕ) (rows rows' : Rows) (g g' : Known) (present present' : Blocks) : Type 0 where
+pub record Keeps (own : ℕ) (rows rows' : Rows) (g g' : Known)
+    (present present' : Blocks) : Type 0 where
   pub learns : Learns own (next_slice rows) g g'
   pub numbers : KeepsNumbers own rows rows'
   pub blocks : KeepsBlocks own present present'

@@ -13,7 +13,8 @@ use Rattle.jv_shared.specs.Shared.{Known, Shared, present_in, rows_in}
 
 -- each block of a slice of this size is there
 abbrev pub SliceIsThere : ℕ → Blocks → ℕ → ℕ → Type 0
-SliceIsThere block present id size = (index : ℕ) → index < block_count size block → IsThere present (block_at id size block index)
+SliceIsThere block present id size =
+    (index : ℕ) → index < block_count size block → IsThere present (block_at id size block index)
 
 -- what a record names has a number, and is there, with the size that is known
 pub record IsFound (block : ℕ) (rows : Rows) (g : Known) (present : Blocks) (r : Rec) : Type 0 where
@@ -24,12 +25,15 @@ pub record IsFound (block : ℕ) (rows : Rows) (g : Known) (present : Blocks) (r
 
 -- A window's records show the bytes that a file had when it was looked at, as far as it went then, and the blocks that they name are
 -- there. This stays so whatever becomes of the file.
-pub record ShowsWindow (block : ℕ) (rows : Rows) (g : Known) (present : Blocks) (window length : ℕ) (list : List Rec) (content : Content) : Type 0 where
+pub record ShowsWindow (block : ℕ) (rows : Rows) (g : Known) (present : Blocks) (window length : ℕ)
+    (list : List Rec) (content : Content) : Type 0 where
   pub long : content.length ≡ length
   pub records : AllByRecursion (IsFound block rows g present) list
   pub bytes : (place : ℕ) → place < WINDOW → window * WINDOW + place < length
-      → content.byte (window * WINDOW + place) ≡ spot_byte (known_by block g.blocks) (stored_place list place)
+      → content.byte (window * WINDOW + place) ≡ spot_byte (known_by block g.blocks)
+      (stored_place list place)
 
 -- a view of a window of a file, over what clients share
 abbrev pub IsView : Known → Shared → ℕ → ℕ → List Rec → Content → Type 0
-IsView g v window length list content = ShowsWindow v.yard.setting.block (rows_in v) g (present_in v) window length list content
+IsView g v window length list content =
+    ShowsWindow v.yard.setting.block (rows_in v) g (present_in v) window length list content

@@ -51,7 +51,8 @@ pub record Known : Type 0 where
 
 -- a block is known too
 abbrev pub with_block : BlockId → List ℕ → Known → Known
-with_block b bytes g = record g { blocks = λ other. if is_same_block b other then Some bytes else g.blocks other }
+with_block b bytes g =
+    record g { blocks = λ other. if is_same_block b other then Some bytes else g.blocks other }
 
 -- and the size of a slice
 abbrev pub with_size : ℕ → ℕ → Known → Known
@@ -60,11 +61,14 @@ with_size id size g = record g { sizes = λ other. if id == other then size else
 -- rows name each slice with the size that is known
 pub record AreSized (sizes : ℕ → ℕ) (rows : Rows) : Type 0 where
   pub records : ListsHave (λ r. r.id ≢ 0 → r.size ≡ sizes r.id) rows
-  pub slices : (id : ℕ) (slice : SliceRow) → slice_row_at rows id ≡ Some slice → slice.size ≡ sizes id
+  pub slices : (id : ℕ) (slice : SliceRow) → slice_row_at rows id ≡ Some slice
+      → slice.size ≡ sizes id
 
 -- the blocks of the volume that a client has staged
 abbrev pub staged_in : YardValue → StagedMap → ℕ → Blocks
-staged_in yard staged client b = (if is_block yard.setting.block b && is_some (staged_since client (name_in yard.setting b) yard.staged)
+staged_in yard staged client b =
+    (if is_block yard.setting.block b
+    && is_some (staged_since client (name_in yard.setting b) yard.staged)
     then staged_at client (name_in yard.setting b) staged else None)
 
 -- The tree is that of the keeper's rows, which are known and whole, with the bytes that their slices' blocks have. The depot has each

@@ -120,7 +120,8 @@ pub fn push_played(
     push_places(report, scene, stage)
 }
 
-/// Adds what the stores of a stage have: the objects and the staged blocks, and the rows, each where the scene shows them.
+/// Adds what the stores of a stage have: the objects and the staged blocks, and the rows, each where the scene shows
+/// them.
 pub fn push_stock(
     alloc: Global,
     report: &mut String,
@@ -138,8 +139,8 @@ pub fn push_stock(
     Ok(())
 }
 
-/// Lists what is left in the stores, where the scene has a script for that, and adds the answers. The run is made on the
-/// stage.
+/// Lists what is left in the stores, where the scene has a script for that, and adds the answers. The run is made on
+/// the stage.
 pub fn push_list(
     alloc: Global,
     report: &mut String,

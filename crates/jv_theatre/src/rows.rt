@@ -67,7 +67,8 @@ pub fn rows_text(alloc: Global, rows: &Rows) -> Result<String, AllocError> {
     Ok(text)
 }
 
-/// Rows as text but for numbers of slices: without the rows that name slices, and of the counters without the next slice.
+/// Rows as text but for numbers of slices: without the rows that name slices, and of the counters without the next
+/// slice.
 pub fn unnumbered_text(alloc: Global, rows: &Rows) -> Result<String, AllocError> {
     let mut text = String::new(alloc);
     for (key, value) in rows.as_slice() {

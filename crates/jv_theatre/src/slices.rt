@@ -6,7 +6,8 @@ use jv_rows::{Misread, parse_list, parse_setting, parse_slice};
 use jv_slices::{block_len, block_name, blocks_of};
 use std::alloc::{AllocError, Global};
 
-/// What is wrong with the slices of a stock, if anything is, and if the rows of the setting, of lists and of slices can be read.
+/// What is wrong with the slices of a stock, if anything is, and if the rows of the setting, of lists and of slices can
+/// be read.
 pub fn broken_slices(alloc: Global, stock: &Stock) -> Result<Option<&'static str>, AllocError> {
     match read_slices(alloc, &stock.rows) {
         Ok(slices) => slices.broken(alloc, stock),

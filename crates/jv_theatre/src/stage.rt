@@ -58,8 +58,8 @@ pub struct Parts {
 
 /// Who runs words on a stage.
 pub trait Player {
-    /// Runs words over the parts of a stage, with this carrier, and puts back what is left of them. Returns the status. On
-    /// error nothing was run.
+    /// Runs words over the parts of a stage, with this carrier, and puts back what is left of them. Returns the status.
+    /// On error nothing was run.
     fn run(
         &self,
         alloc: Global,
@@ -69,7 +69,8 @@ pub trait Player {
     ) -> Result<u8, AllocError>;
 }
 
-/// A place for the parts of one world at a time. They are dear to drop, so runs borrow their stage, and nobody else has them.
+/// A place for the parts of one world at a time. They are dear to drop, so runs borrow their stage, and nobody else has
+/// them.
 #[derive(Drop)]
 pub struct SceneStage {
     parts: Option<Parts>,

@@ -108,8 +108,8 @@ fn left_on(
     })
 }
 
-/// The rows as they are compared. Where a scene shows blocks that is without numbers of slices, since a flush that fails has
-/// used one.
+/// The rows as they are compared. Where a scene shows blocks that is without numbers of slices, since a flush that
+/// fails has used one.
 fn compared_text(alloc: Global, scene: &Scene, rows: &Rows) -> Result<String, AllocError> {
     if scene.shows_blocks {
         unnumbered_text(alloc, rows)
@@ -238,8 +238,8 @@ fn rise(base: &Played, now: &Played, device: WorldDevice) -> u64 {
     now.faults(device).saturating_sub(base.faults(device))
 }
 
-/// The number of the first answer, from 0, that the device failed, where it isn't one of the run in which no further call
-/// fails.
+/// The number of the first answer, from 0, that the device failed, where it isn't one of the run in which no further
+/// call fails.
 fn first_failure(base: &Run, now: &Run, device: WorldDevice) -> Option<usize> {
     let failure = device.failure()?;
     if failures(base, failure) >= failures(now, failure) {
@@ -255,9 +255,9 @@ fn failures(run: &Run, failure: &str) -> u64 {
     count_lines(run.played.out.as_slice(), failure)
 }
 
-/// What of the rule a run breaks whose operation at a line met a device that failed: it has one such answer more for the one
-/// call more that failed; and where each line is an operation that is run to its end, the other answers, and what is left,
-/// are those of the run without that line.
+/// What of the rule a run breaks whose operation at a line met a device that failed: it has one such answer more for
+/// the one call more that failed; and where each line is an operation that is run to its end, the other answers, and
+/// what is left, are those of the run without that line.
 fn broken_failure(
     alloc: Global,
     scene: &Scene,

@@ -282,10 +282,6 @@ pub fewer-left : (bound dir : ℕ) (page : List (RowKey × Row)) (key : RowKey) 
 fewer-left bound dir page key old new is all adds small =
     omega (arith, ap length adds, length-append old (entries_within dir page), entries_some dir page key is all, small)
 
-pub no_key : (o : Option RowKey) → ((key : RowKey) → o ≡ Some key → ⊥) → o ≡ None
-no_key None none = refl
-no_key (Some key) none = absurd (none key refl)
-
 -- ---- whether a directory has entries
 
 abbrev pub has_some : List (List ℕ × ℕ) → Bool

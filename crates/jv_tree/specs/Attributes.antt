@@ -23,7 +23,8 @@ use Rattle.jv_volume.specs.TypedRows.{typed}
 
 -- the kind of a number that rows have
 abbrev pub kind_in : ℕ → FileKind
-kind_in number = (if number == 1 then kind.File else if number == 2 then kind.Directory else kind.Symlink)
+kind_in number =
+    (if number == 1 then kind.File else if number == 2 then kind.Directory else kind.Symlink)
 
 abbrev pub attr_in : ℕ → Node → Attr
 attr_in inode row = record {
@@ -61,9 +62,11 @@ pub record HasPut (inode : ℕ) (row : Node) (known : RowMap) (after : Option Ro
   pub put : typed left ≡ insert (typed known) (node_key inode) (Ok (OfNode row))
 
 -- The row of a node put. After an error the rows are as before, and no row is Bad.
-pub record PutsNode (inode : ℕ) (row : Node) (before after : Store) (result : Result (Unit {0}) TxFault) : Type 0 where
+pub record PutsNode (inode : ℕ) (row : Node) (before after : Store)
+    (result : Result (Unit {0}) TxFault) : Type 0 where
   pub opened_at : after.opened ≡ before.opened
   pub counts : TransactionCounts before.faults after.faults result
-  pub done : OnOk result ((known : RowMap) → before.rows ≡ Some known → HasPut inode row known after.rows)
+  pub done : OnOk result ((known : RowMap) → before.rows ≡ Some known
+      → HasPut inode row known after.rows)
   pub undone : OnErr result (after.rows ≡ before.rows)
   pub cause : IfErr result IsNotBad

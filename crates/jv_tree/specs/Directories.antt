@@ -22,7 +22,8 @@ entry_then name _ others = []
 -- the entries of a directory up to the first row that is none
 abbrev pub entries_within : ℕ → List (RowKey × Row) → List (List ℕ × ℕ)
 entries_within dir [] = []
-entries_within dir (r ∷ rows) = (if r.0.a == dir then entry_then r.0.b r.1 (entries_within dir rows) else [])
+entries_within dir (r ∷ rows) =
+    (if r.0.a == dir then entry_then r.0.b r.1 (entries_within dir rows) else [])
 
 -- whether all rows are entries of a directory
 abbrev pub all_within : ℕ → List (RowKey × Row) → Bool

@@ -61,11 +61,18 @@ enter kind mode now place reply t = do
 
 -- whether the limits let one more node in, which takes one unit of space
 abbrev pub has_room : Setting → Counters → Bool
-has_room setting c = nat_lt c.inode FULL_COUNT && nat_le (c.used_space + SPACE_UNIT) (space_limit setting) && nat_lt c.used_inodes (inode_limit setting)
+has_room setting c = nat_lt c.inode FULL_COUNT
+    && nat_le (c.used_space + SPACE_UNIT) (space_limit setting)
+    && nat_lt c.used_inodes (inode_limit setting)
 
 -- the counters with one more node
 abbrev pub one_more : Counters → Counters
-one_more c = record c { inode = c.inode + 1; used_space = c.used_space + SPACE_UNIT; used_inodes = c.used_inodes + 1 }
+one_more c =
+    record c {
+      inode = c.inode + 1;
+      used_space = c.used_space + SPACE_UNIT;
+      used_inodes = c.used_inodes + 1;
+    }
 
 -- counters grow where the limits allow it
 abbrev pub Grows : Setting → Counters → Result Counters Fault → Type 0
@@ -75,5 +82,8 @@ Grows setting c (Err fault) = (has_room setting c ≡ false) × (fault ≡ NoSpa
 -- a directory that gets an entry has both times at the moment, and one link more for a directory in it, which is refused where
 -- no more can be stored
 abbrev pub GetsEntry : NodeRow → NodeRow → ℕ → ℕ → Result (Unit {0}) Fault → Type 0
-GetsEntry before after now kind (Ok unit) = (after ≡ directory_touched now (before.nlink + links_by kind) before) × (kind ≡ 2 → before.nlink < MAX_LINKS)
-GetsEntry before after now kind (Err fault) = (kind ≡ 2) × (before.nlink ≡ MAX_LINKS) × (fault ≡ NoSpace)
+GetsEntry before after now kind (Ok unit) =
+    (after ≡ directory_touched now (before.nlink + links_by kind) before)
+    × (kind ≡ 2 → before.nlink < MAX_LINKS)
+GetsEntry before after now kind (Err fault) =
+    (kind ≡ 2) × (before.nlink ≡ MAX_LINKS) × (fault ≡ NoSpace)

@@ -2,10 +2,10 @@
 use Rattle.std.specs.Prelude.{codes}
 use Rattle.std.proofs.Common.{◌≡◌, ℕ, zero, suc, List, [], ◌∷◌, get_or, refl, sym, ap, subst, ◌∙◌, arith}
 use Rattle.std.proofs.lemmas.Bool.{false≢true}
-use Rattle.jv_model.specs.declared.limits.TheConstants.{FULL_MODE}
+use Rattle.jv_model.specs.declared.limits.TheConstants.{FULL_MODE, ROOT, TRASH_ROOT}
 use Rattle.jv_model.specs.declared.setting.Setting.{Setting}
 use Rattle.jv_model.specs.FiniteMap.{map_of, empty_map, insert}
-use Rattle.jv_model.specs.tree.Tree.{Tree, Node, File, Directory, EntryKey, new_node, fresh_tree, root, trash_root}
+use Rattle.jv_model.specs.tree.Tree.{Tree, Node, File, Directory, EntryKey, new_node, fresh_tree}
 use Rattle.jv_model.specs.tree.Changes.{empty_content}
 use Rattle.jv_model.specs.tree.HourNames.{hour_name}
 use Rattle.jv_model.specs.tree.Trash.{hour_inode, trash_name}
@@ -34,28 +34,28 @@ directory parent = new_node (Directory parent) FULL_MODE 0
 -- a tree with a root, a trash, and these nodes and entries
 abbrev tree : List (ℕ × Node) → List (EntryKey × ℕ) → Tree
 tree nodes entries = record (fresh_tree plain 0) {
-  nodes = map_of ((root, directory root) ∷ (trash_root, directory root) ∷ nodes);
+  nodes = map_of ((ROOT, directory ROOT) ∷ (TRASH_ROOT, directory ROOT) ∷ nodes);
   entries = map_of entries;
   next_inode = 4;
 }
 
 -- an entry names an inode that isn't there
 abbrev without_node : Tree
-without_node = tree [] ((place root a, 2) ∷ [])
+without_node = tree [] ((place ROOT a, 2) ∷ [])
 
 without_node_broken : WholeShape (shape_of without_node) → ⊥
 unfolding maps_compute
-without_node_broken w = false≢true ((w.entry (place root a) 2 refl).there)
+without_node_broken w = false≢true ((w.entry (place ROOT a) 2 refl).there)
 
 -- a directory has two entries
 abbrev entered_twice : Tree
-entered_twice = tree ((2, directory root) ∷ []) ((place root a, 2) ∷ (place root b, 2) ∷ [])
+entered_twice = tree ((2, directory ROOT) ∷ []) ((place ROOT a, 2) ∷ (place ROOT b, 2) ∷ [])
 
 entered_twice_broken : WholeShape (shape_of entered_twice) → ⊥
 unfolding maps_compute
 entered_twice_broken w =
-    let entered = w.entered 2 root refl refl in
-    let same : place root a ≡ place root b = entered.only (place root a) refl ∙ sym (entered.only (place root b) refl) in
+    let entered = w.entered 2 ROOT refl refl in
+    let same : place ROOT a ≡ place ROOT b = entered.only (place ROOT a) refl ∙ sym (entered.only (place ROOT b) refl) in
     let letters : get_or a 0 0 ≡ get_or b 0 0 = ap (λ (x : EntryKey). get_or x.name 0 0) same in
     omega (arith, letters)
 
@@ -97,7 +97,7 @@ without_session_broken w = false≢true ((w.sustains 1 2 refl).session)
 
 -- a node stands at the next inode
 abbrev not_below : Tree
-not_below = tree ((4, file) ∷ []) ((place root a, 4) ∷ [])
+not_below = tree ((4, file) ∷ []) ((place ROOT a, 4) ∷ [])
 
 not_below_broken : WholeShape (shape_of not_below) → ⊥
 unfolding maps_compute
@@ -105,34 +105,34 @@ not_below_broken w = let less = w.below 4 refl refl in omega (arith, less)
 
 -- an entry of the trash is no hour
 abbrev no_hour : Tree
-no_hour = tree ((2, directory trash_root) ∷ []) ((place trash_root a, 2) ∷ [])
+no_hour = tree ((2, directory TRASH_ROOT) ∷ []) ((place TRASH_ROOT a, 2) ∷ [])
 
 no_hour_broken : WholeShape (shape_of no_hour) → ⊥
 unfolding maps_compute
-no_hour_broken w = false≢true (((w.entry (place trash_root a) 2 refl).hour refl).hour)
+no_hour_broken w = false≢true (((w.entry (place TRASH_ROOT a) 2 refl).hour refl).hour)
 
 -- an hour stands under the name of another
 abbrev another_hour : Tree
-another_hour = tree ((hour_inode 1, directory trash_root) ∷ []) ((place trash_root (hour_name 2), hour_inode 1) ∷ [])
+another_hour = tree ((hour_inode 1, directory TRASH_ROOT) ∷ []) ((place TRASH_ROOT (hour_name 2), hour_inode 1) ∷ [])
 
 another_hour_broken : WholeShape (shape_of another_hour) → ⊥
 unfolding maps_compute names_compute
 another_hour_broken w =
-    let name : hour_name 2 ≡ hour_name 1 = ((w.entry (place trash_root (hour_name 2)) (hour_inode 1) refl).hour refl).name in
+    let name : hour_name 2 ≡ hour_name 1 = ((w.entry (place TRASH_ROOT (hour_name 2)) (hour_inode 1) refl).hour refl).name in
     let digits : get_or (hour_name 2) 12 0 ≡ get_or (hour_name 1) 12 0 = ap (λ xs. get_or xs 12 0) name in
     omega (arith, digits)
 
 -- a file in an hour has a second entry
 abbrev named_twice : Tree
-named_twice = tree ((2, file) ∷ (hour_inode 1, directory trash_root) ∷ []) (
-    (place root a, 2)
-    ∷ (place trash_root (hour_name 1), hour_inode 1)
-    ∷ (place (hour_inode 1) (trash_name (place root a) 2), 2)
+named_twice = tree ((2, file) ∷ (hour_inode 1, directory TRASH_ROOT) ∷ []) (
+    (place ROOT a, 2)
+    ∷ (place TRASH_ROOT (hour_name 1), hour_inode 1)
+    ∷ (place (hour_inode 1) (trash_name (place ROOT a) 2), 2)
     ∷ []
     )
 
 named_twice_broken : WholeShape (shape_of named_twice) → ⊥
 unfolding maps_compute names_compute
 named_twice_broken w =
-    let only = ((w.entry (place (hour_inode 1) (trash_name (place root a) 2)) 2 refl).trashed refl).only in
+    let only = ((w.entry (place (hour_inode 1) (trash_name (place ROOT a) 2)) 2 refl).trashed refl).only in
     omega (arith, only)

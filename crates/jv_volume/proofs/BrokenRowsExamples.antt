@@ -2,6 +2,7 @@
 use Rattle.std.proofs.Common.{◌≡◌, ℕ, [], ◌∷◌, Option, None, Some, Ok, Err, refl, sym, ap, arith}
 use Rattle.std.proofs.lemmas.Bool.{false≢true}
 use Rattle.std.proofs.lemmas.Option.{none-some}
+use Rattle.jv_model.specs.declared.limits.TheConstants.{ROOT}
 use Rattle.jv_model.specs.declared.row.Counters.{Counters}
 use Rattle.jv_model.specs.declared.row.Node.{Node as NodeRow}
 use Rattle.jv_model.specs.declared.row.Edge.{Edge}
@@ -9,7 +10,6 @@ use Rattle.jv_model.specs.declared.row.Row.TheVariants.{OfNode, OfEdge, OfList, 
 use Rattle.jv_model.specs.declared.slice.Spot.{Spot}
 use Rattle.jv_model.specs.declared.slice.Spot.TheVariants.{Zero, Slice}
 use Rattle.jv_model.specs.rows.RowPlaces.{node_key, edge_key, list_key, slice_key}
-use Rattle.jv_model.specs.tree.Tree.{root}
 use Rattle.jv_volume.specs.TypedRows.{Rows}
 use Rattle.jv_volume.specs.Views.{row_in, node_in, edge_in, counters_in}
 use Rattle.jv_volume.specs.Slices.{HasLists, OfFile, OfDropped}
@@ -27,7 +27,7 @@ links_in (Some node) = node.nlink
 
 links_off_broken : Whole links_off → ⊥
 unfolding rows_compute links_in
-links_off_broken w = let e : ◌≡◌ {A = ℕ} 3 2 = ap (λ o. links_in (node_in (row_in o))) (w.stored.node root) in omega (arith, e)
+links_off_broken w = let e : ◌≡◌ {A = ℕ} 3 2 = ap (λ o. links_in (node_in (row_in o))) (w.stored.node ROOT) in omega (arith, e)
 
 -- the stored used space is off
 abbrev space_off : Rows
@@ -45,7 +45,7 @@ space_off_broken w = let e : ◌≡◌ {A = ℕ} 4096 0 = ap (λ o. space_in (co
 abbrev kind_off : Rows
 kind_off = volume one_file top (
     (node_key 2, Ok (OfNode (file 0)))
-    ∷ (edge_key root name, Ok (OfEdge (record { kind = 2; inode = 2 })))
+    ∷ (edge_key ROOT name, Ok (OfEdge (record { kind = 2; inode = 2 })))
     ∷ []
     )
 
@@ -55,7 +55,7 @@ kind_in (Some edge) = edge.kind
 
 kind_off_broken : Whole kind_off → ⊥
 unfolding rows_compute kind_in
-kind_off_broken w = let e : ◌≡◌ {A = ℕ} 2 1 = ap (λ o. kind_in (edge_in (row_in o))) (w.stored.edge (record { dir = root; name = name })) in omega (arith, e)
+kind_off_broken w = let e : ◌≡◌ {A = ℕ} 2 1 = ap (λ o. kind_in (edge_in (row_in o))) (w.stored.edge (record { dir = ROOT; name = name })) in omega (arith, e)
 
 -- the stored count of a slice is off
 abbrev count_off : Rows

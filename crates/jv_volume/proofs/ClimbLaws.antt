@@ -2,8 +2,9 @@
 use Rattle.std.proofs.Common.{◌≡◌, ◌≢◌, ℕ, zero, suc, ◌+◌, ◌≤◌, Bool, true, false, not, ◌&&◌, ◌==◌, ◌⊎◌, inl, inr, List, [], ◌∷◌, length, Option, None, Some, is_some, refl, sym, ap, subst, ◌∙◌, arith}
 use Rattle.std.specs.Prelude.{IsTrue}
 use Rattle.std.proofs.lemmas.Bool.{cases_eq, eqb-true, eqb-false, ne_eqb, false≢true, or_parts, or_from, and_right, and_cases, true_from_ne_false, or_cases}
+use Rattle.jv_model.specs.declared.limits.TheConstants.{ROOT, TRASH_ROOT}
 use Rattle.jv_model.specs.FiniteMap.{Map, number_key, get, remove, key_count, sum_over, total_over}
-use Rattle.jv_model.specs.tree.Tree.{Tree, Node, Kind, File, Directory, Symlink, root, trash_root, node_at, parent_of, parent_at, is_directory}
+use Rattle.jv_model.specs.tree.Tree.{Tree, Node, Kind, File, Directory, Symlink, node_at, parent_of, parent_at, is_directory}
 use Rattle.jv_model.specs.tree.Renaming.{is_within, is_inside}
 use Rattle.jv_model.proofs.FiniteMapLaws.{share, sum-remove}
 use Rattle.jv_volume.specs.Shape.{Form, Absent, Regular, Link, Dir, Shape, WholeShape, form_of, is_dir, is_there, shape_of, is_top, Reaches}
@@ -114,7 +115,7 @@ node_of_form o parent h = sym (is_there-form o) ∙ ap is_there h
 
 -- what the test says of one directory on the way up
 step_up : Tree → ℕ → ℕ → ℕ → Option ℕ → Bool
-step_up t steps dir above o = elim o [ None ↦ false | Some parent ↦ not (dir == root) && is_within steps t parent above ]
+step_up t steps dir above o = elim o [ None ↦ false | Some parent ↦ not (dir == ROOT) && is_within steps t parent above ]
 
 apart_within : (t : Tree) (steps dir above : ℕ) → is_within steps t dir above ≡ false → dir ≢ above
 unfolding is_within
@@ -122,22 +123,22 @@ apart_within t zero dir above h = eqb-false dir above h
 apart_within t (suc steps) dir above h = eqb-false dir above (or_parts (dir == above) _ h).0
 
 goes_up : (t : Tree) (steps dir above parent : ℕ) → parent_at t dir ≡ Some parent → is_within (suc steps) t dir above ≡ false
-    → (not (dir == root) && is_within steps t parent above) ≡ false
+    → (not (dir == ROOT) && is_within steps t parent above) ≡ false
 unfolding is_within step_up
 goes_up t steps dir above parent e h = sym (ap (step_up t steps dir above) e) ∙ (or_parts (dir == above) (step_up t steps dir above (parent_at t dir)) h).1
 
-top_root : (dir : ℕ) → dir ≡ root → IsTrue (is_top dir)
+top_root : (dir : ℕ) → dir ≡ ROOT → IsTrue (is_top dir)
 top_root dir e = ap is_top e
 
 climbed : (t : Tree) (above steps count dir : ℕ) → steps ≤ count → Reaches (shape_of t).form steps dir → is_within count t dir above ≡ false
     → (n : ℕ) × Avoids (shape_of t).form above n dir
 climbed t above zero count dir less h test = (0, (apart_within t count dir above test, h))
 climbed t above (suc steps) zero dir less h test = absurd (omega arith)
-climbed t above (suc steps) (suc count) dir less h test = elim (cases_eq dir root) [
+climbed t above (suc steps) (suc count) dir less h test = elim (cases_eq dir ROOT) [
   | inl e ↦ (0, (apart_within t (suc count) dir above test, top_root dir e))
   | inr apart ↦
-      let up : (not (dir == root) && is_within count t h.0 above) ≡ false = goes_up t count dir above h.0 (parent_at-form t dir h.0 h.1) test in
-      let next : is_within count t h.0 above ≡ false = sym (ap (λ b. not b && is_within count t h.0 above) (ne_eqb dir root apart)) ∙ up in
+      let up : (not (dir == ROOT) && is_within count t h.0 above) ≡ false = goes_up t count dir above h.0 (parent_at-form t dir h.0 h.1) test in
+      let next : is_within count t h.0 above ≡ false = sym (ap (λ b. not b && is_within count t h.0 above) (ne_eqb dir ROOT apart)) ∙ up in
       let rest = climbed t above steps count h.0 (omega arith) h.2 next in
       (suc rest.0, (apart_within t (suc count) dir above test, (h.0, h.1, rest.1)))
 ]
@@ -154,17 +155,17 @@ few_steps t steps dir h =
     )
 
 -- what is at the top
-pub top_cases : (dir : ℕ) → IsTrue (is_top dir) → (dir ≡ root) ⊎ (dir ≡ trash_root)
-top_cases dir h = elim (or_cases (dir == root) (dir == trash_root) h) [
-  | inl e ↦ inl (eqb-true dir root e)
-  | inr e ↦ inr (eqb-true dir trash_root e)
+pub top_cases : (dir : ℕ) → IsTrue (is_top dir) → (dir ≡ ROOT) ⊎ (dir ≡ TRASH_ROOT)
+top_cases dir h = elim (or_cases (dir == ROOT) (dir == TRASH_ROOT) h) [
+  | inl e ↦ inl (eqb-true dir ROOT e)
+  | inr e ↦ inr (eqb-true dir TRASH_ROOT e)
 ]
 
 -- the root's own parent, and the trash's, is the root
-pub top_parent : (s : Shape) (dir parent : ℕ) → WholeShape s → IsTrue (is_top dir) → s.form dir ≡ Dir parent → parent ≡ root
+pub top_parent : (s : Shape) (dir parent : ℕ) → WholeShape s → IsTrue (is_top dir) → s.form dir ≡ Dir parent → parent ≡ ROOT
 top_parent s dir parent whole top is = elim (top_cases dir top) [
-  | inl e ↦ dir_parent parent root (sym is ∙ ap s.form e ∙ whole.root_there)
-  | inr e ↦ dir_parent parent root (sym is ∙ ap s.form e ∙ whole.trash_there)
+  | inl e ↦ dir_parent parent ROOT (sym is ∙ ap s.form e ∙ whole.root_there)
+  | inr e ↦ dir_parent parent ROOT (sym is ∙ ap s.form e ∙ whole.trash_there)
 ]
 
 -- no directory on the way up is a file or a symlink
@@ -201,27 +202,27 @@ apart_avoids form inode zero dir h = h.0
 apart_avoids form inode (suc n) dir h = h.0
 
 stays_out : (t : Tree) (steps dir above parent : ℕ) → dir ≢ above → parent_at t dir ≡ Some parent
-    → (not (dir == root) && is_within steps t parent above) ≡ false → is_within (suc steps) t dir above ≡ false
+    → (not (dir == ROOT) && is_within steps t parent above) ≡ false → is_within (suc steps) t dir above ≡ false
 unfolding is_within step_up
 stays_out t steps dir above parent apart e up = or_from (dir == above) (step_up t steps dir above (parent_at t dir)) (ne_eqb dir above apart)
     (ap (step_up t steps dir above) e ∙ up)
 
-root_outside : (t : Tree) (steps above : ℕ) → WholeShape (shape_of t) → root ≢ above → is_within steps t root above ≡ false
+root_outside : (t : Tree) (steps above : ℕ) → WholeShape (shape_of t) → ROOT ≢ above → is_within steps t ROOT above ≡ false
 unfolding is_within
-root_outside t zero above whole apart = ne_eqb root above apart
-root_outside t (suc steps) above whole apart = stays_out t steps root above root apart (parent_at-form t root root whole.root_there) refl
+root_outside t zero above whole apart = ne_eqb ROOT above apart
+root_outside t (suc steps) above whole apart = stays_out t steps ROOT above ROOT apart (parent_at-form t ROOT ROOT whole.root_there) refl
 
 top_outside : (t : Tree) (steps dir above : ℕ) → WholeShape (shape_of t) → is_top above ≡ false → dir ≢ above → IsTrue (is_top dir)
     → is_within steps t dir above ≡ false
 unfolding is_within
 top_outside t zero dir above whole low apart h = ne_eqb dir above apart
 top_outside t (suc steps) dir above whole low apart h =
-    let free : root ≢ above = λ e. false≢true (sym low ∙ ap is_top (sym e)) in
+    let free : ROOT ≢ above = λ e. false≢true (sym low ∙ ap is_top (sym e)) in
     elim (top_cases dir h) [
       | inl e ↦ ap (λ q. is_within (suc steps) t q above) e ∙ root_outside t (suc steps) above whole free
       | inr same ↦
-          let parent : parent_at t dir ≡ Some root = ap (parent_at t) same ∙ parent_at-form t trash_root root whole.trash_there in
-          stays_out t steps dir above root apart parent (and_right (not (dir == root)) _ (root_outside t steps above whole free))
+          let parent : parent_at t dir ≡ Some ROOT = ap (parent_at t) same ∙ parent_at-form t TRASH_ROOT ROOT whole.trash_there in
+          stays_out t steps dir above ROOT apart parent (and_right (not (dir == ROOT)) _ (root_outside t steps above whole free))
     ]
 
 avoided : (t : Tree) (above n steps dir : ℕ) → WholeShape (shape_of t) → is_top above ≡ false → Avoids (shape_of t).form above n dir
@@ -230,7 +231,7 @@ unfolding is_within
 avoided t above zero steps dir whole low h = top_outside t steps dir above whole low h.0 h.1
 avoided t above (suc n) zero dir whole low h = ne_eqb dir above h.0
 avoided t above (suc n) (suc steps) dir whole low h =
-    stays_out t steps dir above h.1.0 h.0 (parent_at-form t dir h.1.0 h.1.1) (and_right (not (dir == root)) _ (avoided t above n steps h.1.0 whole low h.1.2))
+    stays_out t steps dir above h.1.0 h.0 (parent_at-form t dir h.1.0 h.1.1) (and_right (not (dir == ROOT)) _ (avoided t above n steps h.1.0 whole low h.1.2))
 
 -- A directory with a way up that avoids another one isn't inside that one. The root itself may be on no way, and all are inside it.
 pub outside_avoids : (t : Tree) (dir inode n : ℕ) → WholeShape (shape_of t) → is_top inode ≡ false → Avoids (shape_of t).form inode n dir
@@ -242,10 +243,10 @@ abbrev pub Meets : (ℕ → Form) → ℕ → ℕ → ℕ → Type 0
 Meets form inode zero dir = dir ≡ inode
 Meets form inode (suc steps) dir = (parent : ℕ) × (form dir ≡ Dir parent) × Meets form inode steps parent
 
-root_meets : (s : Shape) (inode n dir : ℕ) → WholeShape s → is_top inode ≡ false → dir ≡ root → Meets s.form inode n dir → ⊥
+root_meets : (s : Shape) (inode n dir : ℕ) → WholeShape s → is_top inode ≡ false → dir ≡ ROOT → Meets s.form inode n dir → ⊥
 root_meets s inode zero dir whole low e h = false≢true (sym low ∙ ap is_top (sym h ∙ e))
 root_meets s inode (suc n) dir whole low e h =
-    root_meets s inode n h.0 whole low (dir_parent h.0 root (sym h.1 ∙ ap s.form e ∙ whole.root_there)) h.2
+    root_meets s inode n h.0 whole low (dir_parent h.0 ROOT (sym h.1 ∙ ap s.form e ∙ whole.root_there)) h.2
 
 top_meets : (s : Shape) (inode n dir : ℕ) → WholeShape s → is_top inode ≡ false → IsTrue (is_top dir) → Meets s.form inode n dir → ⊥
 top_meets s inode zero dir whole low top h = false≢true (sym low ∙ ap is_top (sym h) ∙ top)

@@ -2,8 +2,9 @@
 use Rattle.std.proofs.Common.{◌≡◌, ◌≢◌, ℕ, zero, suc, ◌+◌, ◌<◌, ◌≤◌, Bool, true, false, not, ◌&&◌, ◌==◌, ◌⊎◌, inl, inr, Option, None, Some, is_some, refl, sym, ap, subst, ◌∙◌, arith}
 use Rattle.std.specs.Prelude.{nat_lt, if◌then◌else◌, IsTrue}
 use Rattle.std.proofs.lemmas.Bool.{cases_eq, cases_Bool, and_cases, and_parts, false≢true, lt-ltb, ltb-true, ltb-false, ne_eqb}
+use Rattle.jv_model.specs.declared.limits.TheConstants.{ROOT, TRASH_ROOT}
 use Rattle.jv_model.specs.FiniteMap.{Map, number_key, get, remove, sum_over}
-use Rattle.jv_model.specs.tree.Tree.{Tree, Node, root, trash_root, node_at, node_count, is_counted, used_inodes}
+use Rattle.jv_model.specs.tree.Tree.{Tree, Node, node_at, node_count, is_counted, used_inodes}
 use Rattle.jv_model.proofs.FiniteMapLaws.{share, sum-remove}
 use Rattle.jv_model.proofs.TestLaws.{at_most_one}
 use Rattle.jv_volume.specs.Shape.{Form, Dir, WholeShape, form_of, is_there, is_top, shape_of, Reaches}
@@ -41,15 +42,15 @@ module _ (t : Tree) (w : WholeShape (shape_of t)) where
   there_at : (inode : ℕ) → IsTrue (is_some (node_at t inode)) → IsTrue (is_there (form inode))
   there_at inode h = is_there-form (node_at t inode) ∙ h
 
-  counted_low : (inode : ℕ) → is_counted inode ≡ true → inode < trash_root
-  counted_low inode h = ltb-true inode trash_root (and_parts (not (inode == root)) (nat_lt inode trash_root) h).1
+  counted_low : (inode : ℕ) → is_counted inode ≡ true → inode < TRASH_ROOT
+  counted_low inode h = ltb-true inode TRASH_ROOT (and_parts (not (inode == ROOT)) (nat_lt inode TRASH_ROOT) h).1
 
   -- no more inodes are counted than were given
   pub used_below : used_inodes t ≤ t.next_inode
   used_below = sum-below node_count (λ k x. at_most_one (is_counted k)) t.next_inode t.nodes (λ k x is. below k x is (is_counted k) refl)
     where
       below : (k : ℕ) (x : Node) → node_at t k ≡ Some x → (b : Bool) → is_counted k ≡ b → (k < t.next_inode) ⊎ (node_count k x ≡ 0)
-      below k x is true counted = inl (w.below k (there_at k (ap is_some is)) (lt-ltb k trash_root (counted_low k counted)))
+      below k x is true counted = inl (w.below k (there_at k (ap is_some is)) (lt-ltb k TRASH_ROOT (counted_low k counted)))
       below k x is false counted = inr (ap (λ b. if b then 1 else 0) counted)
 
   -- ---- directories on a way up are counted, but for the last two
@@ -66,20 +67,20 @@ module _ (t : Tree) (w : WholeShape (shape_of t)) where
 
   -- the root, the trash, and the hours in it
   near : (dir parent : ℕ) → form dir ≡ Dir parent → is_counted dir ≡ false → Near dir
-  near dir parent is h = elim (cases_eq dir root) [
+  near dir parent is h = elim (cases_eq dir ROOT) [
     | inl e ↦ (0, omega arith, ap is_top e)
-    | inr apart ↦ elim (cases_eq dir trash_root) [
+    | inr apart ↦ elim (cases_eq dir TRASH_ROOT) [
       | inl e ↦ (0, omega arith, ap is_top e)
       | inr other ↦
-          let high : trash_root ≤ dir = ltb-false dir trash_root (above apart) in
-          let hour = w.hours dir (ap is_there is) (lt-ltb trash_root dir (omega (arith, high, other))) in
-          (1, omega arith, (trash_root, hour.1, refl))
+          let high : TRASH_ROOT ≤ dir = ltb-false dir TRASH_ROOT (above apart) in
+          let hour = w.hours dir (ap is_there is) (lt-ltb TRASH_ROOT dir (omega (arith, high, other))) in
+          (1, omega arith, (TRASH_ROOT, hour.1, refl))
     ]
   ]
     where
-      above : dir ≢ root → nat_lt dir trash_root ≡ false
-      above apart = elim (and_cases (not (dir == root)) (nat_lt dir trash_root) h) [
-        | inl same ↦ absurd (false≢true (sym same ∙ ap not (ne_eqb dir root apart)))
+      above : dir ≢ ROOT → nat_lt dir TRASH_ROOT ≡ false
+      above apart = elim (and_cases (not (dir == ROOT)) (nat_lt dir TRASH_ROOT) h) [
+        | inl same ↦ absurd (false≢true (sym same ∙ ap not (ne_eqb dir ROOT apart)))
         | inr high ↦ high
       ]
 

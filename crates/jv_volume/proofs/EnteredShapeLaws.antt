@@ -2,9 +2,9 @@
 use Rattle.std.proofs.Common.{◌≡◌, ◌≢◌, ℕ, suc, ◌+◌, ◌≤◌, ◌<◌, true, false, inl, inr, List, None, Some, sym, ap, subst, ◌∙◌, arith}
 use Rattle.std.specs.Prelude.{IsTrue, nat_lt}
 use Rattle.std.proofs.lemmas.Bool.{or_parts, and_left, not-true, false≢true, le-ltb, leb-false, ltb-true, lt-ltb, cases_eq, false_from_ne_true}
-use Rattle.jv_model.specs.declared.limits.TheConstants.{FULL_COUNT}
+use Rattle.jv_model.specs.declared.limits.TheConstants.{FULL_COUNT, ROOT, TRASH_ROOT}
 use Rattle.jv_model.specs.FiniteMap.{insert}
-use Rattle.jv_model.specs.tree.Tree.{Tree, Node, Content, File, Directory, Symlink, EntryKey, entry_key, root, trash_root, new_node, node_at, is_directory}
+use Rattle.jv_model.specs.tree.Tree.{Tree, Node, Content, File, Directory, Symlink, EntryKey, entry_key, new_node, node_at, is_directory}
 use Rattle.jv_model.specs.tree.Changes.{put_node, with_node}
 use Rattle.jv_model.specs.tree.Making.{may_be_new, with_next}
 use Rattle.jv_model.proofs.TestLaws.{none_if}
@@ -22,10 +22,10 @@ pub record MayEnter (s : Shape) (place : EntryKey) (new : ℕ) (f : Form) (next 
   pub within : IsTrue (is_dir (s.form place.dir))
   pub there : IsTrue (is_there f)
   pub parent : (parent : ℕ) → f ≡ Dir parent → parent ≡ place.dir
-  pub hour : place.dir ≡ trash_root → NamesHour place new
+  pub hour : place.dir ≡ TRASH_ROOT → NamesHour place new
   pub apart : is_hour place.dir ≡ false
-  pub hours : IsTrue (nat_lt trash_root new) → IsTrue (is_hour new) × (f ≡ Dir trash_root)
-  pub below : IsTrue (nat_lt new trash_root) → new < next
+  pub hours : IsTrue (nat_lt TRASH_ROOT new) → IsTrue (is_hour new) × (f ≡ Dir TRASH_ROOT)
+  pub below : IsTrue (nat_lt new TRASH_ROOT) → new < next
   pub grows : s.next_inode ≤ next
   pub ends : next ≤ FULL_COUNT
 
@@ -61,7 +61,7 @@ module _ (s : Shape) (place : EntryKey) (new : ℕ) (f : Form) (next : ℕ) (w :
   new_is_entry : Names after place new
   new_is_entry = record {
     there = ap is_there form_new ∙ h.there;
-    free = not_top new (λ e. was_there root (ap is_there w.root_there) (sym e)) (λ e. was_there trash_root (ap is_there w.trash_there) (sym e));
+    free = not_top new (λ e. was_there ROOT (ap is_there w.root_there) (sym e)) (λ e. was_there TRASH_ROOT (ap is_there w.trash_there) (sym e));
     within = within_after;
     hour = h.hour;
     trashed = λ hour. absurd (false≢true (sym h.apart ∙ hour));
@@ -138,20 +138,20 @@ module _ (s : Shape) (place : EntryKey) (new : ℕ) (f : Form) (next : ℕ) (w :
       let apart : inode ≢ new = was_there inode (ap is_there old.file) in
       record { session = old.session; file = form_after inode apart ∙ old.file; unnamed = names_after inode apart ∙ old.unnamed; one = old.one }
 
-  hours_after : (inode : ℕ) → IsTrue (is_there (after.form inode)) → IsTrue (nat_lt trash_root inode)
-      → IsTrue (is_hour inode) × (after.form inode ≡ Dir trash_root)
+  hours_after : (inode : ℕ) → IsTrue (is_there (after.form inode)) → IsTrue (nat_lt TRASH_ROOT inode)
+      → IsTrue (is_hour inode) × (after.form inode ≡ Dir TRASH_ROOT)
   hours_after inode there above = elim (cases_eq inode new) [
     | inl e ↦
-        let both = h.hours (ap (nat_lt trash_root) (sym e) ∙ above) in
+        let both = h.hours (ap (nat_lt TRASH_ROOT) (sym e) ∙ above) in
         (ap is_hour e ∙ both.0, ap after.form e ∙ form_new ∙ both.1)
     | inr apart ↦
         let both = w.hours inode (ap is_there (sym (form_after inode apart)) ∙ there) above in
         (both.0, form_after inode apart ∙ both.1)
   ]
 
-  below_after : (inode : ℕ) → IsTrue (is_there (after.form inode)) → IsTrue (nat_lt inode trash_root) → inode < next
+  below_after : (inode : ℕ) → IsTrue (is_there (after.form inode)) → IsTrue (nat_lt inode TRASH_ROOT) → inode < next
   below_after inode there low = elim (cases_eq inode new) [
-    | inl e ↦ subst (λ i. i < next) (sym e) (h.below (ap (λ i. nat_lt i trash_root) (sym e) ∙ low))
+    | inl e ↦ subst (λ i. i < next) (sym e) (h.below (ap (λ i. nat_lt i TRASH_ROOT) (sym e) ∙ low))
     | inr apart ↦
         let old = w.below inode (ap is_there (sym (form_after inode apart)) ∙ there) low in
         let grows = h.grows in
@@ -161,8 +161,8 @@ module _ (s : Shape) (place : EntryKey) (new : ℕ) (f : Form) (next : ℕ) (w :
   -- a new inode under a new entry
   pub whole-with_new : WholeShape (with_new s place new f next)
   whole-with_new = record {
-    root_there = dir_after root root w.root_there;
-    trash_there = dir_after trash_root root w.trash_there;
+    root_there = dir_after ROOT ROOT w.root_there;
+    trash_there = dir_after TRASH_ROOT ROOT w.trash_there;
     entry = entry_after;
     entered = entered_after;
     rooted = rooted_after;
@@ -178,12 +178,12 @@ module _ (s : Shape) (place : EntryKey) (new : ℕ) (f : Form) (next : ℕ) (w :
 -- nodes under new entries
 
 -- where a new entry may stand, it isn't in the trash
-pub new_below : (place : EntryKey) → may_be_new place ≡ true → place.dir < trash_root
-new_below place may = leb-false trash_root place.dir ((or_parts _ _ (not-true _ may)).0)
+pub new_below : (place : EntryKey) → may_be_new place ≡ true → place.dir < TRASH_ROOT
+new_below place may = leb-false TRASH_ROOT place.dir ((or_parts _ _ (not-true _ may)).0)
 
 -- what lies below the trash is no hour
-pub not_hour_below : (dir : ℕ) → dir < trash_root → is_hour dir ≡ false
-not_hour_below dir low = and_left _ _ (le-ltb trash_root dir (omega (arith, low)))
+pub not_hour_below : (dir : ℕ) → dir < TRASH_ROOT → is_hour dir ≡ false
+not_hour_below dir low = and_left _ _ (le-ltb TRASH_ROOT dir (omega (arith, low)))
 
 -- a new node under a new entry
 pub shape-with_node : (t : Tree) (now : ℕ) (place : EntryKey) (inode : ℕ) (node : Node)
@@ -199,7 +199,7 @@ shape-with_next t now place node = ap (λ (s : Shape). record s { next_inode = t
 -- the next inode isn't there
 pub next_absent : (t : Tree) → WholeShape (shape_of t) → node_at t t.next_inode ≡ None
 next_absent t w = none_if (node_at t t.next_inode) (false_from_ne_true _ (λ there.
-    let less = w.below t.next_inode (is_there-form (node_at t t.next_inode) ∙ there) (lt-ltb t.next_inode trash_root (omega (arith, w.inodes_end))) in
+    let less = w.below t.next_inode (is_there-form (node_at t t.next_inode) ∙ there) (lt-ltb t.next_inode TRASH_ROOT (omega (arith, w.inodes_end))) in
     absurd (omega (arith, less))))
 
 module _ (t : Tree) (now : ℕ) (place : EntryKey) (w : WholeShape (shape_of t)) (free : named (shape_of t) place ≡ None)
@@ -208,7 +208,7 @@ module _ (t : Tree) (now : ℕ) (place : EntryKey) (w : WholeShape (shape_of t))
   pub whole-with_next : (node : Node) → ((parent : ℕ) → form_of (Some node) ≡ Dir parent → parent ≡ place.dir)
       → WholeShape (shape_of (with_next t now place node))
   whole-with_next node parent =
-      let low : place.dir < trash_root = new_below place may in
+      let low : place.dir < TRASH_ROOT = new_below place may in
       let new = whole-with_new (shape_of t) place t.next_inode (form_of (Some node)) (t.next_inode + 1) w in
       subst WholeShape (sym (shape-with_next t now place node)) (new (record {
         absent = ap form_of (next_absent t w);
@@ -218,7 +218,7 @@ module _ (t : Tree) (now : ℕ) (place : EntryKey) (w : WholeShape (shape_of t))
         parent = parent;
         hour = λ e. absurd (omega (arith, e, low));
         apart = not_hour_below place.dir low;
-        hours = λ above. let high = ltb-true trash_root t.next_inode above in absurd (omega (arith, high, room));
+        hours = λ above. let high = ltb-true TRASH_ROOT t.next_inode above in absurd (omega (arith, high, room));
         below = λ _. omega arith;
         grows = omega arith;
         ends = omega (arith, room);

@@ -2,17 +2,17 @@
 use Rattle.std.proofs.Common.{◌≡◌, ◌≢◌, ℕ, zero, ◌<◌, true, ◌⊎◌, inl, inr, None, Some, is_some, sym, ap, ◌∙◌, arith}
 use Rattle.std.specs.Prelude.{IsTrue, nat_lt}
 use Rattle.std.proofs.lemmas.Bool.{false≢true, ltb-true, cases_eq}
-use Rattle.jv_model.specs.declared.limits.TheConstants.{FULL_MODE}
+use Rattle.jv_model.specs.declared.limits.TheConstants.{FULL_MODE, ROOT, TRASH_ROOT}
 use Rattle.jv_model.specs.declared.setting.Setting.{Setting}
 use Rattle.jv_model.specs.FiniteMap.{Map, number_key, empty_map, get, insert}
-use Rattle.jv_model.specs.tree.Tree.{Node, Directory, EntryKey, entry_key, pair_key, fresh_tree, new_node, root, trash_root}
+use Rattle.jv_model.specs.tree.Tree.{Node, Directory, EntryKey, entry_key, pair_key, fresh_tree, new_node}
 use Rattle.jv_model.proofs.FiniteMapLaws.{get-empty_map}
 use Rattle.jv_volume.specs.Shape.{Absent, Dir, Shape, form_of, is_there, is_dir, shape_of, named, keeps, is_top, WholeShape}
 use Rattle.jv_volume.proofs.ShapeMapLaws.{get-inserted, get-insert_apart}
 
 -- an inode is the root or the trash, or isn't there
 data IsFresh (s : Shape) (inode : ℕ) : Type 0 where
-  Top : is_top inode ≡ true → s.form inode ≡ Dir root → (inode ≡ root) ⊎ (inode ≡ trash_root) → IsFresh s inode
+  Top : is_top inode ≡ true → s.form inode ≡ Dir ROOT → (inode ≡ ROOT) ⊎ (inode ≡ TRASH_ROOT) → IsFresh s inode
   Free : s.form inode ≡ Absent → IsFresh s inode
 
 module _ (setting : Setting) (now : ℕ) where
@@ -20,23 +20,23 @@ module _ (setting : Setting) (now : ℕ) where
   fresh = shape_of (fresh_tree setting now)
 
   abbrev first : Map number_key Node
-  first = insert empty_map root (new_node (Directory root) FULL_MODE now)
+  first = insert empty_map ROOT (new_node (Directory ROOT) FULL_MODE now)
 
-  trash_is : fresh.form trash_root ≡ Dir root
-  trash_is = ap form_of (get-inserted number_key first trash_root _)
+  trash_is : fresh.form TRASH_ROOT ≡ Dir ROOT
+  trash_is = ap form_of (get-inserted number_key first TRASH_ROOT _)
 
-  not_trash : (inode : ℕ) → inode ≢ trash_root → fresh.form inode ≡ form_of (get first inode)
-  not_trash inode apart = ap form_of (get-insert_apart number_key first trash_root _ inode apart)
+  not_trash : (inode : ℕ) → inode ≢ TRASH_ROOT → fresh.form inode ≡ form_of (get first inode)
+  not_trash inode apart = ap form_of (get-insert_apart number_key first TRASH_ROOT _ inode apart)
 
-  root_is : fresh.form root ≡ Dir root
-  root_is = not_trash root (λ e. omega (arith, e)) ∙ ap form_of (get-inserted number_key empty_map root _)
+  root_is : fresh.form ROOT ≡ Dir ROOT
+  root_is = not_trash ROOT (λ e. omega (arith, e)) ∙ ap form_of (get-inserted number_key empty_map ROOT _)
 
   is_fresh : (inode : ℕ) → IsFresh fresh inode
-  is_fresh inode = elim (cases_eq inode trash_root) [
+  is_fresh inode = elim (cases_eq inode TRASH_ROOT) [
     | inl e ↦ Top (ap is_top e) (ap fresh.form e ∙ trash_is) (inr e)
-    | inr apart ↦ elim (cases_eq inode root) [
+    | inr apart ↦ elim (cases_eq inode ROOT) [
       | inl e ↦ Top (ap is_top e) (ap fresh.form e ∙ root_is) (inl e)
-      | inr other ↦ Free (not_trash inode apart ∙ ap form_of (get-insert_apart number_key empty_map root _ inode other ∙ get-empty_map number_key inode))
+      | inr other ↦ Free (not_trash inode apart ∙ ap form_of (get-insert_apart number_key empty_map ROOT _ inode other ∙ get-empty_map number_key inode))
     ]
   ]
 
@@ -58,18 +58,18 @@ module _ (setting : Setting) (now : ℕ) where
   dir_of inode there (Top top is one) = ap is_dir is
   dir_of inode there (Free absent) = absurd (false≢true (sym (ap is_there absent) ∙ there))
 
-  one_of : (inode : ℕ) → IsTrue (is_there (fresh.form inode)) → IsFresh fresh inode → (inode ≡ root) ⊎ (inode ≡ trash_root)
+  one_of : (inode : ℕ) → IsTrue (is_there (fresh.form inode)) → IsFresh fresh inode → (inode ≡ ROOT) ⊎ (inode ≡ TRASH_ROOT)
   one_of inode there (Top top is one) = one
   one_of inode there (Free absent) = absurd (false≢true (sym (ap is_there absent) ∙ there))
 
-  none_above : (inode : ℕ) → IsTrue (is_there (fresh.form inode)) → IsTrue (nat_lt trash_root inode) → ⊥
+  none_above : (inode : ℕ) → IsTrue (is_there (fresh.form inode)) → IsTrue (nat_lt TRASH_ROOT inode) → ⊥
   none_above inode there above =
-      let high = ltb-true trash_root inode above in
+      let high = ltb-true TRASH_ROOT inode above in
       elim (one_of inode there (is_fresh inode)) [ inl e ↦ omega (arith, e, high) | inr e ↦ omega (arith, e, high) ]
 
-  low_of : (inode : ℕ) → IsTrue (is_there (fresh.form inode)) → IsTrue (nat_lt inode trash_root) → inode < 2
+  low_of : (inode : ℕ) → IsTrue (is_there (fresh.form inode)) → IsTrue (nat_lt inode TRASH_ROOT) → inode < 2
   low_of inode there below =
-      let low = ltb-true inode trash_root below in
+      let low = ltb-true inode TRASH_ROOT below in
       elim (one_of inode there (is_fresh inode)) [ inl e ↦ omega (arith, e) | inr e ↦ absurd (omega (arith, e, low)) ]
 
   -- the tree of a volume that was just formatted

@@ -5,7 +5,7 @@ use Rattle.std.specs.List.{AllByRecursion}
 use Rattle.std.proofs.lemmas.Option.{none-some, same_Some}
 use Rattle.std.proofs.lemmas.Bool.{cond-true, cond-false, eq-eqb, ne_eqb, cases_eq}
 use Rattle.jv_model.specs.declared.tables.TheConstants.{TABLE_OF_LISTS}
-use Rattle.jv_model.specs.declared.limits.TheConstants.{DIRECTORY_LENGTH, FULL_MODE, READ_ONLY_MODE}
+use Rattle.jv_model.specs.declared.limits.TheConstants.{DIRECTORY_LENGTH, FULL_MODE, READ_ONLY_MODE, ROOT, TRASH_ROOT}
 use Rattle.jv_model.specs.declared.row.RowKey.{RowKey}
 use Rattle.jv_model.specs.declared.row.Counters.{Counters}
 use Rattle.jv_model.specs.declared.row.Node.{Node as NodeRow}
@@ -14,7 +14,7 @@ use Rattle.jv_model.specs.declared.setting.Setting.{Setting}
 use Rattle.jv_model.specs.declared.slice.Rec.{Rec}
 use Rattle.jv_model.specs.FiniteMap.{number_key, empty_map, get, insert, map_of}
 use Rattle.jv_model.specs.rows.RowPlaces.{setting_key, counters_key, node_key, edge_key, session_key, sustained_key, slice_key, dropped_key, dead_key}
-use Rattle.jv_model.specs.tree.Tree.{Tree, entry_key, pair_key, root, trash_root, fresh_tree, node_at, link_count}
+use Rattle.jv_model.specs.tree.Tree.{Tree, entry_key, pair_key, fresh_tree, node_at, link_count}
 use Rattle.jv_model.proofs.FiniteMapLaws.{get-empty_map}
 use Rattle.jv_model.proofs.TreeComputeLaws.{maps_compute}
 use Rattle.jv_model.specs.blocks.Slices.{IsRecord}
@@ -31,7 +31,7 @@ use Rattle.jv_volume.proofs.FreshShapeLaws.{whole-fresh_tree}
 
 -- the first inode after the root is next, and nothing counts as used
 abbrev pub first_counters : Counters
-first_counters = record { inode = root + 1; slice = 1; session = 1; used_space = 0; used_inodes = 0 }
+first_counters = record { inode = ROOT + 1; slice = 1; session = 1; used_space = 0; used_inodes = 0 }
 
 -- an empty directory in the root, with these permission bits, made at a moment
 abbrev pub first_directory : ℕ → ℕ → NodeRow
@@ -44,7 +44,7 @@ first_directory mode at = record {
   mtime = at;
   ctime = at;
   length = DIRECTORY_LENGTH;
-  parent = root;
+  parent = ROOT;
   target = [];
 }
 
@@ -53,8 +53,8 @@ abbrev first_entries : Setting → ℕ → List (RowKey × Cell)
 first_entries setting at =
     (setting_key, Ok (OfSetting setting))
     ∷ (counters_key, Ok (OfCounters first_counters))
-    ∷ (node_key root, Ok (OfNode (first_directory FULL_MODE at)))
-    ∷ (node_key trash_root, Ok (OfNode (first_directory READ_ONLY_MODE at)))
+    ∷ (node_key ROOT, Ok (OfNode (first_directory FULL_MODE at)))
+    ∷ (node_key TRASH_ROOT, Ok (OfNode (first_directory READ_ONLY_MODE at)))
     ∷ []
 
 -- the same as a map
@@ -69,12 +69,12 @@ module _ (setting : Setting) (at : ℕ) where
   fresh = fresh_tree setting at
 
   -- nothing stands elsewhere
-  none_of_node : (inode : ℕ) → inode ≢ root → inode ≢ trash_root → get rows (node_key inode) ≡ None
+  none_of_node : (inode : ℕ) → inode ≢ ROOT → inode ≢ TRASH_ROOT → get rows (node_key inode) ≡ None
   none_of_node inode a b = none_at 2 (node_key inode) (first_entries setting at) refl
       ((λ e. a (ap (λ (k : RowKey). k.a) e)), ((λ e. b (ap (λ (k : RowKey). k.a) e)), tt))
 
-  no_node : (inode : ℕ) → inode ≢ root → inode ≢ trash_root → node_at fresh inode ≡ None
-  no_node inode a b = get-insert_apart number_key (insert empty_map root _) trash_root _ inode b ∙ get-insert_apart number_key empty_map root _ inode a
+  no_node : (inode : ℕ) → inode ≢ ROOT → inode ≢ TRASH_ROOT → node_at fresh inode ≡ None
+  no_node inode a b = get-insert_apart number_key (insert empty_map ROOT _) TRASH_ROOT _ inode b ∙ get-insert_apart number_key empty_map ROOT _ inode a
       ∙ get-empty_map number_key inode
 
   fresh_cell : (key : RowKey) (cell : Cell) → get rows key ≡ Some cell → IsRowAt key cell
@@ -84,18 +84,18 @@ module _ (setting : Setting) (at : ℕ) where
   unfolding maps_compute tree_of selected nodes_of entries_of sessions_of sustained_of
   tree_is = refl
 
-  root_is : get rows (node_key root) ≡ option_map (λ node. Ok (OfNode (node_row (link_count fresh root) node))) (node_at fresh root)
+  root_is : get rows (node_key ROOT) ≡ option_map (λ node. Ok (OfNode (node_row (link_count fresh ROOT) node))) (node_at fresh ROOT)
   unfolding maps_compute
   root_is = refl
 
-  trash_is : get rows (node_key trash_root) ≡ option_map (λ node. Ok (OfNode (node_row (link_count fresh trash_root) node))) (node_at fresh trash_root)
+  trash_is : get rows (node_key TRASH_ROOT) ≡ option_map (λ node. Ok (OfNode (node_row (link_count fresh TRASH_ROOT) node))) (node_at fresh TRASH_ROOT)
   unfolding maps_compute
   trash_is = refl
 
   node_is : (inode : ℕ) → get rows (node_key inode) ≡ option_map (λ node. Ok (OfNode (node_row (link_count fresh inode) node))) (node_at fresh inode)
-  node_is inode = elim (cases_eq inode root) [
+  node_is inode = elim (cases_eq inode ROOT) [
     | inl e ↦ subst (λ i. get rows (node_key i) ≡ option_map (λ node. Ok (OfNode (node_row (link_count fresh i) node))) (node_at fresh i)) (sym e) root_is
-    | inr a ↦ elim (cases_eq inode trash_root) [
+    | inr a ↦ elim (cases_eq inode TRASH_ROOT) [
       | inl e ↦ subst (λ i. get rows (node_key i) ≡ option_map (λ node. Ok (OfNode (node_row (link_count fresh i) node))) (node_at fresh i)) (sym e) trash_is
       | inr b ↦ none_of_node inode a b ∙ sym (ap (option_map (λ node. Ok (OfNode (node_row (link_count fresh inode) node)))) (no_node inode a b))
     ]
@@ -167,18 +167,18 @@ module _ (setting : Setting) (at : ℕ) where
 
   -- no file
 
-  root_kind : (node : NodeRow) → node_row_at rows root ≡ Some node → node.kind ≡ 2
+  root_kind : (node : NodeRow) → node_row_at rows ROOT ≡ Some node → node.kind ≡ 2
   unfolding maps_compute
   root_kind node is = ap (λ (n : NodeRow). n.kind) (sym (same_Some (first_directory FULL_MODE at) node is))
 
-  trash_kind : (node : NodeRow) → node_row_at rows trash_root ≡ Some node → node.kind ≡ 2
+  trash_kind : (node : NodeRow) → node_row_at rows TRASH_ROOT ≡ Some node → node.kind ≡ 2
   unfolding maps_compute
   trash_kind node is = ap (λ (n : NodeRow). n.kind) (sym (same_Some (first_directory READ_ONLY_MODE at) node is))
 
   kind_is : (inode : ℕ) (node : NodeRow) → node_row_at rows inode ≡ Some node → node.kind ≡ 2
-  kind_is inode node is = elim (cases_eq inode root) [
+  kind_is inode node is = elim (cases_eq inode ROOT) [
     | inl e ↦ root_kind node (ap (node_row_at rows) (sym e) ∙ is)
-    | inr a ↦ elim (cases_eq inode trash_root) [
+    | inr a ↦ elim (cases_eq inode TRASH_ROOT) [
       | inl e ↦ trash_kind node (ap (node_row_at rows) (sym e) ∙ is)
       | inr b ↦ absurd (none-some node (sym (ap (λ o. node_in (row_in o)) (none_of_node inode a b)) ∙ is))
     ]

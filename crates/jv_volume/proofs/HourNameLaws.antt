@@ -2,9 +2,8 @@
 use Rattle.std.proofs.Common.{◌≡◌, ◌≢◌, ℕ, ◌+◌, ◌-◌, ◌*◌, ◌/◌, ◌%◌, ◌≤◌, ◌<◌, false, ◌⊎◌, inl, inr, List, get_or, refl, sym, ap, subst, ◌∙◌, arith}
 use Rattle.std.specs.Prelude.{IsTrue, nat_lt, nat_le}
 use Rattle.std.proofs.lemmas.Bool.{cases_lt, cases_eq, cond-true, cond-false, lt-ltb, le-ltb, le-leb, ltb-true, leb-true, and_parts, and_from, or_from, ne_eqb}
-use Rattle.jv_model.specs.declared.limits.TheConstants.{LAST_MOMENT}
+use Rattle.jv_model.specs.declared.limits.TheConstants.{LAST_MOMENT, ROOT, TRASH_ROOT}
 use Rattle.jv_model.specs.declared.lifetimes.TheConstants.{FIRST_HOUR}
-use Rattle.jv_model.specs.tree.Tree.{root, trash_root}
 use Rattle.jv_model.specs.tree.HourNames.{year_in_era, days_before_year, month_in_year, days_before_month, date_in_era, date_of, era_days, days_before_1970, day_hours, hour_name, hour_at}
 use Rattle.jv_model.specs.tree.Trash.{hour_inode, hour_of}
 use Rattle.jv_volume.specs.Shape.{is_hour, is_top}
@@ -156,17 +155,17 @@ hour_name_injective hour other low low' same =
 
 -- the directories of hours
 
-later_inode : (hour : ℕ) → hour ≢ 0 → hour_inode hour ≡ trash_root + hour
+later_inode : (hour : ℕ) → hour ≢ 0 → hour_inode hour ≡ TRASH_ROOT + hour
 later_inode hour apart = cond-false _ _ _ (ne_eqb hour 0 apart)
 
-hour_between : (inode : ℕ) → trash_root < inode → inode ≤ FIRST_HOUR → IsTrue (is_hour inode)
-hour_between inode more less = and_from _ _ (lt-ltb trash_root inode more) (le-leb inode FIRST_HOUR less)
+hour_between : (inode : ℕ) → TRASH_ROOT < inode → inode ≤ FIRST_HOUR → IsTrue (is_hour inode)
+hour_between inode more less = and_from _ _ (lt-ltb TRASH_ROOT inode more) (le-leb inode FIRST_HOUR less)
 
 -- the directory of an hour of the clock
 pub is_hour-hour_inode : (hour : ℕ) → hour ≤ last_hour → IsTrue (is_hour (hour_inode hour))
 is_hour-hour_inode hour low = elim (cases_eq hour 0) [
   | inl e ↦ ap (λ h. is_hour (hour_inode h)) e
-  | inr apart ↦ ap is_hour (later_inode hour apart) ∙ hour_between (trash_root + hour) (omega arith) (omega arith)
+  | inr apart ↦ ap is_hour (later_inode hour apart) ∙ hour_between (TRASH_ROOT + hour) (omega arith) (omega arith)
 ]
 
 -- and its hour
@@ -174,8 +173,8 @@ pub hour_of-hour_inode : (hour : ℕ) → hour ≤ last_hour → hour_of (hour_i
 hour_of-hour_inode hour low = elim (cases_eq hour 0) [
   | inl e ↦ ap (λ h. hour_of (hour_inode h)) e ∙ sym e
   | inr apart ↦
-      let later : hour_of (trash_root + hour) ≡ trash_root + hour - trash_root = cond-false _ _ _
-      (ne_eqb (trash_root + hour) FIRST_HOUR (λ e. omega arith)) in
+      let later : hour_of (TRASH_ROOT + hour) ≡ TRASH_ROOT + hour - TRASH_ROOT = cond-false _ _ _
+      (ne_eqb (TRASH_ROOT + hour) FIRST_HOUR (λ e. omega arith)) in
       ap hour_of (later_inode hour apart) ∙ later ∙ omega arith
 ]
 
@@ -188,9 +187,9 @@ hour_inode-hour_of : (inode : ℕ) → IsTrue (is_hour inode) → IsHour inode
 hour_inode-hour_of inode h = elim (cases_eq inode FIRST_HOUR) [
   | inl e ↦ subst IsHour (sym e) (record { low = omega arith; is = refl })
   | inr apart ↦
-      let more : trash_root < inode = ltb-true trash_root inode (and_parts (nat_lt trash_root inode) (nat_le inode FIRST_HOUR) h).0 in
-      let less : inode ≤ FIRST_HOUR = leb-true inode FIRST_HOUR (and_parts (nat_lt trash_root inode) (nat_le inode FIRST_HOUR) h).1 in
-      let hour : hour_of inode ≡ inode - trash_root = cond-false _ _ _ (ne_eqb inode FIRST_HOUR apart) in
+      let more : TRASH_ROOT < inode = ltb-true TRASH_ROOT inode (and_parts (nat_lt TRASH_ROOT inode) (nat_le inode FIRST_HOUR) h).0 in
+      let less : inode ≤ FIRST_HOUR = leb-true inode FIRST_HOUR (and_parts (nat_lt TRASH_ROOT inode) (nat_le inode FIRST_HOUR) h).1 in
+      let hour : hour_of inode ≡ inode - TRASH_ROOT = cond-false _ _ _ (ne_eqb inode FIRST_HOUR apart) in
       record {
         low = omega (arith, hour);
         is = cond-false _ _ _ (ne_eqb (hour_of inode) 0 (λ e. omega (arith, hour))) ∙ omega (arith, hour);
@@ -204,11 +203,11 @@ hour_by_name inode hour h low same =
     sym own.is ∙ ap hour_inode (sym (hour_name_injective hour (hour_of inode) low own.low same))
 
 -- the inodes of hours follow the trash's own
-pub hour_after_trash : (inode : ℕ) → IsTrue (is_hour inode) → trash_root < inode
-hour_after_trash inode h = ltb-true trash_root inode (and_parts (nat_lt trash_root inode) (nat_le inode FIRST_HOUR) h).0
+pub hour_after_trash : (inode : ℕ) → IsTrue (is_hour inode) → TRASH_ROOT < inode
+hour_after_trash inode h = ltb-true TRASH_ROOT inode (and_parts (nat_lt TRASH_ROOT inode) (nat_le inode FIRST_HOUR) h).0
 
 -- so an hour's directory is neither the root nor the trash
 pub hour_is_deep : (inode : ℕ) → IsTrue (is_hour inode) → is_top inode ≡ false
 hour_is_deep inode h =
     let more = hour_after_trash inode h in
-    or_from _ _ (ne_eqb inode root (λ e. omega arith)) (ne_eqb inode trash_root (λ e. omega arith))
+    or_from _ _ (ne_eqb inode ROOT (λ e. omega arith)) (ne_eqb inode TRASH_ROOT (λ e. omega arith))

@@ -2,9 +2,9 @@
 use Rattle.std.proofs.Common.{◌≡◌, ◌≢◌, ℕ, ◌/◌, ◌≤◌, ◌<◌, true, Option, None, Some, refl, sym, ap, subst, ◌∙◌, arith}
 use Rattle.std.specs.Prelude.{IsTrue}
 use Rattle.std.proofs.lemmas.Bool.{and_parts, false≢true, lt-ltb, ltb-true}
-use Rattle.jv_model.specs.declared.limits.TheConstants.{LAST_MOMENT, READ_ONLY_MODE}
+use Rattle.jv_model.specs.declared.limits.TheConstants.{LAST_MOMENT, READ_ONLY_MODE, TRASH_ROOT}
 use Rattle.jv_model.specs.declared.lifetimes.TheConstants.{HOUR}
-use Rattle.jv_model.specs.tree.Tree.{Tree, Node, Directory, EntryKey, entry_key, new_node, trash_root, node_at}
+use Rattle.jv_model.specs.tree.Tree.{Tree, Node, Directory, EntryKey, entry_key, new_node, node_at}
 use Rattle.jv_model.specs.tree.Changes.{with_node}
 use Rattle.jv_model.specs.tree.HourNames.{hour_name}
 use Rattle.jv_model.specs.tree.Trash.{hour_inode, hour_place, with_hour}
@@ -14,8 +14,8 @@ use Rattle.jv_volume.proofs.EnteredShapeLaws.{MayEnter, with_new, whole-with_new
 use Rattle.jv_volume.proofs.HourNameLaws.{last_hour, is_hour-hour_inode, hour_of-hour_inode, hour_by_name}
 
 -- the inode of an hour's directory follows the trash's own
-pub hour_inode_high : (hour : ℕ) → hour ≤ last_hour → trash_root < hour_inode hour
-hour_inode_high hour low = ltb-true trash_root (hour_inode hour) (and_parts _ _ (is_hour-hour_inode hour low)).0
+pub hour_inode_high : (hour : ℕ) → hour ≤ last_hour → TRASH_ROOT < hour_inode hour
+hour_inode_high hour low = ltb-true TRASH_ROOT (hour_inode hour) (and_parts _ _ (is_hour-hour_inode hour low)).0
 
 -- the place of an hour that isn't there is free
 free_hour_at : (s : Shape) (hour : ℕ) (o : Option ℕ) → named s (hour_place hour) ≡ o → WholeShape s → hour ≤ last_hour → s.form (hour_inode hour) ≡ Absent
@@ -34,11 +34,11 @@ free_hour s hour w low absent = free_hour_at s hour (named s (hour_place hour)) 
 
 -- a shape with the directory of an hour
 abbrev pub with_hour_in : Shape → ℕ → Shape
-with_hour_in s hour = with_new s (hour_place hour) (hour_inode hour) (Dir trash_root) s.next_inode
+with_hour_in s hour = with_new s (hour_place hour) (hour_inode hour) (Dir TRASH_ROOT) s.next_inode
 
 -- an hour that is not there may come
 pub may_enter_hour : (s : Shape) (hour : ℕ) → WholeShape s → hour ≤ last_hour → s.form (hour_inode hour) ≡ Absent
-    → MayEnter s (hour_place hour) (hour_inode hour) (Dir trash_root) s.next_inode
+    → MayEnter s (hour_place hour) (hour_inode hour) (Dir TRASH_ROOT) s.next_inode
 may_enter_hour s hour w low absent =
     let high = hour_inode_high hour low in
     record {
@@ -46,11 +46,11 @@ may_enter_hour s hour w low absent =
       free = free_hour s hour w low absent;
       within = ap is_dir w.trash_there;
       there = refl;
-      parent = λ parent e. (let same : Dir trash_root ≡ Dir parent = e in cc);
+      parent = λ parent e. (let same : Dir TRASH_ROOT ≡ Dir parent = e in cc);
       hour = λ _. record { hour = is_hour-hour_inode hour low; name = ap hour_name (sym (hour_of-hour_inode hour low)) };
       apart = refl;
       hours = λ _. (is_hour-hour_inode hour low, refl);
-      below = λ less. absurd (let less_is = ltb-true (hour_inode hour) trash_root less in omega (arith, less_is, high));
+      below = λ less. absurd (let less_is = ltb-true (hour_inode hour) TRASH_ROOT less in omega (arith, less_is, high));
       grows = omega arith;
       ends = w.inodes_end;
     }
@@ -62,11 +62,11 @@ pub data WithHour (s : Shape) (hour : ℕ) (after : Shape) : Type 0 where
 
 hour_by : (t : Tree) (now hour : ℕ) (o : Option Node) → node_at t (hour_inode hour) ≡ o
     → WithHour (shape_of t) hour (shape_of (elim o as (λ _. Tree) [
-      | None ↦ with_node t now (hour_place hour) (hour_inode hour) (new_node (Directory trash_root) READ_ONLY_MODE now)
+      | None ↦ with_node t now (hour_place hour) (hour_inode hour) (new_node (Directory TRASH_ROOT) READ_ONLY_MODE now)
       | Some node ↦ t
     ]))
 hour_by t now hour None e = Comes (ap form_of e)
-    (shape-with_node t now (hour_place hour) (hour_inode hour) (new_node (Directory trash_root) READ_ONLY_MODE now))
+    (shape-with_node t now (hour_place hour) (hour_inode hour) (new_node (Directory TRASH_ROOT) READ_ONLY_MODE now))
 hour_by t now hour (Some node) e = Was (ap (λ o. is_there (form_of o)) e ∙ is_there-form (Some node)) refl
 
 -- the shape after `with_hour`
@@ -77,7 +77,7 @@ shape-with_hour t now hour = hour_by t now hour (node_at t (hour_inode hour)) re
 whole_by : (s after : Shape) (hour : ℕ) → WithHour s hour after → WholeShape s → hour ≤ last_hour → WholeShape after
 whole_by s after hour (Was there same) w low = subst WholeShape (sym same) w
 whole_by s after hour (Comes absent same) w low = subst WholeShape (sym same)
-    (whole-with_new s (hour_place hour) (hour_inode hour) (Dir trash_root) s.next_inode w (may_enter_hour s hour w low absent))
+    (whole-with_new s (hour_place hour) (hour_inode hour) (Dir TRASH_ROOT) s.next_inode w (may_enter_hour s hour w low absent))
 
 -- the directory of an hour of a moment
 pub whole-with_hour : (t : Tree) (now hour : ℕ) → WholeShape (shape_of t) → hour ≤ LAST_MOMENT / HOUR → WholeShape (shape_of (with_hour t now hour))
@@ -85,9 +85,9 @@ whole-with_hour t now hour w low = whole_by (shape_of t) (shape_of (with_hour t 
 
 -- what is as before: other inodes, and entries elsewhere
 pub record KeepsButHour (s after : Shape) (hour : ℕ) : Type 0 where
-  pub is : after.form (hour_inode hour) ≡ Dir trash_root
+  pub is : after.form (hour_inode hour) ≡ Dir TRASH_ROOT
   pub forms : (inode : ℕ) → inode ≢ hour_inode hour → after.form inode ≡ s.form inode
-  pub entries : (at : EntryKey) → at.dir ≢ trash_root → named after at ≡ named s at
+  pub entries : (at : EntryKey) → at.dir ≢ TRASH_ROOT → named after at ≡ named s at
   pub counts : (inode : ℕ) → inode ≢ hour_inode hour → names after inode ≡ names s inode
   pub pairs : after.sustained ≡ s.sustained
   pub next : after.next_inode ≡ s.next_inode
@@ -95,7 +95,7 @@ pub record KeepsButHour (s after : Shape) (hour : ℕ) : Type 0 where
 keeps_by : (s after : Shape) (hour : ℕ) → WithHour s hour after → WholeShape s → hour ≤ last_hour → KeepsButHour s after hour
 keeps_by s after hour (Was there same) w low = record {
   is = ap (λ (x : Shape). x.form (hour_inode hour)) same
-      ∙ (w.hours (hour_inode hour) there (lt-ltb trash_root (hour_inode hour) (hour_inode_high hour low))).1;
+      ∙ (w.hours (hour_inode hour) there (lt-ltb TRASH_ROOT (hour_inode hour) (hour_inode_high hour low))).1;
   forms = λ inode apart. ap (λ (x : Shape). x.form inode) same;
   entries = λ at apart. ap (λ (x : Shape). named x at) same;
   counts = λ inode apart. ap (λ (x : Shape). names x inode) same;
@@ -103,8 +103,8 @@ keeps_by s after hour (Was there same) w low = record {
   next = ap (λ (x : Shape). x.next_inode) same;
 }
 keeps_by s after hour (Comes absent same) w low = record {
-  is = ap (λ (x : Shape). x.form (hour_inode hour)) same ∙ with_form-here s.form (hour_inode hour) (Dir trash_root);
-  forms = λ inode apart. ap (λ (x : Shape). x.form inode) same ∙ with_form-apart s.form (hour_inode hour) (Dir trash_root) inode apart;
+  is = ap (λ (x : Shape). x.form (hour_inode hour)) same ∙ with_form-here s.form (hour_inode hour) (Dir TRASH_ROOT);
+  forms = λ inode apart. ap (λ (x : Shape). x.form inode) same ∙ with_form-apart s.form (hour_inode hour) (Dir TRASH_ROOT) inode apart;
   entries = λ at apart. ap (λ (x : Shape). named x at) same
       ∙ get-insert_apart entry_key s.entries (hour_place hour) (hour_inode hour) at (λ e. apart (ap (λ (x : EntryKey). x.dir) e));
   counts = λ inode apart. ap (λ (x : Shape). names x inode) same

@@ -3,7 +3,7 @@ use Rattle.std.proofs.Common.{◌≡◌, ℕ, ◌+◌, ◌≤◌, Bool, true, fa
 use Rattle.std.proofs.Common.{Some, is_some, Result, Ok, Err, refl, sym, ap, subst, ◌∙◌, arith}
 use Rattle.std.specs.Prelude.{IsTrue, nat_lt}
 use Rattle.std.proofs.lemmas.Bool.{false≢true, cond_both}
-use Rattle.jv_model.specs.declared.limits.TheConstants.{FULL_MODE, READ_ONLY_MODE, FULL_COUNT}
+use Rattle.jv_model.specs.declared.limits.TheConstants.{FULL_MODE, READ_ONLY_MODE, FULL_COUNT, TRASH_ROOT}
 use Rattle.jv_model.specs.declared.lifetimes.TheConstants.{FIRST_HOUR}
 use Rattle.jv_model.specs.declared.basics.How.{How}
 use Rattle.jv_model.specs.declared.basics.How.TheVariants.{Plain, NoReplace, Exchange}
@@ -13,7 +13,7 @@ use Rattle.jv_model.specs.FiniteMap.{Map, get, insert, remove}
 use Rattle.jv_model.specs.tree.Attempt.{◌>>=◌, require, some_or}
 use Rattle.jv_model.specs.tree.Tree.{Tree, Node, File, Directory, Symlink, Content, EntryKey, SustainedFile}
 use Rattle.jv_model.specs.tree.Tree.{SessionEntry, pair_key, new_node}
-use Rattle.jv_model.specs.tree.Tree.{trash_root, in_trash, node_at, content_of, is_directory, entry_count, is_sustained}
+use Rattle.jv_model.specs.tree.Tree.{in_trash, node_at, content_of, is_directory, entry_count, is_sustained}
 use Rattle.jv_model.specs.tree.Changes.{empty_content, touched, status_changed, put_node, drop_node, change_node}
 use Rattle.jv_model.specs.tree.Changes.{put_entry, take_entry, with_node}
 use Rattle.jv_model.specs.tree.Caller.{Caller, Outcome, outcome, done}
@@ -74,7 +74,7 @@ held_where_sustained t who place inode =
 -- the inodes of hours lie past those that are given to new nodes
 high_hour : (hour : ℕ) → FULL_COUNT ≤ hour_inode hour
 high_hour hour =
-    cond_both (hour == 0) FIRST_HOUR (trash_root + hour) (λ inode. FULL_COUNT ≤ inode) (λ e. omega arith)
+    cond_both (hour == 0) FIRST_HOUR (TRASH_ROOT + hour) (λ inode. FULL_COUNT ≤ inode) (λ e. omega arith)
     (λ e. omega arith)
 
 module _ {low : Type 0} {more : ℕ → Bool} where
@@ -98,12 +98,12 @@ module _ {low : Type 0} {more : ℕ → Bool} where
     where
       by_node : (o : Option Node) → KeepsFiles low more t (elim o as (λ _. Tree) [
         | None ↦ with_node t now (hour_place hour) (hour_inode hour)
-            (new_node (Directory trash_root) READ_ONLY_MODE now)
+            (new_node (Directory TRASH_ROOT) READ_ONLY_MODE now)
         | Some node ↦ t
       ])
       by_node None =
           let high = high_hour hour in
-          keeps-with_node t now (hour_place hour) (hour_inode hour) (new_node (Directory trash_root) READ_ONLY_MODE now)
+          keeps-with_node t now (hour_place hour) (hour_inode hour) (new_node (Directory TRASH_ROOT) READ_ONLY_MODE now)
           (λ l. let next = is_low l in omega (arith, next, high))
           (λ content is. absurd (cc))
       by_node (Some node) = keeps-none t

@@ -3,8 +3,9 @@ use Rattle.std.proofs.Common.{◌≡◌, ◌≢◌, ℕ, ◌+◌, ◌<◌, Bool,
 use Rattle.std.specs.Prelude.{◌==◌, is_some, if◌then◌else◌}
 use Rattle.std.specs.Option.{option_map}
 use Rattle.std.proofs.lemmas.Bool.{cases_eq, false≢true}
+use Rattle.jv_model.specs.declared.limits.TheConstants.{ROOT, TRASH_ROOT}
 use Rattle.jv_model.specs.FiniteMap.{number_key, get, insert, remove, sum_over}
-use Rattle.jv_model.specs.tree.Tree.{Tree, Node, Kind, File, Directory, Symlink, EntryKey, entry_key, root, trash_root, node_at, is_directory, link_count, parent_of, naming, name_count}
+use Rattle.jv_model.specs.tree.Tree.{Tree, Node, Kind, File, Directory, Symlink, EntryKey, entry_key, node_at, is_directory, link_count, parent_of, naming, name_count}
 use Rattle.jv_model.specs.tree.Changes.{put_node, drop_node, change_node, put_entry, take_entry, with_node}
 use Rattle.jv_model.specs.tree.Renaming.{kind_under, moved_node, move_in, moved}
 use Rattle.jv_volume.specs.Shape.{Regular, Link, Dir, Shape, form_of, is_there, is_dir, WholeShape, shape_of}
@@ -266,8 +267,8 @@ free_inode t inode whole none = record {
 }
 
 -- the next inode counts for used space
-pub next_low : (t : Tree) → WholeShape (shape_of t) → (root < t.next_inode) × (t.next_inode < trash_root)
-next_low t whole = (whole.below root (ap is_there whole.root_there) refl, omega (arith, whole.inodes_end))
+pub next_low : (t : Tree) → WholeShape (shape_of t) → (ROOT < t.next_inode) × (t.next_inode < TRASH_ROOT)
+next_low t whole = (whole.below ROOT (ap is_there whole.root_there) refl, omega (arith, whole.inodes_end))
 
 -- a new node has no link before its entry comes, or those of an empty directory
 pub link_count-put_alone : (t : Tree) (inode : ℕ) (node : Node) → IsFree t inode

@@ -2,8 +2,9 @@
 use Rattle.std.proofs.Common.{◌≡◌, ◌≢◌, ℕ, ◌+◌, ◌≤◌, ◌<◌, true, false, ◌&&◌, ◌==◌, inl, inr, None, Some, refl, sym, ap, subst, ◌∙◌, arith}
 use Rattle.std.specs.Prelude.{IsTrue}
 use Rattle.std.proofs.lemmas.Bool.{and_from, and_parts, false≢true, eq-eqb, le-leb, ltb-true, cases_eq, false_from_ne_true}
+use Rattle.jv_model.specs.declared.limits.TheConstants.{ROOT, TRASH_ROOT}
 use Rattle.jv_model.specs.FiniteMap.{get, insert}
-use Rattle.jv_model.specs.tree.Tree.{Tree, EntryKey, entry_key, root, trash_root, in_trash, node_at, is_directory, trash_entry}
+use Rattle.jv_model.specs.tree.Tree.{Tree, EntryKey, entry_key, in_trash, node_at, is_directory, trash_entry}
 use Rattle.jv_model.specs.tree.Changes.{put_entry}
 use Rattle.jv_model.specs.tree.Making.{may_be_new, is_trashed, linked}
 use Rattle.jv_model.proofs.TestLaws.{none_if}
@@ -16,7 +17,7 @@ use Rattle.jv_volume.proofs.EnteredShapeLaws.{new_below, not_hour_below}
 pub record MayLink (s : Shape) (place : EntryKey) (inode : ℕ) : Type 0 where
   pub free : named s place ≡ None
   pub within : IsTrue (is_dir (s.form place.dir))
-  pub low : place.dir < trash_root
+  pub low : place.dir < TRASH_ROOT
   pub there : IsTrue (is_there (s.form inode))
   pub leaf : is_dir (s.form inode) ≡ false
   pub has : 1 ≤ names s inode
@@ -35,7 +36,7 @@ module _ (s : Shape) (place : EntryKey) (inode : ℕ) (w : WholeShape s) (h : Ma
   new_entry : Names after place inode
   new_entry = record {
     there = h.there;
-    free = not_top inode (leaf_apart s root root inode w.root_there h.leaf) (leaf_apart s trash_root root inode w.trash_there h.leaf);
+    free = not_top inode (leaf_apart s ROOT ROOT inode w.root_there h.leaf) (leaf_apart s TRASH_ROOT ROOT inode w.trash_there h.leaf);
     within = h.within;
     hour = λ e. let low = h.low in absurd (omega (arith, e, low));
     trashed = λ hour. absurd (false≢true (sym (not_hour_below place.dir h.low) ∙ hour));
@@ -101,9 +102,9 @@ module _ (s : Shape) (place : EntryKey) (inode : ℕ) (w : WholeShape s) (h : Ma
 -- an inode that isn't in the trash has no entry in an hour
 untrashed_entry : (t : Tree) (inode : ℕ) (at : EntryKey) → is_trashed t inode ≡ false → get t.entries at ≡ Some inode → is_hour at.dir ≡ false
 untrashed_entry t inode at untrashed is = false_from_ne_true _ (λ hour.
-    let high = ltb-true trash_root at.dir ((and_parts _ _ hour).0) in
+    let high = ltb-true TRASH_ROOT at.dir ((and_parts _ _ hour).0) in
     first_where-none entry_key (λ key i. (i == inode) && in_trash key.dir) t.entries at inode (none_if (trash_entry t inode) untrashed) is
-    (and_from _ _ (eq-eqb inode inode refl) (le-leb trash_root at.dir (omega (arith, high)))))
+    (and_from _ _ (eq-eqb inode inode refl) (le-leb TRASH_ROOT at.dir (omega (arith, high)))))
 
 -- The model's `link`. That some entry names the inode comes of the walk that led to it.
 pub whole-linked : (t : Tree) (now : ℕ) (place at : EntryKey) (inode : ℕ) → WholeShape (shape_of t)

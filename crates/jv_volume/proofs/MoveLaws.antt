@@ -4,9 +4,9 @@ use Rattle.std.specs.Prelude.{IsTrue}
 use Rattle.std.specs.Option.{option_map}
 use Rattle.std.proofs.lemmas.Bool.{false≢true, cases_eq, cases_Bool, not-true, or_parts, eq-eqb}
 use Rattle.std.proofs.lemmas.Option.{same_Some, none-some}
-use Rattle.jv_model.specs.declared.limits.TheConstants.{LAST_MOMENT}
+use Rattle.jv_model.specs.declared.limits.TheConstants.{LAST_MOMENT, ROOT, TRASH_ROOT}
 use Rattle.jv_model.specs.FiniteMap.{get, insert, remove, sum_over}
-use Rattle.jv_model.specs.tree.Tree.{Tree, Node, Kind, File, Directory, Symlink, EntryKey, entry_key, root, trash_root, is_directory, has_entries, node_at}
+use Rattle.jv_model.specs.tree.Tree.{Tree, Node, Kind, File, Directory, Symlink, EntryKey, entry_key, is_directory, has_entries, node_at}
 use Rattle.jv_model.specs.tree.Changes.{change_node, set_node, put_entry, take_entry}
 use Rattle.jv_model.specs.tree.Caller.{Caller}
 use Rattle.jv_model.specs.tree.Making.{may_be_new}
@@ -69,8 +69,8 @@ shape-exchanged t now from source to other =
 -- to a free place
 
 -- what may go is none of the trash's own entries
-pub not_trash_root : (place : EntryKey) → may_go place ≡ true → place.dir ≢ trash_root
-not_trash_root place may e = false≢true (sym (or_parts (place.dir == trash_root) _ (not-true _ may)).0 ∙ eq-eqb place.dir trash_root e)
+pub not_trash_root : (place : EntryKey) → may_go place ≡ true → place.dir ≢ TRASH_ROOT
+not_trash_root place may e = false≢true (sym (or_parts (place.dir == TRASH_ROOT) _ (not-true _ may)).0 ∙ eq-eqb place.dir TRASH_ROOT e)
 
 -- An entry that may be renamed to a place: it isn't an hour of the trash, the place may have a new entry, and stands in a
 -- directory that isn't inside the inode.
@@ -84,10 +84,10 @@ pub record MayRename (t : Tree) (from : EntryKey) (inode : ℕ) (to : EntryKey) 
 dir_within : (t : Tree) (dir : ℕ) → is_directory t dir ≡ true → IsTrue (is_dir ((shape_of t).form dir))
 dir_within t dir is = is_dir-form (node_at t dir) ∙ is
 
-no_trash : (dir : ℕ) → dir < trash_root → dir ≢ trash_root
+no_trash : (dir : ℕ) → dir < TRASH_ROOT → dir ≢ TRASH_ROOT
 no_trash dir low e = absurd (omega (arith, low, e))
 
-no_hour : (dir : ℕ) → dir < trash_root → IsTrue (is_hour dir) → ⊥
+no_hour : (dir : ℕ) → dir < TRASH_ROOT → IsTrue (is_hour dir) → ⊥
 no_hour dir low hour = false≢true (sym (not_hour_below dir low) ∙ hour)
 
 -- a tree stays whole where an entry is renamed to a free place
@@ -189,7 +189,7 @@ first_share m at (Some i) e more =
 
 -- a place of the root that is free
 free_place : Entries → EntryKey
-free_place m = record { dir = root; name = (sum_over first_byte m + 1) ∷ [] }
+free_place m = record { dir = ROOT; name = (sum_over first_byte m + 1) ∷ [] }
 
 free_place-free : (m : Entries) → get m (free_place m) ≡ None
 unfolding free_place
@@ -221,8 +221,8 @@ pub record MayExchange (s : Shape) (from : EntryKey) (source : ℕ) (to : EntryK
   pub is : named s from ≡ Some source
   pub also : named s to ≡ Some other
   pub apart : source ≢ other
-  pub from_out : from.dir < trash_root
-  pub to_out : to.dir < trash_root
+  pub from_out : from.dir < TRASH_ROOT
+  pub to_out : to.dir < TRASH_ROOT
   pub steps : ℕ
   pub up : Avoids s.form source steps to.dir
   pub others : ℕ
@@ -230,9 +230,9 @@ pub record MayExchange (s : Shape) (from : EntryKey) (source : ℕ) (to : EntryK
 
 module _ (s : Shape) (from : EntryKey) (source : ℕ) (to : EntryKey) (other : ℕ) (name : List ℕ) (whole : WholeShape s)
     (may : MayExchange s from source to other)
-    (vacant : named s (record { dir = root; name = name }) ≡ None) where
+    (vacant : named s (record { dir = ROOT; name = name }) ≡ None) where
   abbrev between : EntryKey
-  between = record { dir = root; name = name }
+  between = record { dir = ROOT; name = name }
 
   abbrev first : Shape
   first = moved_shape s to other between
@@ -264,8 +264,8 @@ module _ (s : Shape) (from : EntryKey) (source : ℕ) (to : EntryKey) (other : �
     free = vacant;
     within = ap is_dir whole.root_there;
     leaves = no_trash to.dir may.to_out;
-    enters = no_trash root (omega arith);
-    trashed = λ hour. absurd (no_hour root (omega arith) hour);
+    enters = no_trash ROOT (omega arith);
+    trashed = λ hour. absurd (no_hour ROOT (omega arith) hour);
     steps = 0;
     avoids = ((λ e. false≢true (sym own_other.free ∙ ap is_top (sym e))), refl);
   }
@@ -274,7 +274,7 @@ module _ (s : Shape) (from : EntryKey) (source : ℕ) (to : EntryKey) (other : �
   first_whole = whole-moved s to other between whole may_first
 
   first_dirs : (q parent : ℕ) → q ≢ source → q ≢ other → s.form q ≡ Dir parent → first.form q ≡ Dir parent
-  first_dirs q parent off away is = with_form-apart s.form other (form_under root (s.form other)) q away ∙ is
+  first_dirs q parent off away is = with_form-apart s.form other (form_under ROOT (s.form other)) q away ∙ is
 
   may_second : MayMove first from source to
   may_second =
@@ -304,7 +304,7 @@ module _ (s : Shape) (from : EntryKey) (source : ℕ) (to : EntryKey) (other : �
             ∙ get-remove_apart entry_key first.entries from between (λ e. from_between (sym e)) ∙ get-inserted entry_key (remove s.entries to) between other;
         free = get-insert_apart entry_key (remove first.entries from) to source from from_to ∙ get-removed entry_key first.entries from;
         within = dir_same first from source to first_whole may_second from.dir ∙ dir_same s to other between whole may_first from.dir ∙ own_source.within;
-        leaves = no_trash root (omega arith);
+        leaves = no_trash ROOT (omega arith);
         enters = no_trash from.dir may.from_out;
         trashed = λ hour. absurd (no_hour from.dir may.from_out hour);
         steps = up.0;
@@ -346,20 +346,20 @@ module _ (s : Shape) (from : EntryKey) (source : ℕ) (to : EntryKey) (other : �
   ]
 
   first_source : first.form source ≡ s.form source
-  first_source = with_form-apart s.form other (form_under root (s.form other)) source may.apart
+  first_source = with_form-apart s.form other (form_under ROOT (s.form other)) source may.apart
 
   other_source : other ≢ source
   other_source e = may.apart (sym e)
 
-  second_other : second.form other ≡ form_under root (s.form other)
+  second_other : second.form other ≡ form_under ROOT (s.form other)
   second_other = with_form-apart first.form source (form_under to.dir (first.form source)) other other_source
-      ∙ with_form-here s.form other (form_under root (s.form other))
+      ∙ with_form-here s.form other (form_under ROOT (s.form other))
 
   forms_at : (j : ℕ) → third.form j ≡ final.form j
   forms_at j = elim (cases_eq j other) [
     | inl e ↦
         ap third.form e ∙ with_form-here second.form other (form_under from.dir (second.form other))
-        ∙ ap (form_under from.dir) second_other ∙ under_again from.dir root (s.form other)
+        ∙ ap (form_under from.dir) second_other ∙ under_again from.dir ROOT (s.form other)
         ∙ sym (ap final.form e ∙ with_form-here (moved_in s to source).form other (form_under from.dir ((moved_in s to source).form other))
         ∙ ap (form_under from.dir) (with_form-apart s.form source (form_under to.dir (s.form source)) other other_source))
     | inr away ↦
@@ -374,7 +374,7 @@ module _ (s : Shape) (from : EntryKey) (source : ℕ) (to : EntryKey) (other : �
             ∙ sym (ap (moved_in s to source).form e ∙ with_form-here s.form source (form_under to.dir (s.form source)))
         | inr off ↦
             with_form-apart first.form source (form_under to.dir (first.form source)) q off
-            ∙ with_form-apart s.form other (form_under root (s.form other)) q away
+            ∙ with_form-apart s.form other (form_under ROOT (s.form other)) q away
             ∙ sym (with_form-apart s.form source (form_under to.dir (s.form source)) q off)
       ]
 

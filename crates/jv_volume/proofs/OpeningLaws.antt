@@ -4,7 +4,7 @@ use Rattle.std.proofs.Common.{length, Option, None, Some, is_some, Result, Ok, E
 use Rattle.std.proofs.Common.{if◌then◌else◌}
 use Rattle.std.specs.Prelude.{IsTrue, nat_le}
 use Rattle.std.proofs.lemmas.Bool.{false≢true, not-true, cases_order, lt-ltb}
-use Rattle.jv_model.specs.declared.limits.TheConstants.{MAX_PATH, MAX_SYMLINKS}
+use Rattle.jv_model.specs.declared.limits.TheConstants.{MAX_PATH, MAX_SYMLINKS, ROOT, TRASH_ROOT}
 use Rattle.jv_model.specs.declared.fault.Fault.{Fault}
 use Rattle.jv_model.specs.declared.fault.Fault.TheVariants.{IsADirectory, NameTooLong, SymlinkLoop}
 use Rattle.jv_model.specs.declared.op.Op.{Op}
@@ -12,7 +12,7 @@ use Rattle.jv_model.specs.declared.op.Op.TheVariants as op
 use Rattle.jv_model.specs.declared.op.Reply.TheVariants.{FileOpened}
 use Rattle.jv_model.specs.FiniteMap.{number_key}
 use Rattle.jv_model.specs.tree.Attempt.{◌>>=◌, require}
-use Rattle.jv_model.specs.tree.Tree.{Tree, Node, File, Directory, Symlink, EntryKey, root, trash_root, new_node}
+use Rattle.jv_model.specs.tree.Tree.{Tree, Node, File, Directory, Symlink, EntryKey, new_node}
 use Rattle.jv_model.specs.tree.Tree.{node_at, parent_of, target_at, is_directory, target_in}
 use Rattle.jv_model.specs.tree.Changes.{empty_content, put_node}
 use Rattle.jv_model.specs.tree.Caller.{Caller, Outcome, outcome, in_session}
@@ -53,17 +53,17 @@ file_form (Some node) leaf plain there =
       | Symlink target ↦ λ leaf plain. absurd (cc)
     ] leaf plain
 
-module _ (t : Tree) (is_root : is_directory t root ≡ true) where
+module _ (t : Tree) (is_root : is_directory t ROOT ≡ true) where
   abbrev Plain : ℕ → Type 0
   Plain inode = target_at t inode ≡ None
 
   abbrev GoesOn : (ℕ → List (List ℕ) → Result ℕ Fault) → Type 0
   GoesOn again = (dir : ℕ) (names : List (List ℕ)) (result : ℕ) → Plain dir → again dir names ≡ Ok result → Plain result
 
-  plain_root : Plain root
-  plain_root = dir_no_link (node_at t root) is_root
+  plain_root : Plain ROOT
+  plain_root = dir_no_link (node_at t ROOT) is_root
 
-  from_plain : (inode : ℕ) (b : Bool) → Plain inode → Plain (if b then root else inode)
+  from_plain : (inode : ℕ) (b : Bool) → Plain inode → Plain (if b then ROOT else inode)
   from_plain inode true p = plain_root
   from_plain inode false p = p
 
@@ -74,7 +74,7 @@ module _ (t : Tree) (is_root : is_directory t root ≡ true) where
       → onwards t true again inode names next o ≡ Ok result → Plain result
   plain_onwards again inode names next None result e goes rest p h = rest e h
   plain_onwards again inode names next (Some target) result e goes rest p h =
-      goes (if is_absolute target then root else inode) (names_of target ++ names) result
+      goes (if is_absolute target then ROOT else inode) (names_of target ++ names) result
       (from_plain inode (is_absolute target) p) h
 
   plain_names : (again : ℕ → List (List ℕ) → Result ℕ Fault) (inode : ℕ) (names : List (List ℕ)) (result : ℕ)
@@ -100,9 +100,9 @@ module _ (t : Tree) (is_root : is_directory t root ≡ true) where
   -- a path whose last symlink is followed leads to none
   plain_path : (path : List ℕ) (inode : ℕ) → inode_of t path ≡ Ok inode → Plain inode
   plain_path path inode h =
-      let all = walk MAX_SYMLINKS t true root (names_of path) in
+      let all = walk MAX_SYMLINKS t true ROOT (names_of path) in
       let short = went_on (require (nat_le (length path) MAX_PATH) NameTooLong) (λ _. all) inode h in
-      plain_walk MAX_SYMLINKS root (names_of path) inode plain_root short.2
+      plain_walk MAX_SYMLINKS ROOT (names_of path) inode plain_root short.2
 
 -- what is opened
 
@@ -110,11 +110,11 @@ module _ (t : Tree) (w : WholeShape (shape_of t)) where
   -- a file or a symlink that has an entry is below the next inode
   named_below : (inode : ℕ) → IsTrue (is_there ((shape_of t).form inode)) → is_dir ((shape_of t).form inode) ≡ false
       → inode < t.next_inode
-  named_below inode there leaf = elim (cases_order inode trash_root) [
+  named_below inode there leaf = elim (cases_order inode TRASH_ROOT) [
     | inl same ↦ absurd (false≢true (sym leaf ∙ ap (λ i. is_dir ((shape_of t).form i)) same ∙ ap is_dir w.trash_there))
     | inr apart ↦ elim apart [
-      | inl less ↦ w.below inode there (lt-ltb inode trash_root less)
-      | inr more ↦ absurd (false≢true (sym leaf ∙ ap is_dir (w.hours inode there (lt-ltb trash_root inode more)).1))
+      | inl less ↦ w.below inode there (lt-ltb inode TRASH_ROOT less)
+      | inr more ↦ absurd (false≢true (sym leaf ∙ ap is_dir (w.hours inode there (lt-ltb TRASH_ROOT inode more)).1))
     ]
   ]
 

@@ -4,9 +4,9 @@ use Rattle.std.specs.Prelude.{IsTrue, nat_lt}
 use Rattle.std.specs.Option.{option_map}
 use Rattle.std.proofs.lemmas.Bool.{false≢true, cond_both, and_parts, ltb-true, ltb-false, eq-eqb, eqb-true, not-true}
 use Rattle.std.proofs.lemmas.Option.{same_Some, none-some}
-use Rattle.jv_model.specs.declared.limits.TheConstants.{LAST_MOMENT}
+use Rattle.jv_model.specs.declared.limits.TheConstants.{LAST_MOMENT, TRASH_ROOT}
 use Rattle.jv_model.specs.FiniteMap.{get, insert, remove, first_where}
-use Rattle.jv_model.specs.tree.Tree.{Tree, EntryKey, entry_key, trash_root, in_trash, is_directory, has_entries, entry_count, trash_entry, node_at}
+use Rattle.jv_model.specs.tree.Tree.{Tree, EntryKey, entry_key, in_trash, is_directory, has_entries, entry_count, trash_entry, node_at}
 use Rattle.jv_model.specs.tree.Changes.{status_changed, drop_node, take_entry}
 use Rattle.jv_model.specs.tree.Caller.{Caller}
 use Rattle.jv_model.specs.tree.Removing.{fate_of, Fate, Linked, Trashed, Sustained, Dropped, with_fate, remove_entry, remove_directory}
@@ -176,17 +176,17 @@ module _ (t : Tree) (who : Caller) (place : EntryKey) (inode : ℕ) (whole : Who
 -- the hour that is due is an entry of the trash
 record IsDueHour (t : Tree) (hour : ℕ) : Type 0 where
   name : List ℕ
-  is : named (shape_of t) (record { dir = trash_root; name = name }) ≡ Some hour
+  is : named (shape_of t) (record { dir = TRASH_ROOT; name = name }) ≡ Some hour
 
 -- an inode that may go with whichever entry it has
 abbrev Loose : Tree → ℕ → Type 0
 Loose t inode = (place : EntryKey) → named (shape_of t) place ≡ Some inode → MayGo (shape_of t) place inode
 
-hour_dir : (t : Tree) (hour : ℕ) → WholeShape (shape_of t) → IsDueHour t hour → IsTrue (is_hour hour) × ((shape_of t).form hour ≡ Dir trash_root)
+hour_dir : (t : Tree) (hour : ℕ) → WholeShape (shape_of t) → IsDueHour t hour → IsTrue (is_hour hour) × ((shape_of t).form hour ≡ Dir TRASH_ROOT)
 hour_dir t hour whole due =
-    let n = whole.entry (record { dir = trash_root; name = due.name }) hour due.is in
+    let n = whole.entry (record { dir = TRASH_ROOT; name = due.name }) hour due.is in
     let h = (n.hour refl).hour in
-    (h, (whole.hours hour n.there (and_parts (nat_lt trash_root hour) _ h).0).1)
+    (h, (whole.hours hour n.there (and_parts (nat_lt TRASH_ROOT hour) _ h).0).1)
 
 loose_in : (t : Tree) (hour : ℕ) (o : Option (EntryKey × ℕ)) → first_in t hour ≡ o → WholeShape (shape_of t) → IsDueHour t hour
     → Loose t (elim o as (λ _. ℕ) [ None ↦ hour | Some e ↦ e.1 ])
@@ -202,14 +202,14 @@ loose_in t hour (Some e) found whole due place is =
     leaf_may_go (shape_of t) place e.1 whole is trashed.leaf trashed.only
 
 due_at : (t : Tree) (now inode : ℕ) (o : Option (EntryKey × ℕ))
-    → first_where (λ key inode. (key.dir == trash_root) && is_due t.setting now (hour_of inode)) t.entries ≡ o
+    → first_where (λ key inode. (key.dir == TRASH_ROOT) && is_due t.setting now (hour_of inode)) t.entries ≡ o
     → option_map (λ hour. elim (first_in t hour) as (λ _. ℕ) [ None ↦ hour | Some e ↦ e.1 ]) (option_map (λ (e : EntryKey × ℕ). e.1) o) ≡ Some inode
     → WholeShape (shape_of t) → Loose t inode
 due_at t now inode None found due whole = absurd (none-some _ due)
 due_at t now inode (Some e) found due whole =
-    let first : IsFound (λ key inode. (key.dir == trash_root) && is_due t.setting now (hour_of inode)) t.entries e.0 e.1 =
-    first_where-found entry_key (λ key inode. (key.dir == trash_root) && is_due t.setting now (hour_of inode)) t.entries e found in
-    let dir : (e.0).dir ≡ trash_root = eqb-true (e.0).dir trash_root (and_parts _ _ first.passes).0 in
+    let first : IsFound (λ key inode. (key.dir == TRASH_ROOT) && is_due t.setting now (hour_of inode)) t.entries e.0 e.1 =
+    first_where-found entry_key (λ key inode. (key.dir == TRASH_ROOT) && is_due t.setting now (hour_of inode)) t.entries e found in
+    let dir : (e.0).dir ≡ TRASH_ROOT = eqb-true (e.0).dir TRASH_ROOT (and_parts _ _ first.passes).0 in
     let at_trash = λ (d : ℕ). named (shape_of t) (record { dir = d; name = (e.0).name }) ≡ Some e.1 in
     let hour : IsDueHour t e.1 = record { name = (e.0).name; is = subst at_trash dir first.there } in
     subst (Loose t) (same_Some _ _ due) (loose_in t e.1 (first_in t e.1) refl whole hour)

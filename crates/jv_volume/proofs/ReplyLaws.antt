@@ -3,7 +3,7 @@ use Rattle.std.proofs.Common.{◌≡◌, ℕ, ◌≤◌, Bool, true, false, ◌=
 use Rattle.std.proofs.Common.{Some, Result, Ok, Err, refl, sym, ap, subst, ◌∙◌}
 use Rattle.std.specs.Prelude.{IsTrue, zero, suc, nat_lt}
 use Rattle.std.proofs.lemmas.Bool.{cond_both, eqb-true, eq-eqb, false≢true}
-use Rattle.jv_model.specs.declared.limits.TheConstants.{FULL_COUNT}
+use Rattle.jv_model.specs.declared.limits.TheConstants.{FULL_COUNT, ROOT, TRASH_ROOT}
 use Rattle.jv_model.specs.declared.basics.How.{How}
 use Rattle.jv_model.specs.declared.basics.How.TheVariants.{Plain, NoReplace, Exchange}
 use Rattle.jv_model.specs.declared.fault.Fault.{Fault}
@@ -17,7 +17,7 @@ use Rattle.jv_model.specs.declared.op.Reply.{Reply}
 use Rattle.jv_model.specs.declared.op.Reply.TheVariants.{Refused, SessionMade, FileOpened}
 use Rattle.jv_model.specs.FiniteMap.{get}
 use Rattle.jv_model.specs.tree.Attempt.{◌>>=◌, require, some_or}
-use Rattle.jv_model.specs.tree.Tree.{Tree, Node, EntryKey, root, trash_root}
+use Rattle.jv_model.specs.tree.Tree.{Tree, Node, EntryKey}
 use Rattle.jv_model.specs.tree.Caller.{Caller, Outcome, outcome, answered, done, in_session}
 use Rattle.jv_model.specs.tree.Walk.{is_absolute, names_of, is_dot, is_dot_dot, is_trash, named_from, stepped, way_on}
 use Rattle.jv_model.specs.tree.Walk.{walk_names, walk, inode_by, entry_of}
@@ -83,7 +83,7 @@ module _ {who : Caller} where
   refuses-named_from t dir parent name =
       cond_both (is_dot name) _ _ (Refuses who) (λ e. refuses-ok dir) (λ e.
       cond_both (is_dot_dot name) _ _ (Refuses who) (λ e. refuses-ok parent) (λ e.
-      cond_both (is_trash dir name) _ _ (Refuses who) (λ e. refuses-ok trash_root)
+      cond_both (is_trash dir name) _ _ (Refuses who) (λ e. refuses-ok TRASH_ROOT)
       (λ e. refuses-some_or _ NotFound refl)))
 
   refuses-stepped : (t : Tree) (inode : ℕ) (name : List ℕ) → Refuses who (stepped t inode name)
@@ -97,7 +97,7 @@ module _ {who : Caller} where
         → Refuses who (onwards t follow again inode names next o)
     refuses-onwards again inode names next None goes rest = rest
     refuses-onwards again inode names next (Some target) goes rest =
-        goes (if is_absolute target then root else inode) (names_of target ++ names)
+        goes (if is_absolute target then ROOT else inode) (names_of target ++ names)
 
     refuses-walk_names : (again : ℕ → List (List ℕ) → Result ℕ Fault) (inode : ℕ) (names : List (List ℕ))
         → ((at : ℕ) (rest : List (List ℕ)) → Refuses who (again at rest))

@@ -2,9 +2,9 @@
 use Rattle.std.proofs.Common.{◌≡◌, ◌≢◌, ℕ, ◌+◌, ◌≤◌, ◌<◌, Bool, true, false, cond, not, ◌==◌, if◌then◌else◌, ◌⊎◌, inl, inr, Option, None, Some, is_some, refl, sym, ap, subst, ◌∙◌, arith}
 use Rattle.std.specs.Prelude.{IsTrue, nat_lt}
 use Rattle.std.proofs.lemmas.Bool.{cond-true, cond-false, false≢true, eq-eqb, ne_eqb, eqb-true, eqb-false, cases_eq, false_from_ne_true, not_from_true, not_from_false}
-use Rattle.jv_model.specs.declared.limits.TheConstants.{FULL_COUNT}
+use Rattle.jv_model.specs.declared.limits.TheConstants.{FULL_COUNT, ROOT, TRASH_ROOT}
 use Rattle.jv_model.specs.FiniteMap.{Map, number_key, get, remove, retain_keys}
-use Rattle.jv_model.specs.tree.Tree.{Tree, Node, EntryKey, SustainedFile, SessionEntry, pair_key, root, trash_root, node_at, is_sustained}
+use Rattle.jv_model.specs.tree.Tree.{Tree, Node, EntryKey, SustainedFile, SessionEntry, pair_key, node_at, is_sustained}
 use Rattle.jv_model.specs.tree.Changes.{drop_node}
 use Rattle.jv_model.specs.tree.Caller.{Caller}
 use Rattle.jv_model.specs.tree.Sessions.{with_session, kept_alive, without_session, released}
@@ -134,21 +134,21 @@ module _ (s : Shape) (sid : ℕ) (gone present : ℕ → Bool) (pairs : Map pair
         one = λ another also. old.one another (h.left another inode also).0;
       }
 
-  hours_after : (inode : ℕ) → IsTrue (is_there (after.form inode)) → IsTrue (nat_lt trash_root inode)
-      → IsTrue (is_hour inode) × (after.form inode ≡ Dir trash_root)
+  hours_after : (inode : ℕ) → IsTrue (is_there (after.form inode)) → IsTrue (nat_lt TRASH_ROOT inode)
+      → IsTrue (is_hour inode) × (after.form inode ≡ Dir TRASH_ROOT)
   hours_after inode there above =
       let same = form_after inode (there_stays inode there) in
       let both = w.hours inode (ap is_there (sym same) ∙ there) above in
       (both.0, same ∙ both.1)
 
-  below_after : (inode : ℕ) → IsTrue (is_there (after.form inode)) → IsTrue (nat_lt inode trash_root) → inode < s.next_inode
+  below_after : (inode : ℕ) → IsTrue (is_there (after.form inode)) → IsTrue (nat_lt inode TRASH_ROOT) → inode < s.next_inode
   below_after inode there low = w.below inode (ap is_there (sym (form_after inode (there_stays inode there))) ∙ there) low
 
   -- without files that a session kept
   pub whole-without_files : WholeShape (without_files s gone present pairs)
   whole-without_files = record {
-    root_there = dir_after root root w.root_there;
-    trash_there = dir_after trash_root root w.trash_there;
+    root_there = dir_after ROOT ROOT w.root_there;
+    trash_there = dir_after TRASH_ROOT ROOT w.trash_there;
     entry = entry_after;
     entered = entered_after;
     rooted = rooted_after;

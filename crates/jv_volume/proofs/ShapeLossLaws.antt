@@ -3,8 +3,9 @@ use Rattle.std.proofs.Common.{◌≡◌, ◌≢◌, ℕ, zero, suc, ◌<◌, fal
 use Rattle.std.specs.Prelude.{IsTrue}
 use Rattle.std.proofs.lemmas.Bool.{false≢true, cases_Bool, cases_eq}
 use Rattle.std.proofs.lemmas.Option.{same_Some}
+use Rattle.jv_model.specs.declared.limits.TheConstants.{ROOT, TRASH_ROOT}
 use Rattle.jv_model.specs.FiniteMap.{get, insert, remove}
-use Rattle.jv_model.specs.tree.Tree.{EntryKey, entry_key, pair_key, SustainedFile, root, trash_root}
+use Rattle.jv_model.specs.tree.Tree.{EntryKey, entry_key, pair_key, SustainedFile}
 use Rattle.jv_volume.specs.Shape.{Absent, Regular, Dir, Shape, WholeShape, Names, Entered, Keeps, is_there, is_dir, named, keeps, names, is_top, Reaches}
 use Rattle.jv_volume.proofs.ShapeMapLaws.{same_or_apart, get-inserted, get-insert_apart, get-removed, get-remove_apart, was_kept, count-remove_same, count-remove_apart, counted_once, with_form, with_form-here, with_form-apart, with_entries, pair_of, entry_stays}
 use Rattle.jv_volume.proofs.ClimbLaws.{top_parent}
@@ -32,7 +33,7 @@ parent_apart s inode whole low empty dir parent e = elim (cases_Bool (is_top dir
 -- what a shape keeps where an inode loses an entry: other entries, at least those outside the trash itself, and other directories
 pub record Without (s after : Shape) (place : EntryKey) (inode : ℕ) : Type 0 where
   pub gone : named after place ≡ None
-  pub still : (at : EntryKey) (i : ℕ) → at ≢ place → at.dir ≢ trash_root → named s at ≡ Some i → named after at ≡ Some i
+  pub still : (at : EntryKey) (i : ℕ) → at ≢ place → at.dir ≢ TRASH_ROOT → named s at ≡ Some i → named after at ≡ Some i
   pub dirs : (dir parent : ℕ) → s.form dir ≡ Dir parent → dir ≢ inode → after.form dir ≡ Dir parent
 
 -- where nothing but the entry went, or its inode with it
@@ -91,8 +92,8 @@ module _ (s : Shape) (place : EntryKey) (inode : ℕ) (whole : WholeShape s) (is
   -- a shape stays whole without an inode that has one entry, and no entries in it
   pub whole-without_inode : WholeShape (without_inode s place inode)
   whole-without_inode = record {
-    root_there = form_apart root (λ e. false≢true (sym low ∙ ap is_top (sym e))) ∙ whole.root_there;
-    trash_there = form_apart trash_root (λ e. false≢true (sym low ∙ ap is_top (sym e))) ∙ whole.trash_there;
+    root_there = form_apart ROOT (λ e. false≢true (sym low ∙ ap is_top (sym e))) ∙ whole.root_there;
+    trash_there = form_apart TRASH_ROOT (λ e. false≢true (sym low ∙ ap is_top (sym e))) ∙ whole.trash_there;
     entry = λ at i h.
         let k = named_apart at i h in
         entry_kept s after_loss at i (ap is_there (form_apart i k.0)) (ap is_dir (form_apart i k.0)) (ap is_dir (form_apart at.dir (empty at i k.1)))

@@ -7,8 +7,9 @@ use Rattle.std.specs.Cmp.{eq_by_cmp_equiv, Equal-is}
 use Rattle.std.specs.FinMap.Entries.{find}
 use Rattle.std.proofs.lemmas.Option.{same_Some}
 use Rattle.std.proofs.lemmas.Bool.{or_from, cases_Bool, cond-true, cond-false, false_from_ne_true, false≢true, eq-eqb, ne_eqb, eqb-true, cases_eq}
+use Rattle.jv_model.specs.declared.limits.TheConstants.{ROOT, TRASH_ROOT}
 use Rattle.jv_model.specs.FiniteMap.{KeyOrder, Map, number_key, get, insert, remove, alter, first_passing, first_where, sum_over, total_over}
-use Rattle.jv_model.specs.tree.Tree.{Tree, Node, Kind, File, Directory, Symlink, Content, EntryKey, SustainedFile, entry_key, root, trash_root, node_at, is_directory, content_of, parent_of, naming, name_count}
+use Rattle.jv_model.specs.tree.Tree.{Tree, Node, Kind, File, Directory, Symlink, Content, EntryKey, SustainedFile, entry_key, node_at, is_directory, content_of, parent_of, naming, name_count}
 use Rattle.jv_model.specs.tree.Changes.{touched, put_node, drop_node, set_node, change_node, touch, put_entry, take_entry}
 use Rattle.jv_model.proofs.FiniteMapLaws.{share, sum-insert, sum-remove, IsFound, first_where-found, get-alter}
 use Rattle.jv_volume.specs.Shape.{Form, Absent, Regular, Link, Dir, Shape, form_of, is_there, is_dir, shape_of, names, is_top, is_hour, Reaches, Names}
@@ -422,5 +423,5 @@ pub leaf_apart : (s : Shape) (dir parent inode : ℕ) → s.form dir ≡ Dir par
 leaf_apart s dir parent inode is leaf same = false≢true (sym leaf ∙ ap (λ i. is_dir (s.form i)) same ∙ ap is_dir is)
 
 -- what is neither the root nor the trash
-pub not_top : (inode : ℕ) → inode ≢ root → inode ≢ trash_root → is_top inode ≡ false
-not_top inode a b = or_from _ _ (ne_eqb inode root a) (ne_eqb inode trash_root b)
+pub not_top : (inode : ℕ) → inode ≢ ROOT → inode ≢ TRASH_ROOT → is_top inode ≡ false
+not_top inode a b = or_from _ _ (ne_eqb inode ROOT a) (ne_eqb inode TRASH_ROOT b)

@@ -3,8 +3,9 @@ use Rattle.std.proofs.Common.{◌≡◌, ◌≢◌, ℕ, zero, suc, Bool, false,
 use Rattle.std.specs.Prelude.{IsTrue}
 use Rattle.std.proofs.lemmas.Bool.{false≢true, cases_eq}
 use Rattle.std.proofs.lemmas.Option.{same_Some, none-some}
+use Rattle.jv_model.specs.declared.limits.TheConstants.{ROOT, TRASH_ROOT}
 use Rattle.jv_model.specs.FiniteMap.{get, insert, remove}
-use Rattle.jv_model.specs.tree.Tree.{EntryKey, entry_key, root, trash_root}
+use Rattle.jv_model.specs.tree.Tree.{EntryKey, entry_key}
 use Rattle.jv_volume.specs.Shape.{Form, Absent, Regular, Link, Dir, Shape, WholeShape, Names, NamesTrashed, Entered, is_there, is_dir, named, names, is_top, is_hour, Reaches}
 use Rattle.jv_volume.proofs.ShapeMapLaws.{get-inserted, get-insert_apart, get-remove_apart, was_inserted, was_kept, count-insert, count-remove, with_form, with_form-here, with_form-apart, parent_of_dir}
 use Rattle.jv_volume.proofs.ClimbLaws.{Avoids, dir_parent, avoids_beside, reaches_avoiding}
@@ -46,8 +47,8 @@ pub record MayMove (s : Shape) (from : EntryKey) (inode : ℕ) (to : EntryKey) :
   pub is : named s from ≡ Some inode
   pub free : named s to ≡ None
   pub within : IsTrue (is_dir (s.form to.dir))
-  pub leaves : from.dir ≢ trash_root
-  pub enters : to.dir ≢ trash_root
+  pub leaves : from.dir ≢ TRASH_ROOT
+  pub enters : to.dir ≢ TRASH_ROOT
   pub trashed : IsTrue (is_hour to.dir) → NamesTrashed s to inode
   pub steps : ℕ
   pub avoids : Avoids s.form inode steps to.dir
@@ -147,16 +148,16 @@ module _ (s : Shape) (from : EntryKey) (inode : ℕ) (to : EntryKey) (whole : Wh
   ]
 
   -- an hour's directory doesn't move
-  no_hour : (i : ℕ) → s.form i ≡ Dir trash_root → is_top i ≡ false → i ≢ inode
+  no_hour : (i : ℕ) → s.form i ≡ Dir TRASH_ROOT → is_top i ≡ false → i ≢ inode
   no_hour i is deep e =
-      let entered = whole.entered i trash_root is deep in
+      let entered = whole.entered i TRASH_ROOT is deep in
       may.leaves (ap (λ (at : EntryKey). at.dir) (entered.only from (may.is ∙ ap Some (sym e))))
 
   -- a shape stays whole where an entry moves that may move
   pub whole-moved : WholeShape (moved_shape s from inode to)
   whole-moved = record {
-    root_there = form_apart root (top_apart root refl) ∙ whole.root_there;
-    trash_there = form_apart trash_root (top_apart trash_root refl) ∙ whole.trash_there;
+    root_there = form_apart ROOT (top_apart ROOT refl) ∙ whole.root_there;
+    trash_there = form_apart TRASH_ROOT (top_apart TRASH_ROOT refl) ∙ whole.trash_there;
     entry = λ at i h. elim (named_cases at i h) [
       | inl e ↦ subst (Names after at) (sym e.1) (subst (λ q. Names after q inode) (sym e.0) moved_entry)
       | inr old ↦ entry_kept s after at i (there_same i) (dir_same i) (dir_same at.dir) (λ one. names_same i ∙ one) (whole.entry at i old.1)

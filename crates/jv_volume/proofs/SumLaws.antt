@@ -2,8 +2,9 @@
 use Rattle.std.proofs.Common.{◌≡◌, ℕ, ◌+◌, ◌<◌, true, not, ◌&&◌, Option, None, Some, refl, ap, ◌∙◌, arith, lt-ltb, ne_eqb}
 use Rattle.std.specs.Prelude.{nat_lt, if◌then◌else◌}
 use Rattle.std.specs.Option.{option_map}
+use Rattle.jv_model.specs.declared.limits.TheConstants.{ROOT, TRASH_ROOT}
 use Rattle.jv_model.specs.FiniteMap.{number_key, sum_over}
-use Rattle.jv_model.specs.tree.Tree.{Tree, Node, Kind, File, Directory, Symlink, Content, EntryKey, root, trash_root, is_counted, kind_space, node_space, node_count, used_space, used_inodes, node_at}
+use Rattle.jv_model.specs.tree.Tree.{Tree, Node, Kind, File, Directory, Symlink, Content, EntryKey, is_counted, kind_space, node_space, node_count, used_space, used_inodes, node_at}
 use Rattle.jv_model.specs.tree.Changes.{touched, put_node, drop_node, set_node, change_node, touch, put_entry, take_entry, with_node, with_content}
 use Rattle.jv_model.specs.tree.Making.{with_next}
 use Rattle.jv_model.specs.tree.Removing.{remove_directory}
@@ -160,9 +161,9 @@ used_inodes-removed t now place inode node there apart =
 -- ---- which inodes count
 
 -- an inode between the root and the trash counts
-pub counted : (inode : ℕ) → root < inode → inode < trash_root → is_counted inode ≡ true
+pub counted : (inode : ℕ) → ROOT < inode → inode < TRASH_ROOT → is_counted inode ≡ true
 counted inode low high =
-    ap (λ b. not b && nat_lt inode trash_root) (ne_eqb inode root (λ e. absurd (omega (arith, e, low)))) ∙ lt-ltb inode trash_root high
+    ap (λ b. not b && nat_lt inode TRASH_ROOT) (ne_eqb inode ROOT (λ e. absurd (omega (arith, e, low)))) ∙ lt-ltb inode TRASH_ROOT high
 
 pub node_space-counted : (inode : ℕ) (node : Node) → is_counted inode ≡ true → node_space inode node ≡ kind_space node.kind
 node_space-counted inode node is = ap (λ b. if b then kind_space node.kind else 0) is

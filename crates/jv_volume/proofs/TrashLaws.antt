@@ -1,9 +1,9 @@
 -- A shape stays whole where a file or a symlink goes to the trash.
 use Rattle.std.proofs.Common.{◌≡◌, ◌≢◌, ℕ, ◌≤◌, ◌<◌, false, inl, inr, Option, None, Some, refl, sym, ap, subst, ◌∙◌, arith}
 use Rattle.std.proofs.lemmas.Bool.{false≢true, cases_eq, lt-ltb, le-leb}
-use Rattle.jv_model.specs.declared.limits.TheConstants.{LAST_MOMENT}
+use Rattle.jv_model.specs.declared.limits.TheConstants.{LAST_MOMENT, TRASH_ROOT}
 use Rattle.jv_model.specs.FiniteMap.{KeyOrder, Map, insert, remove}
-use Rattle.jv_model.specs.tree.Tree.{Tree, EntryKey, entry_key, trash_root, in_trash, is_directory, node_at}
+use Rattle.jv_model.specs.tree.Tree.{Tree, EntryKey, entry_key, in_trash, is_directory, node_at}
 use Rattle.jv_model.specs.tree.HourNames.{hour_at}
 use Rattle.jv_model.specs.tree.Trash.{hour_inode, hour_place, with_hour, trash_place, trashed}
 use Rattle.jv_model.specs.tree.Changes.{status_changed, put_entry, take_entry}
@@ -56,8 +56,8 @@ hour_taken s less after final hour place same apart (Comes absent e) (Comes abse
     ∙ ap (λ (q : Shape). taken q place) (sym e)
 
 -- a place outside the trash is none in it
-place_apart : (place at : EntryKey) → in_trash place.dir ≡ false → trash_root ≤ at.dir → place ≢ at
-place_apart place at outside high e = false≢true (sym outside ∙ ap (λ (q : EntryKey). in_trash q.dir) e ∙ le-leb trash_root at.dir high)
+place_apart : (place at : EntryKey) → in_trash place.dir ≡ false → TRASH_ROOT ≤ at.dir → place ≢ at
+place_apart place at outside high e = false≢true (sym outside ∙ ap (λ (q : EntryKey). in_trash q.dir) e ∙ le-leb TRASH_ROOT at.dir high)
 
 module _ (t : Tree) (now : ℕ) (place : EntryKey) (inode : ℕ) (whole : WholeShape (shape_of t)) (clock : now ≤ LAST_MOMENT)
     (is : named (shape_of t) place ≡ Some inode)
@@ -83,7 +83,7 @@ module _ (t : Tree) (now : ℕ) (place : EntryKey) (inode : ℕ) (whole : WholeS
   beside : KeepsButHour s made hour
   beside = keeps-with_hour t now hour whole low
 
-  after_trash : trash_root < hour_inode hour
+  after_trash : TRASH_ROOT < hour_inode hour
   after_trash = hour_inode_high hour low
 
   own : Names s place inode
@@ -94,10 +94,10 @@ module _ (t : Tree) (now : ℕ) (place : EntryKey) (inode : ℕ) (whole : WholeS
 
   no_hour : inode ≢ hour_inode hour
   no_hour e =
-      let hours = whole.hours inode own.there (lt-ltb trash_root inode (omega (arith, after_trash, e))) in
+      let hours = whole.hours inode own.there (lt-ltb TRASH_ROOT inode (omega (arith, after_trash, e))) in
       false≢true (sym leaf_form ∙ ap is_dir hours.1)
 
-  place_off : place.dir ≢ trash_root
+  place_off : place.dir ≢ TRASH_ROOT
   place_off e = false≢true (sym outside ∙ ap in_trash e)
 
   is_made : named made place ≡ Some inode
@@ -175,7 +175,7 @@ module _ (t : Tree) (now : ℕ) (place : EntryKey) (inode : ℕ) (whole : WholeS
       dir_made : (dir parent : ℕ) → s.form dir ≡ Dir parent → made.form dir ≡ Dir parent
       dir_made dir parent is_it = elim (cases_eq dir (hour_inode hour)) [
         | inl e ↦
-            let own_hour = whole.hours dir (ap is_there is_it) (lt-ltb trash_root dir (omega (arith, after_trash, e))) in
+            let own_hour = whole.hours dir (ap is_there is_it) (lt-ltb TRASH_ROOT dir (omega (arith, after_trash, e))) in
             ap (made).form e ∙ beside.is ∙ sym own_hour.1 ∙ is_it
         | inr off ↦ beside.forms dir off ∙ is_it
       ]

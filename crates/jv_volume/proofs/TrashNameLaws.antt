@@ -4,9 +4,9 @@ use Rattle.std.specs.Prelude.{IsTrue, nat_lt, decimal}
 use Rattle.std.specs.Fmt.{digits, digit_glyph, digits_onto}
 use Rattle.std.proofs.lemmas.Fmt.{length-decimal-le, decimal_injective}
 use Rattle.std.proofs.lemmas.Bool.{cases_lt, cases_eq, cond_both, lt-ltb, leb-true, and_parts}
-use Rattle.jv_model.specs.declared.limits.TheConstants.{MAX_NAME}
+use Rattle.jv_model.specs.declared.limits.TheConstants.{MAX_NAME, TRASH_ROOT}
 use Rattle.jv_model.specs.declared.lifetimes.TheConstants.{FIRST_HOUR}
-use Rattle.jv_model.specs.tree.Tree.{EntryKey, trash_root}
+use Rattle.jv_model.specs.tree.Tree.{EntryKey}
 use Rattle.jv_model.specs.tree.Trash.{trash_name}
 use Rattle.jv_volume.specs.Shape.{Shape, WholeShape, is_there, is_hour}
 
@@ -70,13 +70,13 @@ trash_name_inode place other inode j low low' low'' e =
 
 -- inodes that are there are numbers of 64 bits
 pub inode_low : (s : Shape) (inode : ℕ) → WholeShape s → IsTrue (is_there (s.form inode)) → inode < 2 ^ 64
-inode_low s inode whole there = elim (cases_lt inode trash_root) [
-  | inl less ↦ omega (arith, whole.below inode there (lt-ltb inode trash_root less), whole.inodes_end)
-  | inr more ↦ elim (cases_eq inode trash_root) [
+inode_low s inode whole there = elim (cases_lt inode TRASH_ROOT) [
+  | inl less ↦ omega (arith, whole.below inode there (lt-ltb inode TRASH_ROOT less), whole.inodes_end)
+  | inr more ↦ elim (cases_eq inode TRASH_ROOT) [
     | inl e ↦ omega arith
     | inr apart ↦
-        let hour : IsTrue (is_hour inode) = (whole.hours inode there (lt-ltb trash_root inode (omega arith))).0 in
-        let last : inode ≤ FIRST_HOUR = leb-true inode FIRST_HOUR (and_parts (nat_lt trash_root inode) _ hour).1 in
+        let hour : IsTrue (is_hour inode) = (whole.hours inode there (lt-ltb TRASH_ROOT inode (omega arith))).0 in
+        let last : inode ≤ FIRST_HOUR = leb-true inode FIRST_HOUR (and_parts (nat_lt TRASH_ROOT inode) _ hour).1 in
         omega (arith, last)
   ]
 ]

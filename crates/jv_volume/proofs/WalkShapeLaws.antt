@@ -2,12 +2,12 @@
 use Rattle.std.proofs.Common.{◌≡◌, ℕ, zero, suc, Bool, true, false, not, ◌||◌, if◌then◌else◌, inl, inr, List, [], ◌∷◌, ◌++◌, length, Option, None, Some, is_some, Result, Ok, Err, refl, sym, ap, subst, ◌∙◌}
 use Rattle.std.specs.Prelude.{nat_le}
 use Rattle.std.proofs.lemmas.Bool.{cases_Bool, cases_cond, false≢true, not-true}
-use Rattle.jv_model.specs.declared.limits.TheConstants.{MAX_NAME, MAX_PATH, MAX_SYMLINKS}
+use Rattle.jv_model.specs.declared.limits.TheConstants.{MAX_NAME, MAX_PATH, MAX_SYMLINKS, ROOT, TRASH_ROOT}
 use Rattle.jv_model.specs.declared.fault.Fault.{Fault}
 use Rattle.jv_model.specs.declared.fault.Fault.TheVariants.{NotFound, NotADirectory, Invalid, NameTooLong, AlreadyExists, NotPermitted, SymlinkLoop}
 use Rattle.jv_model.specs.FiniteMap.{get}
 use Rattle.jv_model.specs.tree.Attempt.{◌>>=◌, require, some_or}
-use Rattle.jv_model.specs.tree.Tree.{Tree, EntryKey, root, trash_root, node_at, parent_at, is_directory}
+use Rattle.jv_model.specs.tree.Tree.{Tree, EntryKey, node_at, parent_at, is_directory}
 use Rattle.jv_model.specs.tree.Walk.{is_absolute, names_of, is_dot, is_dot_dot, is_trash, named_from, stepped, way_on, walk_names, walk, inode_by, all_but_last, entry_of}
 use Rattle.jv_model.specs.tree.Making.{may_be_new, new_place}
 use Rattle.jv_model.proofs.TestLaws.{none_if}
@@ -47,19 +47,19 @@ pub data IsReached (t : Tree) (inode : ℕ) : Type 0 where
 -- how a walk goes on behind a name, by the target of a symlink
 abbrev pub onwards : Tree → Bool → (ℕ → List (List ℕ) → Result ℕ Fault) → ℕ → List (List ℕ) → ℕ → Option (List ℕ) → Result ℕ Fault
 onwards t follow again inode names next None = walk_names again t follow next names
-onwards t follow again inode names next (Some target) = again (if is_absolute target then root else inode) (names_of target ++ names)
+onwards t follow again inode names next (Some target) = again (if is_absolute target then ROOT else inode) (names_of target ++ names)
 
 module _ (t : Tree) (w : WholeShape (shape_of t)) where
   directory_by_form : (inode parent : ℕ) → (shape_of t).form inode ≡ Dir parent → is_directory t inode ≡ true
   directory_by_form inode parent is = is_directory-form t inode ∙ ap is_dir is
 
   -- the root is a directory
-  pub root_directory : is_directory t root ≡ true
-  root_directory = directory_by_form root root w.root_there
+  pub root_directory : is_directory t ROOT ≡ true
+  root_directory = directory_by_form ROOT ROOT w.root_there
 
   -- and so is the trash
-  pub trash_directory : is_directory t trash_root ≡ true
-  trash_directory = directory_by_form trash_root root w.trash_there
+  pub trash_directory : is_directory t TRASH_ROOT ≡ true
+  trash_directory = directory_by_form TRASH_ROOT ROOT w.trash_there
 
   -- a directory's parent is one
   pub parent_directory : (inode parent : ℕ) → parent_at t inode ≡ Some parent → is_directory t parent ≡ true
@@ -79,7 +79,7 @@ module _ (t : Tree) (w : WholeShape (shape_of t)) where
     | inr e ↦ elim (cases_cond (is_dot_dot name) _ _ (Ok next) e) [
       | inl e ↦ Directory (ap (is_directory t) (same_Ok next parent e) ∙ parent_directory inode parent is)
       | inr e ↦ elim (cases_cond (is_trash inode name) _ _ (Ok next) e) [
-        | inl e ↦ Directory (ap (is_directory t) (same_Ok next trash_root e) ∙ trash_directory)
+        | inl e ↦ Directory (ap (is_directory t) (same_Ok next TRASH_ROOT e) ∙ trash_directory)
         | inr e ↦ Entry (record { at = record { dir = inode; name = name }; is = was_some _ NotFound next (sym e) })
       ]
     ]
@@ -96,7 +96,7 @@ module _ (t : Tree) (w : WholeShape (shape_of t)) where
   abbrev GoesOn : (ℕ → List (List ℕ) → Result ℕ Fault) → Type 0
   GoesOn again = (dir : ℕ) (names : List (List ℕ)) (result : ℕ) → IsReached t dir → again dir names ≡ Ok result → IsReached t result
 
-  from_reached : (inode : ℕ) (b : Bool) → IsReached t inode → IsReached t (if b then root else inode)
+  from_reached : (inode : ℕ) (b : Bool) → IsReached t inode → IsReached t (if b then ROOT else inode)
   from_reached inode true r = Directory root_directory
   from_reached inode false r = r
 
@@ -106,7 +106,7 @@ module _ (t : Tree) (w : WholeShape (shape_of t)) where
       → IsReached t result
   onwards_reached again follow inode names next None result goes rest r h = rest h
   onwards_reached again follow inode names next (Some target) result goes rest r h =
-      goes (if is_absolute target then root else inode) (names_of target ++ names) result (from_reached inode (is_absolute target) r) h
+      goes (if is_absolute target then ROOT else inode) (names_of target ++ names) result (from_reached inode (is_absolute target) r) h
 
   names_reached : (again : ℕ → List (List ℕ) → Result ℕ Fault) (follow : Bool) (inode : ℕ) (names : List (List ℕ)) (result : ℕ) → GoesOn again
       → IsReached t inode → walk_names again t follow inode names ≡ Ok result → IsReached t result
@@ -129,8 +129,8 @@ module _ (t : Tree) (w : WholeShape (shape_of t)) where
   -- a path leads to a directory, or to what an entry names
   pub path_reached : (follow : Bool) (path : List ℕ) (inode : ℕ) → inode_by follow t path ≡ Ok inode → IsReached t inode
   path_reached follow path inode h =
-      let short = went_on (require (nat_le (length path) MAX_PATH) NameTooLong) (λ _. walk MAX_SYMLINKS t follow root (names_of path)) inode h in
-      walk_reached MAX_SYMLINKS follow root (names_of path) inode (Directory root_directory) short.2
+      let short = went_on (require (nat_le (length path) MAX_PATH) NameTooLong) (λ _. walk MAX_SYMLINKS t follow ROOT (names_of path)) inode h in
+      walk_reached MAX_SYMLINKS follow ROOT (names_of path) inode (Directory root_directory) short.2
 
   named_if_leaf : (inode : ℕ) → is_directory t inode ≡ false → IsReached t inode → IsNamed t.entries inode
   named_if_leaf inode leaf (Directory is) = absurd (false≢true (sym leaf ∙ is))
@@ -150,7 +150,7 @@ module _ (t : Tree) (path : List ℕ) where
   of_dir name dir = require (is_directory t dir) NotADirectory >>= (λ _. of_length name dir)
 
   abbrev pub above : Result ℕ Fault
-  above = walk MAX_SYMLINKS t true root (all_but_last (names_of path))
+  above = walk MAX_SYMLINKS t true ROOT (all_but_last (names_of path))
 
   abbrev pub of_name : List ℕ → Result EntryKey Fault
   of_name name = require (not (is_dot name || is_dot_dot name)) Invalid >>= (λ _. above >>= of_dir name)

@@ -6,7 +6,7 @@ use Rattle.std.specs.Option.{option_map}
 use Rattle.std.specs.List.{AllByRecursion}
 use Rattle.std.proofs.lemmas.Option.{none-some, same_Some}
 use Rattle.std.proofs.lemmas.Bool.{and_right, cond-true, cond-false, eq-eqb, ne_eqb, cases_eq, cases_lt, le-ltb, lt-ltb}
-use Rattle.jv_model.specs.declared.limits.TheConstants.{WINDOW, FULL_MODE, READ_ONLY_MODE}
+use Rattle.jv_model.specs.declared.limits.TheConstants.{WINDOW, FULL_MODE, READ_ONLY_MODE, ROOT, TRASH_ROOT}
 use Rattle.jv_model.specs.declared.row.RowKey.{RowKey}
 use Rattle.jv_model.specs.declared.row.Counters.{Counters}
 use Rattle.jv_model.specs.declared.row.Node.{Node as NodeRow}
@@ -18,7 +18,7 @@ use Rattle.jv_model.specs.FiniteMap.{number_key, empty_map, get, insert, map_of}
 use Rattle.jv_model.specs.rows.RowKeys.{row_key}
 use Rattle.jv_model.specs.rows.RowPlaces.{setting_key, counters_key, node_key, edge_key, list_key, slice_key, session_key, sustained_key, dropped_key, dead_key}
 use Rattle.jv_model.specs.blocks.Slices.{IsRecord, place_by, stored_place}
-use Rattle.jv_model.specs.tree.Tree.{Tree, File, Directory, EntryKey, entry_key, pair_key, new_node, fresh_tree, node_at, link_count, root, trash_root}
+use Rattle.jv_model.specs.tree.Tree.{Tree, File, Directory, EntryKey, entry_key, pair_key, new_node, fresh_tree, node_at, link_count}
 use Rattle.jv_model.specs.tree.Making.{with_next}
 use Rattle.jv_model.proofs.FiniteMapLaws.{get-empty_map}
 use Rattle.jv_model.proofs.TreeComputeLaws.{maps_compute}
@@ -48,8 +48,8 @@ abbrev pub volume : Counters → NodeRow → List (RowKey × Cell) → Rows
 volume counters top more = map_of (
     (setting_key, Ok (OfSetting plain))
     ∷ (counters_key, Ok (OfCounters counters))
-    ∷ (node_key root, Ok (OfNode top))
-    ∷ (node_key trash_root, Ok (OfNode (first_directory READ_ONLY_MODE 0)))
+    ∷ (node_key ROOT, Ok (OfNode top))
+    ∷ (node_key TRASH_ROOT, Ok (OfNode (first_directory READ_ONLY_MODE 0)))
     ∷ more
     )
 
@@ -77,7 +77,7 @@ ten = record { pos = 0; id = 1; size = 10; off = 0; len = 10 }
 abbrev pub with_file : ℕ → ℕ → List (RowKey × Cell)
 with_file length count =
     (node_key 2, Ok (OfNode (file length)))
-    ∷ (edge_key root name, Ok (OfEdge (record { kind = 1; inode = 2 })))
+    ∷ (edge_key ROOT name, Ok (OfEdge (record { kind = 1; inode = 2 })))
     ∷ (list_key 2 0, Ok (OfList (ten ∷ [])))
     ∷ (slice_key 1, Ok (OfSlice (record { size = 10; count = count })))
     ∷ []
@@ -87,7 +87,7 @@ abbrev rows : Rows
 rows = volume one_file top (with_file 10 1)
 
 abbrev place : EntryKey
-place = record { dir = root; name = name }
+place = record { dir = ROOT; name = name }
 
 -- its tree
 abbrev tree : Tree
@@ -108,8 +108,8 @@ abbrev written : List (RowKey × Cell)
 written =
     (setting_key, Ok (OfSetting plain))
     ∷ (counters_key, Ok (OfCounters one_file))
-    ∷ (node_key root, Ok (OfNode top))
-    ∷ (node_key trash_root, Ok (OfNode (first_directory READ_ONLY_MODE 0)))
+    ∷ (node_key ROOT, Ok (OfNode top))
+    ∷ (node_key TRASH_ROOT, Ok (OfNode (first_directory READ_ONLY_MODE 0)))
     ∷ with_file 10 1
 
 all_rows : (key : RowKey) (cell : Cell) → get rows key ≡ Some cell → IsRowAt key cell
@@ -117,7 +117,7 @@ all_rows key cell is = rows_at written refl key cell is
 
 -- each table
 
-no_node : (inode : ℕ) → inode ≢ root → inode ≢ trash_root → inode ≢ 2 → get rows (node_key inode) ≡ None
+no_node : (inode : ℕ) → inode ≢ ROOT → inode ≢ TRASH_ROOT → inode ≢ 2 → get rows (node_key inode) ≡ None
 no_node inode a b c = none_at 2 (node_key inode) written refl ((λ e. a (number e)), ((λ e. b (number e)), ((λ e. c (number e)), tt)))
 
 no_edge : (at : EntryKey) → at ≢ place → get rows (edge_key at.dir at.name) ≡ None
@@ -137,23 +137,23 @@ no_dead id = ap (λ o. dead_in (row_in o)) (none_at 9 (dead_key id) written refl
 
 -- the rows are those of the tree
 
-nodes_are : tree.nodes ≡ map_of ((trash_root, new_node (Directory root) READ_ONLY_MODE 0) ∷ (2, new_node (File (content_of 10 (no_bytes 2))) FULL_MODE 0) ∷
-    (root, new_node (Directory root) FULL_MODE 0) ∷ [])
+nodes_are : tree.nodes ≡ map_of ((TRASH_ROOT, new_node (Directory ROOT) READ_ONLY_MODE 0) ∷ (2, new_node (File (content_of 10 (no_bytes 2))) FULL_MODE 0) ∷
+    (ROOT, new_node (Directory ROOT) FULL_MODE 0) ∷ [])
 unfolding maps_compute
 nodes_are = refl
 
-no_tree_node : (inode : ℕ) → inode ≢ root → inode ≢ trash_root → inode ≢ 2 → node_at tree inode ≡ None
-no_tree_node inode a b c = ap (λ m. get m inode) nodes_are ∙ get-insert_apart number_key _ trash_root _ inode b ∙ get-insert_apart number_key _ 2 _ inode c
-    ∙ get-insert_apart number_key empty_map root _ inode a ∙ get-empty_map number_key inode
+no_tree_node : (inode : ℕ) → inode ≢ ROOT → inode ≢ TRASH_ROOT → inode ≢ 2 → node_at tree inode ≡ None
+no_tree_node inode a b c = ap (λ m. get m inode) nodes_are ∙ get-insert_apart number_key _ TRASH_ROOT _ inode b ∙ get-insert_apart number_key _ 2 _ inode c
+    ∙ get-insert_apart number_key empty_map ROOT _ inode a ∙ get-empty_map number_key inode
 
 abbrev NodeIs : ℕ → Type 0
 NodeIs inode = get rows (node_key inode) ≡ option_map (λ node. Ok (OfNode (node_row (link_count tree inode) node))) (node_at tree inode)
 
-root_is : NodeIs root
+root_is : NodeIs ROOT
 unfolding rows_compute
 root_is = refl
 
-trash_is : NodeIs trash_root
+trash_is : NodeIs TRASH_ROOT
 unfolding rows_compute
 trash_is = refl
 
@@ -162,9 +162,9 @@ unfolding rows_compute
 file_is = refl
 
 node_is : (inode : ℕ) → NodeIs inode
-node_is inode = elim (cases_eq inode root) [
+node_is inode = elim (cases_eq inode ROOT) [
   | inl e ↦ subst NodeIs (sym e) root_is
-  | inr a ↦ elim (cases_eq inode trash_root) [
+  | inr a ↦ elim (cases_eq inode TRASH_ROOT) [
     | inl e ↦ subst NodeIs (sym e) trash_is
     | inr b ↦ elim (cases_eq inode 2) [
       | inl e ↦ subst NodeIs (sym e) file_is
@@ -328,11 +328,11 @@ file_at : node_row_at rows 2 ≡ Some (file 10)
 unfolding rows_compute
 file_at = refl
 
-root_at : node_row_at rows root ≡ Some top
+root_at : node_row_at rows ROOT ≡ Some top
 unfolding rows_compute
 root_at = refl
 
-trash_at : node_row_at rows trash_root ≡ Some (first_directory READ_ONLY_MODE 0)
+trash_at : node_row_at rows TRASH_ROOT ≡ Some (first_directory READ_ONLY_MODE 0)
 unfolding rows_compute
 trash_at = refl
 
@@ -343,10 +343,10 @@ kind_of given node inode at e there is = same_Some node given (sym is ∙ ap (no
 only_file : (inode : ℕ) (node : NodeRow) → node_row_at rows inode ≡ Some node → node.kind ≡ 1 → (inode ≡ 2) × (node ≡ file 10)
 only_file inode node is kind = elim (cases_eq inode 2) [
   | inl e ↦ (e, kind_of (file 10) node inode 2 e file_at is)
-  | inr c ↦ elim (cases_eq inode root) [
-    | inl e ↦ let two = ap (λ (n : NodeRow). n.kind) (kind_of top node inode root e root_at is) in absurd (omega (arith, two, kind))
-    | inr a ↦ elim (cases_eq inode trash_root) [
-      | inl e ↦ let two = ap (λ (n : NodeRow). n.kind) (kind_of (first_directory READ_ONLY_MODE 0) node inode trash_root e trash_at is) in absurd
+  | inr c ↦ elim (cases_eq inode ROOT) [
+    | inl e ↦ let two = ap (λ (n : NodeRow). n.kind) (kind_of top node inode ROOT e root_at is) in absurd (omega (arith, two, kind))
+    | inr a ↦ elim (cases_eq inode TRASH_ROOT) [
+      | inl e ↦ let two = ap (λ (n : NodeRow). n.kind) (kind_of (first_directory READ_ONLY_MODE 0) node inode TRASH_ROOT e trash_at is) in absurd
           (omega (arith, two, kind))
       | inr b ↦ absurd (none-some node (sym (ap (λ o. node_in (row_in o)) (no_node inode a b c)) ∙ is))
     ]

@@ -1,9 +1,9 @@
 -- What makes a tree whole. It sees no times, attributes or bytes, so it is a fact on the tree's shape alone.
 use Rattle.std.specs.Prelude.{◌≡◌, ℕ, zero, suc, ◌<◌, ◌≤◌, Bool, true, false, ◌&&◌, ◌||◌, ◌==◌, nat_le, nat_lt, List, is_some, Option, None, Some, IsTrue}
-use Rattle.jv_model.specs.declared.limits.TheConstants.{FULL_COUNT}
+use Rattle.jv_model.specs.declared.limits.TheConstants.{FULL_COUNT, ROOT, TRASH_ROOT}
 use Rattle.jv_model.specs.declared.lifetimes.TheConstants.{FIRST_HOUR}
 use Rattle.jv_model.specs.FiniteMap.{Map, get}
-use Rattle.jv_model.specs.tree.Tree.{Tree, Node, File, Directory, Symlink, EntryKey, entry_key, pair_key, root, trash_root, node_at, name_count, has_pair}
+use Rattle.jv_model.specs.tree.Tree.{Tree, Node, File, Directory, Symlink, EntryKey, entry_key, pair_key, node_at, name_count, has_pair}
 use Rattle.jv_model.specs.tree.HourNames.{hour_name}
 use Rattle.jv_model.specs.tree.Trash.{hour_of, trash_name}
 
@@ -60,11 +60,11 @@ names s inode = name_count s.entries inode
 
 -- the directories that no entry names
 abbrev pub is_top : ℕ → Bool
-is_top inode = (inode == root) || (inode == trash_root)
+is_top inode = (inode == ROOT) || (inode == TRASH_ROOT)
 
 -- the directories of the trash's hours, whose inodes follow its own
 abbrev pub is_hour : ℕ → Bool
-is_hour inode = nat_lt trash_root inode && nat_le inode FIRST_HOUR
+is_hour inode = nat_lt TRASH_ROOT inode && nat_le inode FIRST_HOUR
 
 -- `steps` up lead from a directory to the root or the trash
 abbrev pub Reaches : (ℕ → Form) → ℕ → ℕ → Type 0
@@ -88,7 +88,7 @@ pub record Names (s : Shape) (at : EntryKey) (inode : ℕ) : Type 0 where
   pub there : IsTrue (is_there (s.form inode))
   pub free : is_top inode ≡ false
   pub within : IsTrue (is_dir (s.form at.dir))
-  pub hour : at.dir ≡ trash_root → NamesHour at inode
+  pub hour : at.dir ≡ TRASH_ROOT → NamesHour at inode
   pub trashed : IsTrue (is_hour at.dir) → NamesTrashed s at inode
 
 -- a directory has one entry, in its parent
@@ -111,15 +111,15 @@ pub record IsKept (s : Shape) (inode : ℕ) : Type 0 where
 
 -- POSIX.1-2017, 4.6 "File Hierarchy", with the trash and sustained files
 pub record WholeShape (s : Shape) : Type 0 where
-  pub root_there : s.form root ≡ Dir root
-  pub trash_there : s.form trash_root ≡ Dir root
+  pub root_there : s.form ROOT ≡ Dir ROOT
+  pub trash_there : s.form TRASH_ROOT ≡ Dir ROOT
   pub entry : (at : EntryKey) (inode : ℕ) → named s at ≡ Some inode → Names s at inode
   pub entered : (dir parent : ℕ) → s.form dir ≡ Dir parent → is_top dir ≡ false → Entered s dir parent
   pub rooted : (dir parent : ℕ) → s.form dir ≡ Dir parent → (steps : ℕ) × Reaches s.form steps dir
   pub held : (inode : ℕ) → IsTrue (is_there (s.form inode)) → is_dir (s.form inode) ≡ false → names s inode ≡ 0 → IsKept s inode
   pub sustains : (sid inode : ℕ) → IsTrue (keeps s sid inode) → Keeps s sid inode
-  pub hours : (inode : ℕ) → IsTrue (is_there (s.form inode)) → IsTrue (nat_lt trash_root inode) → IsTrue (is_hour inode) × (s.form inode ≡ Dir trash_root)
-  pub below : (inode : ℕ) → IsTrue (is_there (s.form inode)) → IsTrue (nat_lt inode trash_root) → inode < s.next_inode
+  pub hours : (inode : ℕ) → IsTrue (is_there (s.form inode)) → IsTrue (nat_lt TRASH_ROOT inode) → IsTrue (is_hour inode) × (s.form inode ≡ Dir TRASH_ROOT)
+  pub below : (inode : ℕ) → IsTrue (is_there (s.form inode)) → IsTrue (nat_lt inode TRASH_ROOT) → inode < s.next_inode
   pub sessions : (sid : ℕ) → IsTrue (s.in_session sid) → (1 ≤ sid) × (sid < s.next_session)
   pub inodes_end : s.next_inode ≤ FULL_COUNT
   pub sessions_end : s.next_session ≤ FULL_COUNT

@@ -11,7 +11,8 @@ use Rattle.jv_yard.specs.Staging.{Staging, staged_since}
 use Rattle.jv_yard.specs.YardValue.{YardValue}
 
 -- the notes have one that this block of a client was published
-pub record HasPublish (setting : Setting) (notes : List Note) (client : ℕ) (name : List ℕ) : Type 0 where
+pub record HasPublish (setting : Setting) (notes : List Note) (client : ℕ)
+    (name : List ℕ) : Type 0 where
   pub note : Note
   pub among : Contains notes note
   pub what : note.what ≡ Publish
@@ -40,11 +41,13 @@ pub record IsStagedWith (contents : Contents) (name bytes : List ℕ) : Type 0 w
 
 -- an object or a staged block of this name has these bytes
 abbrev pub IsCopy : Contents → List ℕ → List ℕ → Type 0
-IsCopy contents name bytes = (bytes_at name contents.objects ≡ Some bytes) ⊎ IsStagedWith contents name bytes
+IsCopy contents name bytes =
+    (bytes_at name contents.objects ≡ Some bytes) ⊎ IsStagedWith contents name bytes
 
 -- all copies of one name have equal bytes
 abbrev pub AreAlike : Contents → Type 0
-AreAlike contents = (name first second : List ℕ) → IsCopy contents name first → IsCopy contents name second → first ≡ second
+AreAlike contents = (name first second : List ℕ) → IsCopy contents name first
+    → IsCopy contents name second → first ≡ second
 
 -- an object that stayed, maybe published again from a staged block
 pub record IsLeft (before after : Contents) (name bytes : List ℕ) (at : ℕ) : Type 0 where
@@ -54,11 +57,14 @@ pub record IsLeft (before after : Contents) (name bytes : List ℕ) (at : ℕ) :
 
 -- Staged blocks were published, some of them more than once, and some of those that were are staged no more. All else is the same.
 pub record IsPublishedFrom (before after : Contents) : Type 0 where
-  pub kept : (name bytes : List ℕ) (at : ℕ) → get before.objects name ≡ Some (bytes, at) → IsLeft before after name bytes at
-  pub new : (name bytes : List ℕ) (at : ℕ) → get before.objects name ≡ None → get after.objects name ≡ Some (bytes, at) → WasStaged before name bytes at
+  pub kept : (name bytes : List ℕ) (at : ℕ) → get before.objects name ≡ Some (bytes, at)
+      → IsLeft before after name bytes at
+  pub new : (name bytes : List ℕ) (at : ℕ) → get before.objects name ≡ None
+      → get after.objects name ≡ Some (bytes, at) → WasStaged before name bytes at
   pub staged : (client : ℕ) (name : List ℕ) → IsSome (staged_since client name after.staged)
       → staged_at client name after.blocks ≡ staged_at client name before.blocks
-  pub gone : (client : ℕ) (name bytes : List ℕ) → IsSome (staged_since client name before.staged) → staged_since client name after.staged ≡ None
+  pub gone : (client : ℕ) (name bytes : List ℕ) → IsSome (staged_since client name before.staged)
+      → staged_since client name after.staged ≡ None
       → staged_at client name before.blocks ≡ Some bytes → bytes_at name after.objects ≡ Some bytes
 
 -- contents that are known still are, and came from those before
@@ -67,10 +73,12 @@ pub record ContentsLater (before : Contents) (after : YardValue) : Type 0 where
   pub objects_are : after.depot.content ≡ Some objects
   pub blocks : StagedMap
   pub blocks_are : after.shelf.content ≡ Some blocks
-  pub published : IsPublishedFrom before (record { objects = objects; blocks = blocks; staged = after.staged })
+  pub published : IsPublishedFrom before
+      (record { objects = objects; blocks = blocks; staged = after.staged })
 
 abbrev pub contents_of : ObjectMap → StagedMap → YardValue → Contents
-contents_of objects blocks yard = record { objects = objects; blocks = blocks; staged = yard.staged }
+contents_of objects blocks yard =
+    record { objects = objects; blocks = blocks; staged = yard.staged }
 
 -- A yard that main takes after it gave another one: workers have published staged blocks and noted what they did, and nothing else. What
 -- this says of bytes stands where both devices are known and all copies of one name had equal bytes.
@@ -80,9 +88,13 @@ pub record Later (before after : YardValue) : Type 0 where
   pub by_workers : All (λ note. 0 < note.by) notes
   pub setting : after.setting ≡ before.setting
   pub last : after.last ≡ before.last
-  pub staged : (client : ℕ) (name : List ℕ) (since : ℕ) → staged_since client name after.staged ≡ Some since
+  pub staged : (client : ℕ) (name : List ℕ) (since : ℕ)
+      → staged_since client name after.staged ≡ Some since
       → staged_since client name before.staged ≡ Some since
-  pub gone : (client : ℕ) (name : List ℕ) → IsSome (staged_since client name before.staged) → staged_since client name after.staged ≡ None
+  pub gone : (client : ℕ) (name : List ℕ) → IsSome (staged_since client name before.staged)
+      → staged_since client name after.staged ≡ None
       → HasPublish before.setting notes client name
-  pub contents : (objects : ObjectMap) (blocks : StagedMap) → before.depot.content ≡ Some objects → before.shelf.content ≡ Some blocks
-      → AreAlike (contents_of objects blocks before) → ContentsLater (contents_of objects blocks before) after
+  pub contents : (objects : ObjectMap) (blocks : StagedMap) → before.depot.content ≡ Some objects
+      → before.shelf.content ≡ Some blocks
+      → AreAlike (contents_of objects blocks before)
+      → ContentsLater (contents_of objects blocks before) after

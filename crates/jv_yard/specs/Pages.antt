@@ -11,8 +11,10 @@ use Rattle.jv_yard.specs.Starting.{ShelfRefuses}
 use Rattle.jv_yard.specs.YardValue.{NamesBlock}
 
 -- listing a page, by the result
-abbrev pub ListsPage : Holding StagedMap → Holding StagedMap → ℕ → Option (List ℕ) → Result (List (List ℕ)) YardFault → Type 0
-ListsPage before after client last (Ok names) = (after ≡ before) × IfSome before.content (λ blocks. names ≡ names_after client last PAGE blocks)
+abbrev pub ListsPage : Holding StagedMap → Holding StagedMap → ℕ → Option (List ℕ)
+    → Result (List (List ℕ)) YardFault → Type 0
+ListsPage before after client last (Ok names) =
+    (after ≡ before) × IfSome before.content (λ blocks. names ≡ names_after client last PAGE blocks)
 ListsPage before after client last (Err fault) = ShelfRefuses before after fault
 
 -- the last name of a full page
@@ -20,6 +22,9 @@ abbrev pub next_after : List (List ℕ) → Option (List ℕ)
 next_after names = (if nat_lt (length names) PAGE then None else slice_get names (length names - 1))
 
 -- those of the names that are of blocks of the volume are staged since a moment that 0 stands for, and all others are as before
-pub record AddsNames (setting : Setting) (names : List (List ℕ)) (before after : ClientStaging) : Type 0 where
-  pub added : (name : List ℕ) → Contains names name → NamesBlock setting name → get after name ≡ Some 0
-  pub others : (name : List ℕ) → (get after name ≡ get before name) ⊎ (Contains names name × NamesBlock setting name × (get after name ≡ Some 0))
+pub record AddsNames (setting : Setting) (names : List (List ℕ))
+    (before after : ClientStaging) : Type 0 where
+  pub added : (name : List ℕ) → Contains names name → NamesBlock setting name
+      → get after name ≡ Some 0
+  pub others : (name : List ℕ) → (get after name ≡ get before name) ⊎ (Contains names name
+      × NamesBlock setting name × (get after name ≡ Some 0))

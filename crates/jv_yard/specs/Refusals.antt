@@ -24,6 +24,8 @@ yard_fault NoMemory = fault.NoMemory
 
 -- The named device failed and its count rose, or memory ran out. Nothing else has changed.
 abbrev pub Refuses : YardValue → YardValue → YardFault → Type 0
-Refuses before after Depot = FailsToHold before.depot after.depot Failed × (after ≡ record before { depot = after.depot })
-Refuses before after Shelf = FailsToHold before.shelf after.shelf Failed × (after ≡ record before { shelf = after.shelf })
+Refuses before after Depot =
+    FailsToHold before.depot after.depot Failed × (after ≡ record before { depot = after.depot })
+Refuses before after Shelf =
+    FailsToHold before.shelf after.shelf Failed × (after ≡ record before { shelf = after.shelf })
 Refuses before after NoMemory = after ≡ before

@@ -14,18 +14,23 @@ use Rattle.jv_yard.specs.YardValue.{YardValue, NamesBlock}
 
 -- A client's staged blocks are those on its shelf, where that is known, whose names are of blocks of the volume. The moment of their
 -- staging isn't known, and 0 stands for it.
-pub record IsFound (setting : Setting) (content : Option StagedMap) (client : ℕ) (found : ClientStaging) : Type 0 where
+pub record IsFound (setting : Setting) (content : Option StagedMap) (client : ℕ)
+    (found : ClientStaging) : Type 0 where
   pub first : (name : List ℕ) (at : ℕ) → get found name ≡ Some at → at ≡ 0
   pub names : (name : List ℕ) → IsSome (get found name) → NamesBlock setting name
-  pub only : IfSome content (λ blocks. (name : List ℕ) → IsSome (get found name) → IsSome (staged_at client name blocks))
-  pub all : IfSome content (λ blocks. (name : List ℕ) → NamesBlock setting name → IsSome (staged_at client name blocks) → get found name ≡ Some 0)
+  pub only : IfSome content (λ blocks. (name : List ℕ) → IsSome (get found name)
+      → IsSome (staged_at client name blocks))
+  pub all : IfSome content (λ blocks. (name : List ℕ) → NamesBlock setting name
+      → IsSome (staged_at client name blocks) → get found name ≡ Some 0)
 
 -- a yard without a past, over devices that are as before
-pub record IsStarted (setting : Setting) (depot : Holding ObjectMap) (shelf : Holding StagedMap) (yard : YardValue) : Type 0 where
+pub record IsStarted (setting : Setting) (depot : Holding ObjectMap) (shelf : Holding StagedMap)
+    (yard : YardValue) : Type 0 where
   pub depot_same : yard.depot ≡ depot
   pub shelf_same : yard.shelf ≡ shelf
   pub setting_is : yard.setting ≡ setting
-  pub staged_are : (client : ℕ) → client ≤ LAST_CLIENT → IsFound setting shelf.content client (yard.staged client)
+  pub staged_are : (client : ℕ) → client ≤ LAST_CLIENT
+      → IsFound setting shelf.content client (yard.staged client)
   pub no_others : (client : ℕ) → LAST_CLIENT < client → yard.staged client ≡ empty_map
   pub last_is : yard.last ≡ 0
   pub log_is : yard.log ≡ []
@@ -37,13 +42,17 @@ ShelfRefuses before after Shelf = FailsToHold before after Failed
 ShelfRefuses before after NoMemory = after ≡ before
 
 -- finding a client's staged blocks, by the result
-abbrev pub FindsStaged : Setting → Holding StagedMap → Holding StagedMap → ℕ → Result ClientStaging YardFault → Type 0
-FindsStaged setting before after client (Ok found) = (after ≡ before) × IsFound setting before.content client found
+abbrev pub FindsStaged : Setting → Holding StagedMap → Holding StagedMap → ℕ
+    → Result ClientStaging YardFault → Type 0
+FindsStaged setting before after client (Ok found) =
+    (after ≡ before) × IsFound setting before.content client found
 FindsStaged setting before after client (Err fault) = ShelfRefuses before after fault
 
 -- finding the staged blocks of each client, by the result
-abbrev pub FindsAll : Setting → Holding StagedMap → Holding StagedMap → Result (List ClientStaging) YardFault → Type 0
+abbrev pub FindsAll : Setting → Holding StagedMap → Holding StagedMap
+    → Result (List ClientStaging) YardFault → Type 0
 FindsAll setting before after (Ok found) = (after ≡ before)
-    × ((client : ℕ) → client ≤ LAST_CLIENT → IsFound setting before.content client (by_client found client))
+    × ((client : ℕ) → client ≤ LAST_CLIENT
+    → IsFound setting before.content client (by_client found client))
     × ((client : ℕ) → LAST_CLIENT < client → by_client found client ≡ empty_map)
 FindsAll setting before after (Err fault) = ShelfRefuses before after fault

@@ -19,9 +19,17 @@ pub record YardValue : Type 0 where
   pub last : ℕ
   pub log : List Note
 
-abbrev pub yard_value : Holding ObjectMap → Holding StagedMap → Setting → Staging → ℕ → List Note → YardValue
+abbrev pub yard_value : Holding ObjectMap → Holding StagedMap → Setting → Staging → ℕ → List Note
+    → YardValue
 yard_value depot shelf setting staged last log =
-    record { depot = depot; shelf = shelf; setting = setting; staged = staged; last = last; log = log }
+    record {
+      depot = depot;
+      shelf = shelf;
+      setting = setting;
+      staged = staged;
+      last = last;
+      log = log;
+    }
 
 -- a name is one of a block of the volume
 pub record NamesBlock (setting : Setting) (name : List ℕ) : Type 0 where
@@ -30,6 +38,8 @@ pub record NamesBlock (setting : Setting) (name : List ℕ) : Type 0 where
 
 -- each staged block of a client has the name of a block of the volume, and the client's shelf has it where the shelf is known
 pub record IsKept (yard : YardValue) : Type 0 where
-  pub names : (client : ℕ) (name : List ℕ) → client ≤ LAST_CLIENT → IsSome (staged_since client name yard.staged) → NamesBlock yard.setting name
-  pub there : (blocks : StagedMap) → yard.shelf.content ≡ Some blocks → (client : ℕ) (name : List ℕ) → client ≤ LAST_CLIENT
+  pub names : (client : ℕ) (name : List ℕ) → client ≤ LAST_CLIENT
+      → IsSome (staged_since client name yard.staged) → NamesBlock yard.setting name
+  pub there : (blocks : StagedMap) → yard.shelf.content ≡ Some blocks → (client : ℕ) (name : List ℕ)
+      → client ≤ LAST_CLIENT
       → IsSome (staged_since client name yard.staged) → IsSome (staged_at client name blocks)

@@ -1,6 +1,6 @@
 ghost use Rattle.std.specs.Prelude.{◌≡◌, ◌<◌, ◌≤◌, IfOk};
 ghost use Rattle.jv_yard.specs.BlockCalls.{IsBlockParcel};
-ghost use Rattle.jv_model.specs.declared.limits.TheConstants.{LAST_CLIENT};
+ghost use Rattle.jv_model.specs.declared.limits.TheConstants.{LAST_CLIENT, MAX_BLOCKS};
 
 use jv_model::{BlockId, ClientId, Moment, Name, Sequence, Setting, copied};
 use jv_outside::{
@@ -65,7 +65,7 @@ fn started(alloc: Global, fails: u64) -> Result<Option<Yard<MemDepot, MemShelf>>
 
 /// A parcel for a block of a slice of a volume.
 fn parcel(alloc: Global, setting: &Setting, index: u32) -> Result<Parcel, AllocError>
-    requires index { index < 1024 }
+    requires index { index < MAX_BLOCKS }
     requires block { 3 ≤ setting.now.block }
     ensures { IfOk result (IsBlockParcel setting.now) }
 {
@@ -82,7 +82,7 @@ fn put<D: Depot, H: Shelf>(
     yard: &mut Yard<D, H>,
     index: u32,
 ) -> Result<Option<YardFault>, AllocError>
-    requires { index < 1024 }
+    requires { index < MAX_BLOCKS }
 {
     if yard.setting().block < SIZE {
         return Ok(None);

@@ -204,8 +204,8 @@ pub fn written(alloc: Global, kind: &str, count: u32) -> Result<Option<u64>, Dow
     Ok(Some(u64::from(count)))
 }
 
-/// Writes rows of a kind `count` times, and reads as many. Returns the number of those that are there, and None where there
-/// is no such kind.
+/// Writes rows of a kind `count` times, and reads as many. Returns the number of those that are there, and None where
+/// there is no such kind.
 pub fn read(alloc: Global, kind: &str, count: u32) -> Result<Option<u64>, Down> {
     let Some(row) = sample(alloc, kind)? else {
         return Ok(None);

@@ -30,8 +30,8 @@ fn words(rt: &(impl Env + AllocGlobal)) -> io::Result<Vec<String>> {
     Ok(all.collect(rt.alloc())?)
 }
 
-/// A measure of rows of one kind, as `row-node-read`, or of a line's data in parts of one kind, as `parts-single-read`, at
-/// a size. None where there is no such measure.
+/// A measure of rows of one kind, as `row-node-read`, or of a line's data in parts of one kind, as `parts-single-read`,
+/// at a size. None where there is no such measure.
 fn measured_kind(alloc: Global, name: &str, size: u32) -> Result<Option<u64>, Down> {
     let Some((what, rest)) = name.split_once("-") else {
         return Ok(None);
@@ -72,8 +72,8 @@ fn measured(alloc: Global, name: &str, size: u32) -> Result<Option<u64>, Down> {
     Ok(Some(count))
 }
 
-/// A measure that is done `times` times over, so that small sizes take a time that can be measured. Returns what it counts
-/// the last time.
+/// A measure that is done `times` times over, so that small sizes take a time that can be measured. Returns what it
+/// counts the last time.
 fn repeated(alloc: Global, name: &str, size: u32, times: u32) -> Result<Option<u64>, Down> {
     let mut count = None;
     for _ in 0..times {

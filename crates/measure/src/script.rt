@@ -89,9 +89,9 @@ fn push_count(text: &mut Vec<u8>, count: u32) -> Result<(), AllocError> {
     Ok(())
 }
 
-/// A part: one byte, two bytes, three, one byte once, one byte one to nine times, one to four times; or by chance one byte or
-/// one byte once, one byte or, of sixteen, one four times, one byte or one byte ten times, or one byte, two, or one byte one to
-/// nine times. Or two parts: one byte and another once, or one byte four times and another.
+/// A part: one byte, two bytes, three, one byte once, one byte one to nine times, one to four times; or by chance one
+/// byte or one byte once, one byte or, of sixteen, one four times, one byte or one byte ten times, or one byte, two, or
+/// one byte one to nine times. Or two parts: one byte and another once, or one byte four times and another.
 fn push_part(text: &mut Vec<u8>, parts: Parts, number: u32) -> Result<(), AllocError> {
     push_byte(text, number)?;
     match (parts, number / 256 % 3) {
@@ -167,8 +167,8 @@ fn data(alloc: Global, count: u32) -> Result<Option<Bytes>, Down> {
     data_of(alloc, &text)
 }
 
-/// Spells a line that writes bytes in `count` parts of a kind. Returns the length of the line, or None where there is no
-/// such kind.
+/// Spells a line that writes bytes in `count` parts of a kind. Returns the length of the line, or None where there is
+/// no such kind.
 pub fn parts_spelled(alloc: Global, kind: &str, count: u32) -> Result<Option<u64>, Down> {
     let Some(parts) = parts_named(kind) else {
         return Ok(None);
@@ -190,8 +190,8 @@ pub fn parts_read(alloc: Global, kind: &str, count: u32) -> Result<Option<u64>, 
     }
 }
 
-/// Spells a line that writes bytes in `count` parts of a kind, reads it, and prints the answer that has the bytes again.
-/// Returns the length of the printed text, or None where there is no such kind.
+/// Spells a line that writes bytes in `count` parts of a kind, reads it, and prints the answer that has the bytes
+/// again. Returns the length of the printed text, or None where there is no such kind.
 pub fn parts_printed(alloc: Global, kind: &str, count: u32) -> Result<Option<u64>, Down> {
     let Some(parts) = parts_named(kind) else {
         return Ok(None);
@@ -228,8 +228,8 @@ pub fn data_read(alloc: Global, count: u32) -> Result<u64, Down> {
     }
 }
 
-/// Spells a line that writes `count` bytes, reads it, and prints the answer that has the bytes again. Returns the length
-/// of the printed text.
+/// Spells a line that writes `count` bytes, reads it, and prints the answer that has the bytes again. Returns the
+/// length of the printed text.
 pub fn data_printed(alloc: Global, count: u32) -> Result<u64, Down> {
     let bytes = data(alloc, count)?.unwrap_or(Sequence::new(alloc));
     let text = print_reply(alloc, &setting(alloc)?, &Reply::Data(bytes))?;

@@ -21,15 +21,16 @@
 //!   there is no first run.
 //! - `clock SECONDS` is what the clock answers, else 1000.
 //! - `fail DEVICE K ..` has these calls of a device fail, counted from 1. DEVICE is `source`, `out`, `err`, `clock`,
-//!   `keeper`, or one of the three for blocks: `depot`, `carrier` and `shelf`. Calls of a carrier are counted anew in each
-//!   run, and fail until one did.
+//!   `keeper`, or one of the three for blocks: `depot`, `carrier` and `shelf`. Calls of a carrier are counted anew in
+//!   each run, and fail until one did.
 //! - `in_pieces_of N`: the source returns, and `out` and `err` take, at most N bytes a call, else as many as there
 //!   are.
-//! - `rows none`: the keeper has no rows, else those of a volume `juicefs` that was formatted at moment 0. `row TAB A
-//!   B VALUE` is a row besides, or in place of the one with its key. B and VALUE are hexadecimal digits, in VALUE
-//!   with spaces between fields, or `-` for no bytes.
+//! - `rows fresh`: the keeper has the rows of a volume `juicefs` that was formatted at moment 0, as without this line.
+//!   `rows none`: it has no rows. `row TAB A B VALUE` is a row besides, or in place of the one with its key. B and
+//!   VALUE are hexadecimal digits, in VALUE with spaces between fields, or `-` for no bytes.
 //! - `object NAME BYTES MOMENT` is an object that the depot has, and `staged CLIENT NAME BYTES` a block that a client,
-//!   `A` to `H`, has staged on the shelf; without these both are empty. NAME has no space, and BYTES are as a row's VALUE.
+//!   `A` to `H`, has staged on the shelf; without these both are empty. NAME has no space, and BYTES are as a row's
+//!   VALUE.
 //! - `script`: all lines from the next one to a line `end` are lines of the script. `lines N TEXT` is a line that
 //!   stands N times, `text N TEXT` a text that stands N times and has no line feed, and `bytes HEX` are any bytes.
 //!   They follow one another in the script.
@@ -38,17 +39,17 @@
 //!
 //! What is done, in this order:
 //! - The first run is made. Printed are its status, the lines that `out` and standard error gained, the number of its
-//!   journal's entries, how often each device was called and failed, and the place where the keeper was opened. The counts
-//!   are those since the world was made. Of the three devices for blocks that is printed only in a scene with `show
-//!   blocks`; how often a carrier was called isn't.
-//! - Where the scene has a `list`, that run is made by the scene's words over the rows, objects and staged blocks that are
-//!   left, on a world of its own of which no call fails. Printed are the lines that `out` gained, and the status where that
-//!   isn't 0.
+//!   journal's entries, how often each device was called and failed, and the place where the keeper was opened. The
+//!   counts are those since the world was made. Of the three devices for blocks that is printed only in a scene with
+//!   `show blocks`; how often a carrier was called isn't.
+//! - Where the scene has a `list`, that run is made by the scene's words over the rows, objects and staged blocks that
+//!   are left, on a world of its own of which no call fails. Printed are the lines that `out` gained, and the status
+//!   where that isn't 0.
 //! - `for k FIRST..LAST DEVICE` makes the first run again, with call FIRST of the device failing, then with the next
 //!   one, up to LAST; DEVICE may be `each`, for all of them one after the other, those for blocks only in a scene with
 //!   `show blocks`. Printed is one line for each run that breaks the rule below, and a sum.
-//! - `again` makes a run on the world that the last one left, by the same words, and `again WORD ..` by these. Where the
-//!   scene has a script already, a `script` behind it is that of this run.
+//! - `again` makes a run on the world that the last one left, by the same words, and `again WORD ..` by these. Where
+//!   the scene has a script already, a `script` behind it is that of this run.
 //! - `try WORD ..` makes a run by these words on a world of its own, and `then LINE` one by the scene's words whose
 //!   script has one more line. Printed is one line: the status, the words or the line, and standard error, or where
 //!   that has gained nothing `out`; its first line for `try`, and its last one for `then`.
@@ -56,19 +57,19 @@
 //!   staged, each by its client, name and length.
 //! - `show rows` prints the rows that are left, each in the form in which a scene has it.
 //!
-//! The rule for a run in which one more call is to fail: where that call isn't made, nothing is different. Else it
-//! ends as the run without it, or with status 5 and the device's name on standard error; only that call fails; its
-//! answers are those of the run without it, or the first ones of them, but for one at most; and its rows, and what is
-//! listed of them, are those before, or those that the run without it leaves, but where it ends between two steps of a
-//! script. Where a call of the keeper, the depot, the carrier or the shelf fails inside an operation, exactly that operation
-//! is answered `err EIO` and the device's name, and the run goes on; if each line of the script is an operation that is run
-//! to its end, the other answers, the rows, and what is listed of them, are those of the run without that line. In a scene
-//! with `show blocks` rows are compared but for numbers of slices, of which a flush that fails has used one: without the
-//! tables of lists, slices and dead slices, and of the counters without the next slice.
+//! The rule for a run in which one more call is to fail: where that call isn't made, nothing is different. Else it ends
+//! as the run without it, or with status 5 and the device's name on standard error; only that call fails; its answers
+//! are those of the run without it, or the first ones of them, but for one at most; and its rows, and what is listed of
+//! them, are those before, or those that the run without it leaves, but where it ends between two steps of a script.
+//! Where a call of the keeper, the depot, the carrier or the shelf fails inside an operation, exactly that operation is
+//! answered `err EIO` and the device's name, and the run goes on; if each line of the script is an operation that is
+//! run to its end, the other answers, the rows, and what is listed of them, are those of the run without that line. In
+//! a scene with `show blocks` rows are compared but for numbers of slices, of which a flush that fails has used one:
+//! without the tables of lists, slices and dead slices, and of the counters without the next slice.
 //!
-//! Besides, where the rows of setting, lists and slices that it leaves can be read, each slice's count is the number of the
-//! records that name it in all lists; each record that names a slice has a row for it, with its size; and each block of a
-//! slice that has a row, by its name and length under the setting, is an object or staged by a client.
+//! Besides, where the rows of setting, lists and slices that it leaves can be read, each slice's count is the number of
+//! the records that name it in all lists; each record that names a slice has a row for it, with its size; and each
+//! block of a slice that has a row, by its name and length under the setting, is an object or staged by a client.
 //!
 //! A malformed line is refused with its number, and then nothing is run.
 #![tactic(auto)]
@@ -82,6 +83,15 @@ use jv_theatre::{Parts, Player, Stores, Streams, Theatre, push_scene};
 use std::alloc::{AllocError, Global};
 use std::io;
 use std::process::ExitCode;
+
+/// The exit status where a line is none of a scene.
+const NO_SCENES: u8 = 2;
+
+/// The exit status where standard input or standard output fails.
+const STREAM_FAILED: u8 = 5;
+
+/// The exit status if the process is out of memory.
+const OUT_OF_MEMORY: u8 = 6;
 
 /// A world of devices in memory.
 type MemWorld = World<MemSource, MemSink, MemSink, MemKeeper, MemDepot, MemShelf, MemClock>;
@@ -110,7 +120,8 @@ impl Player for Program {
     }
 }
 
-/// Runs words over what a world is made of, with this carrier. Returns the status, and what is left but for the carrier.
+/// Runs words over what a world is made of, with this carrier. Returns the status, and what is left but for the
+/// carrier.
 fn run_on(alloc: Global, words: &[String], parts: Parts, sends: Box<dyn Carrier>) -> (u8, Parts) {
     let Parts {
         streams: Streams { source, out, err },
@@ -211,11 +222,14 @@ fn report_stop(rt: &HostRuntime, stop: Stop) -> u8 {
     let (status, why) = match stop {
         Stop::Scenes(BadScenes { number, why }) => {
             let _ = eprint!(rt; "scenes: line {number}: ");
-            (2, why.text())
+            (NO_SCENES, why.text())
         }
-        Stop::NotRead => (5, "scenes: standard input can't be read as text"),
-        Stop::NotPrinted => (5, "scenes: standard output failed"),
-        Stop::OutOfMemory => (6, "scenes: out of memory"),
+        Stop::NotRead => (
+            STREAM_FAILED,
+            "scenes: standard input can't be read as text",
+        ),
+        Stop::NotPrinted => (STREAM_FAILED, "scenes: standard output failed"),
+        Stop::OutOfMemory => (OUT_OF_MEMORY, "scenes: out of memory"),
     };
     let _ = eprintln!(rt; "{why}");
     status

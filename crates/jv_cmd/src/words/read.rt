@@ -7,7 +7,7 @@ ghost use Rattle.jv_cmd.specs.Values.{block_size_of, number_within, place_of};
 ghost use Rattle.jv_cmd.specs.Words.{Answers, Parses, Reads, Refuses, asked, command_at, format_in, has_text, options_in, seed_of, session_in, setting_in, setting_fields_in, stored_setting_in, value_in, where_allowed};
 
 use super::program::program;
-use super::refusal::{refused, told};
+use super::refusal::{refused, refused_by_clap};
 use super::request::{Command, SessionOptions, WordsFault};
 use super::values::{block_size, number_within, place, seed};
 use clap::ArgMatches;
@@ -58,7 +58,7 @@ fn parse<'a>(alloc: Global, words: &'a [String]) -> Result<ArgMatches<'a>, Words
 {
     match program(alloc)?.try_get_matches_from(words) {
         Ok(matches) => Ok(matches),
-        Err(error) => Err(told(alloc, words, &error)),
+        Err(error) => Err(refused_by_clap(alloc, words, &error)),
     }
 }
 

@@ -21,7 +21,7 @@ pub(crate) fn refused(alloc: Global) -> WordsFault
 
 /// The refusal of words that `clap` refuses, in its own words where they are of a command that is built.
 #[tactic(auto, using(crate::proofs::AskedLaws::feed_of_own))]
-pub(crate) fn told(alloc: Global, words: &[String], error: &Error) -> WordsFault
+pub(crate) fn refused_by_clap(alloc: Global, words: &[String], error: &Error) -> WordsFault
     ensures memory { kind_of error.now ≡ OutOfMemory → result ≡ WordsFault.Memory }
     ensures feed { HasFeed result }
 {
@@ -60,8 +60,8 @@ fn text_of(alloc: Global, error: &Error) -> Result<String, AllocError>
     Ok(kept)
 }
 
-/// The lines of a text of `clap`, without those that guess at what was meant and the blank line above them. Where there is
-/// a guess the usage is one of them: it names the option that is taken for meant.
+/// The lines of a text of `clap`, without those that guess at what was meant and the blank line above them. Where there
+/// is a guess the usage is one of them: it names the option that is taken for meant.
 fn without_hints(alloc: Global, text: &str) -> Result<String, AllocError> {
     let has_guess = text.lines().any(is_tip);
     let mut kept = String::new(alloc);

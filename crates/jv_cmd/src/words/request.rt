@@ -31,7 +31,8 @@ pub struct SessionOptions {
     pub cache: u64,
     /// The most pending bytes in MiB, from [`jv_model::options::MIN_BUFFER`] to [`jv_model::options::MAX_BUFFER`].
     pub buffer: u64,
-    /// Uploads at once, at most [`jv_model::options::MAX_UPLOADS`]; with 0 there are none but those that a script line asks for.
+    /// Uploads at once, at most [`jv_model::options::MAX_UPLOADS`]; with 0 there are none but those that a script line
+    /// asks for.
     pub uploads: u32,
     /// Written blocks are staged first, and uploaded later.
     pub writeback: bool,

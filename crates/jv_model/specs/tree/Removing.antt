@@ -1,11 +1,12 @@
 -- Entries removed, by POSIX.1-2017's "unlinkat" and "rmdir", with the trash (JuiceFS, "Trash"), and with files that stay
 -- without an entry while a session has them open.
 use Rattle.std.specs.Prelude.{ℕ, ◌&&◌, ◌||◌, Bool, not, ◌==◌, nat_lt, if◌then◌else◌, List, Result}
+use Rattle.jv_model.specs.declared.limits.TheConstants.{TRASH_ROOT}
 use Rattle.jv_model.specs.declared.fault.Fault.{Fault}
 use Rattle.jv_model.specs.declared.fault.Fault.TheVariants.{NotFound, NotADirectory, DirectoryNotEmpty, NotPermitted}
 use Rattle.jv_model.specs.tree.Attempt.{◌>>=◌, require, some_or}
 use Rattle.jv_model.specs.FiniteMap.{get, insert}
-use Rattle.jv_model.specs.tree.Tree.{Tree, EntryKey, trash_root, in_trash, is_directory, has_entries, entry_count}
+use Rattle.jv_model.specs.tree.Tree.{Tree, EntryKey, in_trash, is_directory, has_entries, entry_count}
 use Rattle.jv_model.specs.tree.Changes.{status_changed, change_node, drop_node, take_entry}
 use Rattle.jv_model.specs.tree.Walk.{entry_of, is_trash}
 use Rattle.jv_model.specs.tree.Trash.{trashed}
@@ -14,7 +15,7 @@ use Rattle.jv_model.specs.Lists.{is_among}
 
 -- neither `.trash` nor one of its hours is removed or renamed
 abbrev pub may_go : EntryKey → Bool
-may_go place = not ((place.dir == trash_root) || is_trash place.dir place.name)
+may_go place = not ((place.dir == TRASH_ROOT) || is_trash place.dir place.name)
 
 -- what becomes of a file or a symlink that loses an entry
 pub data Fate : Type 0 where

@@ -1,5 +1,6 @@
 -- Entries renamed, by POSIX.1-2017's "renameat" and Linux's "renameat2" with RENAME_NOREPLACE and RENAME_EXCHANGE.
 use Rattle.std.specs.Prelude.{ℕ, zero, suc, Bool, true, false, ◌&&◌, ◌||◌, not, ◌==◌, List, is_some, Option, None, Some, Result}
+use Rattle.jv_model.specs.declared.limits.TheConstants.{ROOT}
 use Rattle.jv_model.specs.declared.basics.How.{How}
 use Rattle.jv_model.specs.declared.basics.How.TheVariants.{Plain, NoReplace, Exchange}
 use Rattle.jv_model.specs.declared.fault.Fault.{Fault}
@@ -7,7 +8,7 @@ use Rattle.jv_model.specs.declared.fault.Fault.TheVariants.{NotFound, AlreadyExi
 use Rattle.jv_model.specs.declared.fault.Fault.TheVariants.{DirectoryNotEmpty, Invalid, NoSpace, NotPermitted}
 use Rattle.jv_model.specs.tree.Attempt.{◌>>=◌, require, some_or}
 use Rattle.jv_model.specs.FiniteMap.{get, key_count}
-use Rattle.jv_model.specs.tree.Tree.{Tree, Node, Kind, File, Directory, Symlink, EntryKey, root, parent_at, is_directory}
+use Rattle.jv_model.specs.tree.Tree.{Tree, Node, Kind, File, Directory, Symlink, EntryKey, parent_at, is_directory}
 use Rattle.jv_model.specs.tree.Tree.{has_entries, links_fit}
 use Rattle.jv_model.specs.tree.Changes.{status_changed, change_node, put_entry, take_entry}
 use Rattle.jv_model.specs.tree.Walk.{entry_of}
@@ -25,7 +26,7 @@ unfoldable pub is_within : ℕ → Tree → ℕ → ℕ → Bool
 is_within zero t dir above = dir == above
 is_within (suc steps) t dir above = (dir == above) || elim (parent_at t dir) [
   | None ↦ false
-  | Some parent ↦ not (dir == root) && is_within steps t parent above
+  | Some parent ↦ not (dir == ROOT) && is_within steps t parent above
 ]
 
 -- whether an inode is a directory that another one is, or lies below; no way up to the root is longer than the number of

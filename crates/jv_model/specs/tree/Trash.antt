@@ -2,21 +2,21 @@
 -- volume's days. The names there, and the inodes of hours, are this project's own.
 use Rattle.std.specs.Prelude.{ℕ, ◌+◌, ◌-◌, ◌*◌, Bool, ◌&&◌, ◌==◌, nat_le, if◌then◌else◌, List, ◌∷◌, ◌++◌, take, Option, None, Some, decimal}
 use Rattle.std.specs.Option.{option_map}
-use Rattle.jv_model.specs.declared.limits.TheConstants.{MAX_NAME, READ_ONLY_MODE}
+use Rattle.jv_model.specs.declared.limits.TheConstants.{MAX_NAME, READ_ONLY_MODE, TRASH_ROOT}
 use Rattle.jv_model.specs.declared.lifetimes.TheConstants.{HOUR, DAY, FIRST_HOUR}
 use Rattle.jv_model.specs.declared.setting.Setting.{Setting}
 use Rattle.jv_model.specs.FiniteMap.{remove, first_where}
-use Rattle.jv_model.specs.tree.Tree.{Tree, Directory, EntryKey, new_node, trash_root, node_at, trash_entry}
+use Rattle.jv_model.specs.tree.Tree.{Tree, Directory, EntryKey, new_node, node_at, trash_entry}
 use Rattle.jv_model.specs.tree.Changes.{status_changed, change_node, drop_node, put_entry, with_node}
 use Rattle.jv_model.specs.tree.HourNames.{hour_at, hour_name}
 
 -- The inode of an hour's directory is the trash's and the hour. Hour 0 would have the trash's own, and has another.
 abbrev pub hour_inode : ℕ → ℕ
-hour_inode hour = (if hour == 0 then FIRST_HOUR else trash_root + hour)
+hour_inode hour = (if hour == 0 then FIRST_HOUR else TRASH_ROOT + hour)
 
 -- the hour of such a directory
 abbrev pub hour_of : ℕ → ℕ
-hour_of inode = (if inode == FIRST_HOUR then 0 else inode - trash_root)
+hour_of inode = (if inode == FIRST_HOUR then 0 else inode - TRASH_ROOT)
 
 -- what an hour took is due once the volume's days have passed since the hour's end
 abbrev pub is_due : Setting → ℕ → ℕ → Bool
@@ -27,12 +27,12 @@ abbrev pub due_after : ℕ → Setting → ℕ
 due_after now setting = now + setting.trash_days * DAY
 
 abbrev pub hour_place : ℕ → EntryKey
-hour_place hour = record { dir = trash_root; name = hour_name hour }
+hour_place hour = record { dir = TRASH_ROOT; name = hour_name hour }
 
 -- the tree with the directory of an hour
 unfoldable pub with_hour : Tree → ℕ → ℕ → Tree
 with_hour t now hour = elim (node_at t (hour_inode hour)) [
-  | None ↦ with_node t now (hour_place hour) (hour_inode hour) (new_node (Directory trash_root) READ_ONLY_MODE now)
+  | None ↦ with_node t now (hour_place hour) (hour_inode hour) (new_node (Directory TRASH_ROOT) READ_ONLY_MODE now)
   | Some node ↦ t
 ]
 
@@ -52,7 +52,7 @@ trashed t now place inode =
 -- the directory of the least hour that is due
 abbrev pub due_hour : Tree → ℕ → Option ℕ
 due_hour t now = option_map (λ e. e.1)
-    (first_where (λ key inode. (key.dir == trash_root) && is_due t.setting now (hour_of inode)) t.entries)
+    (first_where (λ key inode. (key.dir == TRASH_ROOT) && is_due t.setting now (hour_of inode)) t.entries)
 
 -- the first entry of a directory
 abbrev pub first_in : Tree → ℕ → Option (EntryKey × ℕ)

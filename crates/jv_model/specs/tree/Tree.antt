@@ -83,16 +83,9 @@ pub record Tree : Type 0 where
   pub next_inode : ℕ
   pub next_session : ℕ
 
-abbrev pub root : ℕ
-root = ROOT
-
--- the trash, which has no entry: a walk finds it as `.trash` in the root
-abbrev pub trash_root : ℕ
-trash_root = TRASH_ROOT
-
 -- whether a directory is the trash or one of its hours, whose inodes follow it
 abbrev pub in_trash : ℕ → Bool
-in_trash dir = nat_le trash_root dir
+in_trash dir = nat_le TRASH_ROOT dir
 
 abbrev pub new_node : Kind → ℕ → ℕ → Node
 new_node kind mode now = record { kind = kind; mode = mode; uid = 0; gid = 0; mtime = now; ctime = now }
@@ -101,8 +94,8 @@ new_node kind mode now = record { kind = kind; mode = mode; uid = 0; gid = 0; mt
 abbrev pub fresh_tree : Setting → ℕ → Tree
 fresh_tree setting now = record {
   setting = setting;
-  nodes = insert (insert empty_map root (new_node (Directory root) FULL_MODE now))
-      trash_root (new_node (Directory root) READ_ONLY_MODE now);
+  nodes = insert (insert empty_map ROOT (new_node (Directory ROOT) FULL_MODE now))
+      TRASH_ROOT (new_node (Directory ROOT) READ_ONLY_MODE now);
   entries = empty_map;
   sessions = empty_map;
   sustained = empty_map;
@@ -112,7 +105,7 @@ fresh_tree setting now = record {
 
 -- Used space and used inodes count neither the root nor the trash's own directories, whose inodes begin at the trash root.
 abbrev pub is_counted : ℕ → Bool
-is_counted inode = not (inode == root) && nat_lt inode trash_root
+is_counted inode = not (inode == ROOT) && nat_lt inode TRASH_ROOT
 
 -- a length in whole units of space, at least one
 abbrev pub paged : ℕ → ℕ

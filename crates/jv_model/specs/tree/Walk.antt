@@ -2,13 +2,13 @@
 -- end is ignored, also behind a symlink, where POSIX would follow it.
 use Rattle.std.specs.Prelude.{ℕ, zero, suc, Bool, true, false, ◌&&◌, ◌||◌, not, ◌==◌, nat_le, if◌then◌else◌, List, []}
 use Rattle.std.specs.Prelude.{◌∷◌, ◌++◌, filter, length, Option, None, Some, Result, Ok, Err, codes, bytes_eq}
-use Rattle.jv_model.specs.declared.limits.TheConstants.{MAX_NAME, MAX_PATH}
+use Rattle.jv_model.specs.declared.limits.TheConstants.{MAX_NAME, MAX_PATH, ROOT, TRASH_ROOT}
 use Rattle.jv_model.specs.declared.limits.TheConstants.{MAX_SYMLINKS}
 use Rattle.jv_model.specs.declared.fault.Fault.{Fault}
 use Rattle.jv_model.specs.declared.fault.Fault.TheVariants.{NotFound, NotADirectory, Invalid, NameTooLong, SymlinkLoop}
 use Rattle.jv_model.specs.tree.Attempt.{◌>>=◌, require, some_or}
 use Rattle.jv_model.specs.FiniteMap.{get}
-use Rattle.jv_model.specs.tree.Tree.{Tree, EntryKey, root, trash_root, parent_at, target_at, is_directory}
+use Rattle.jv_model.specs.tree.Tree.{Tree, EntryKey, parent_at, target_at, is_directory}
 use Rattle.jv_model.specs.Lists.{is_nil, parted, last_item}
 
 -- whether a path or a target begins at the root
@@ -32,13 +32,13 @@ is_dot_dot name = bytes_eq name (codes "..")
 
 -- whether the name is `.trash` in the root
 abbrev pub is_trash : ℕ → List ℕ → Bool
-is_trash dir name = (dir == root) && bytes_eq name (codes ".trash")
+is_trash dir name = (dir == ROOT) && bytes_eq name (codes ".trash")
 
 -- the inode that a name leads to from a directory with this parent
 abbrev pub named_from : Tree → ℕ → ℕ → List ℕ → Result ℕ Fault
 named_from t dir parent name = (if is_dot name then Ok dir
     else if is_dot_dot name then Ok parent
-    else if is_trash dir name then Ok trash_root
+    else if is_trash dir name then Ok TRASH_ROOT
     else some_or (get t.entries (record { dir = dir; name = name })) NotFound)
 
 -- one name of a walk
@@ -59,7 +59,7 @@ walk_names again t follow inode (name ∷ names) = do
   next ← stepped t inode name
   elim (way_on t follow names next) [
     | None ↦ walk_names again t follow next names
-    | Some target ↦ again (if is_absolute target then root else inode) (names_of target ++ names)
+    | Some target ↦ again (if is_absolute target then ROOT else inode) (names_of target ++ names)
   ]
 
 -- A walk that may still follow `left` symlinks. A symlink is replaced by its target, which is walked from the root where
@@ -72,7 +72,7 @@ walk (suc left) t follow inode names = walk_names (λ at rest. walk left t follo
 abbrev pub inode_by : Bool → Tree → List ℕ → Result ℕ Fault
 inode_by follow t path = do
   _ ← require (nat_le (length path) MAX_PATH) NameTooLong
-  walk MAX_SYMLINKS t follow root (names_of path)
+  walk MAX_SYMLINKS t follow ROOT (names_of path)
 
 -- the inode that a path leads to
 abbrev pub inode_of : Tree → List ℕ → Result ℕ Fault
@@ -95,7 +95,7 @@ entry_of t path = do
   _ ← require (nat_le (length path) MAX_PATH) NameTooLong
   name ← some_or (last_item (names_of path)) Invalid
   _ ← require (not (is_dot name || is_dot_dot name)) Invalid
-  dir ← walk MAX_SYMLINKS t true root (all_but_last (names_of path))
+  dir ← walk MAX_SYMLINKS t true ROOT (all_but_last (names_of path))
   _ ← require (is_directory t dir) NotADirectory
   _ ← require (nat_le (length name) MAX_NAME) NameTooLong
   Ok (record { dir = dir; name = name })

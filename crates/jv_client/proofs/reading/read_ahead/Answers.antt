@@ -1,5 +1,5 @@
--- What was read is what the views show.
-use Rattle.jv_client.proofs.ReadingLaws.{reads-all}
+-- What is needed isn't in the cache, and what was read is what the views show.
+use Rattle.jv_client.proofs.ReadingLaws.{asks-lacks, reads-all}
 use Rattle.jv_client.proofs.reading.read_ahead.Goals as goal
 
 pub returns-in_ok-first-in-Nothing-clause-comes : goal.returns-in_ok-first-in-Nothing-clause-comes
@@ -9,3 +9,12 @@ returns-in_ok-first-in-Nothing-clause-comes c =
     reads-all c.args.views.now c.args.cache.now c.args.fetch c.advance.new.self c.in_ok-need.need
     (record { first = read.first; second = read.second; bytes = read.bytes })
     went.block c.in-Nothing.is went.wants went.reads read.ensures.parts
+
+pub returns-in_default-clause-comes : goal.returns-in_default-clause-comes
+returns-in_default-clause-comes c =
+    let went = c.in_ok-need.ensures in (
+      record { block = went.block; can = went.can; few = went.falls; fewer = went.begins_part; reads = went.reads },
+      went.wants,
+      c.in_default.not-Nothing,
+      asks-lacks c.in_ok-need.need _ c.args.cache.now c.advance.new.cache went.asks,
+    )

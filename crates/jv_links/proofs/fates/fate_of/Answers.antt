@@ -2,13 +2,13 @@ use Rattle.std.proofs.Common.{◌≡◌, refl, Bool, true, false, Option, Ok, sy
 use Rattle.std.specs.Prelude.{◌&&◌, ◌==◌, nat_lt}
 use Rattle.std.proofs.lemmas.Bool.{le-ltb, lt-ltb}
 use Rattle.std.specs.List.{list_any}
+use Rattle.jv_model.specs.declared.limits.TheConstants.{TRASH_ROOT}
 use Rattle.jv_model.specs.declared.fault.Fault.TheVariants.{Stale}
 use Rattle.jv_model.specs.declared.fault.Gone.TheVariants.{Node as GoneNode}
 use Rattle.jv_model.specs.declared.row.Node.{Node}
 use Rattle.jv_model.specs.declared.row.Row.TheVariants.{OfNode}
 use Rattle.jv_model.specs.rows.RowGrammar.{is_node}
 use Rattle.jv_model.specs.rows.RowPlaces.{node_key}
-use Rattle.jv_model.specs.tree.Tree.{trash_root}
 use Rattle.jv_rows.specs.Drafts.{Sees}
 use Rattle.jv_links.specs.Removals.{MayLose}
 use Rattle.jv_links.specs.declared.fates.Fate.TheVariants.{Trashed, Dropped, Sustained}
@@ -56,8 +56,8 @@ returns-then-dir-lt-TRASH_ROOT-clause-says g c caller place in_dir is_for =
     (g.K.Keeper.seen c.args.k.now) (g.K.Keeper.seen c.node.new.k) (Ok o)) c.in-Some.is c.in_ok-node.ensures)
     (g.K.Keeper.seen c.needed_setting.new.k) c.in_ok-setting.setting c.in_ok-setting.ensures c.args.dir in_dir
     c.args.who.now.held is_for.held (le-ltb 1 c.in-Some.node.nlink c.if-node-gt1.false)
-    (ap (λ b. b && nat_lt c.args.dir trash_root) (lt-ltb 0 c.in_ok-setting.setting.trash_days c.if-setting-gt0.true)
-    ∙ lt-ltb c.args.dir trash_root c.if-dir-lt-TRASH_ROOT.true)
+    (ap (λ b. b && nat_lt c.args.dir TRASH_ROOT) (lt-ltb 0 c.in_ok-setting.setting.trash_days c.if-setting-gt0.true)
+    ∙ lt-ltb c.args.dir TRASH_ROOT c.if-dir-lt-TRASH_ROOT.true)
 
 pub returns-then-contains-clause-does : goal.returns-then-contains-clause-does
 returns-then-contains-clause-does g c caller place in_dir is_for =
@@ -77,9 +77,9 @@ returns-then-contains-clause-says g c caller place in_dir is_for =
     c.args.who.now.held is_for.held (le-ltb 1 c.in-Some.node.nlink c.if-node-gt1.false)
     (elim c.else-setting-gt0.branch [
       | else-setting-gt0-via-then-setting-gt0+else-dir-lt-TRASH_ROOT w ↦
-          both_false (nat_lt 0 c.in_ok-setting.setting.trash_days) (nat_lt c.args.dir trash_root)
-          (le-ltb c.args.dir trash_root w.if-dir-lt-TRASH_ROOT.false)
-      | else-setting-gt0-via-else-setting-gt0 w ↦ ap (λ b. b && nat_lt c.args.dir trash_root)
+          both_false (nat_lt 0 c.in_ok-setting.setting.trash_days) (nat_lt c.args.dir TRASH_ROOT)
+          (le-ltb c.args.dir TRASH_ROOT w.if-dir-lt-TRASH_ROOT.false)
+      | else-setting-gt0-via-else-setting-gt0 w ↦ ap (λ b. b && nat_lt c.args.dir TRASH_ROOT)
           (le-ltb 0 c.in_ok-setting.setting.trash_days w.if-setting-gt0.false)
     ])
     (ap (list_any (λ h. h == c.args.inode)) (sym c.as_slice.ensures) ∙ sym c.contains.ensures.value
@@ -103,9 +103,9 @@ returns-clause-says g c caller place in_dir is_for =
     c.args.who.now.held is_for.held (le-ltb 1 c.in-Some.node.nlink c.if-node-gt1.false)
     (elim c.else-setting-gt0.branch [
       | else-setting-gt0-via-then-setting-gt0+else-dir-lt-TRASH_ROOT w ↦
-          both_false (nat_lt 0 c.in_ok-setting.setting.trash_days) (nat_lt c.args.dir trash_root)
-          (le-ltb c.args.dir trash_root w.if-dir-lt-TRASH_ROOT.false)
-      | else-setting-gt0-via-else-setting-gt0 w ↦ ap (λ b. b && nat_lt c.args.dir trash_root)
+          both_false (nat_lt 0 c.in_ok-setting.setting.trash_days) (nat_lt c.args.dir TRASH_ROOT)
+          (le-ltb c.args.dir TRASH_ROOT w.if-dir-lt-TRASH_ROOT.false)
+      | else-setting-gt0-via-else-setting-gt0 w ↦ ap (λ b. b && nat_lt c.args.dir TRASH_ROOT)
           (le-ltb 0 c.in_ok-setting.setting.trash_days w.if-setting-gt0.false)
     ])
     (ap (list_any (λ h. h == c.args.inode)) (sym c.as_slice.ensures) ∙ sym c.contains.ensures.value

@@ -1,6 +1,6 @@
 use Rattle.std.proofs.Common.{eq-eqb, ne_eqb, le-leb}
 use Rattle.std.proofs.lemmas.Bool.{lt-leb}
-use Rattle.jv_model.specs.tree.Tree.{trash_root}
+use Rattle.jv_model.specs.declared.limits.TheConstants.{TRASH_ROOT}
 use Rattle.jv_rows.proofs.TransactionLaws.{looks-exit}
 use Rattle.jv_links.specs.Linkable.{linkable}
 use Rattle.jv_links.proofs.LinkableLaws.{linkable-directory, linkable-no_entry, linkable-trashed, linkable-found}
@@ -31,7 +31,7 @@ returns-then-entry-ge-TRASH_ROOT g c =
     (g.K.Keeper.seen c.walk_to.new.k) c.in_ok-node.node c.in_ok-node.ensures
     (ne_eqb c.in_ok-node.node.node.kind 2 c.if-node-eq2.false)
     (g.K.Keeper.seen c.walk_to_entry.new.k) c.in_ok-entry.entry c.in_ok-entry.ensures
-    (le-leb trash_root c.in_ok-entry.entry.dir.inode c.if-entry-ge-TRASH_ROOT.true)
+    (le-leb TRASH_ROOT c.in_ok-entry.entry.dir.inode c.if-entry-ge-TRASH_ROOT.true)
 
 pub returns : goal.returns
 returns g c =
@@ -40,4 +40,4 @@ returns g c =
     (g.K.Keeper.seen c.walk_to.new.k) c.in_ok-node.node c.in_ok-node.ensures
     (ne_eqb c.in_ok-node.node.node.kind 2 c.if-node-eq2.false)
     (g.K.Keeper.seen c.walk_to_entry.new.k) c.in_ok-entry.entry c.in_ok-entry.ensures
-    (lt-leb trash_root c.in_ok-entry.entry.dir.inode c.if-entry-ge-TRASH_ROOT.false)
+    (lt-leb TRASH_ROOT c.in_ok-entry.entry.dir.inode c.if-entry-ge-TRASH_ROOT.false)

@@ -1,7 +1,7 @@
 use Rattle.std.proofs.Common.{◌≡◌, ◌+◌, ◌∙◌, ◌++◌, ℕ, List, [], ◌∷◌, is_some, ap, sym, subst, arith}
 use Rattle.jv_pending.specs.Runs.{Run, place_of, bytes_at, Rise, runs_before, runs_from, with_runs}
 use Rattle.jv_pending.proofs.PartLaws.{cut_rise}
-use Rattle.jv_pending.proofs.OutcomeLaws.{some_value}
+use Rattle.jv_model.proofs.TestLaws.{some_of}
 use Rattle.jv_pending.proofs.EntryLaws.{left_there, settled}
 use Rattle.jv_pending.proofs.place.put_over.Goals as goal
 
@@ -15,7 +15,7 @@ swap_bytes-requires-clause-rise c =
 
 pub swap_bytes-requires-clause-there : goal.swap_bytes-requires-clause-there
 swap_bytes-requires-clause-there c =
-    let v = some_value _ c.requires.there in
+    let v = some_of _ c.requires.there in
     ap is_some (ap (bytes_at c.args.start) (left (place_of c.args.start) (place_of c.args.end) (place_of c.next.result) c.args.runs.now.entries c.remove_runs.new.runs.entries c.next.ensures.place c.remove_runs.ensures) ∙ left_there c.args.start c.requires.start c.args.runs.now.entries c.requires.rise v.0 (place_of c.args.end) c.requires.forward v.1)
 
 pub returns : goal.returns

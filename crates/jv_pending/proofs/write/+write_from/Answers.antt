@@ -3,7 +3,7 @@ use Rattle.std.proofs.lemmas.List.{take-take, take-append-drop, drop_all, append
 use Rattle.jv_pending.specs.declared.run.RunStart.{RunStart}
 use Rattle.jv_pending.specs.Runs.{place, gap, Rise, Starts, Writes}
 use Rattle.jv_pending.proofs.PartLaws.{with_rise}
-use Rattle.jv_pending.proofs.OutcomeLaws.{some_value}
+use Rattle.jv_model.proofs.TestLaws.{some_of}
 use Rattle.jv_pending.proofs.EntryLaws.{one_rises, there_before}
 use Rattle.jv_pending.proofs.WrittenLaws.{no_gap, reaches_here, starts_behind, border_fits, border_written}
 use Rattle.jv_pending.proofs.write.+write_from.Goals as goal
@@ -42,7 +42,7 @@ put_over-requires-clause-there t c =
     let from = c.requires.starts.touches.from_is in
     let fits = c.requires.file in
     let more = c.if-bytes-room.false in
-    let some = some_value _ c.in_ok-taken.ensures.there in
+    let some = some_of _ c.in_ok-taken.ensures.there in
     ap is_some (there_before first (place first.inode (c.args.from + (WINDOW - c.args.from % WINDOW))) c.take_run.new.runs.entries c.write_from.new.runs.entries some.0
     (omega arith) (omega arith) c.in_ok-taken.ensures.rise c.in-Ok.ensures.rise c.in-Ok.ensures.ok.before some.1)
 

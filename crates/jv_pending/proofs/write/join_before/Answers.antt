@@ -1,8 +1,7 @@
 use Rattle.std.proofs.Common.{◌+◌, ◌-◌, ◌∙◌, ◌++◌, ℕ, List, [], ◌∷◌, length, drop, is_some, ap, sym, subst, arith}
-use Rattle.jv_model.proofs.TestLaws.{some_same}
+use Rattle.jv_model.proofs.TestLaws.{some_of, some_same}
 use Rattle.jv_pending.specs.Runs.{place_of, bytes_at, Rise, with_runs}
 use Rattle.jv_pending.proofs.PartLaws.{with_with}
-use Rattle.jv_pending.proofs.OutcomeLaws.{some_value}
 use Rattle.jv_pending.proofs.TouchedLaws.{last_file, last_there, tail_there}
 use Rattle.jv_pending.proofs.EntryLaws.{one_rises, swap_rises, swap_over, put_there, put_back, kept_there}
 use Rattle.jv_pending.proofs.write.join_before.Goals as goal
@@ -44,7 +43,7 @@ put_over-requires-clause-there c =
     let l = c.requires.last in
     let rs = c.args.runs.now.entries in
     let f = last_file (place_of c.args.end) rs (c.args.last, l.bytes) c.requires.rise l.is_last in
-    let v = some_value _ c.requires.there in
+    let v = some_of _ c.requires.there in
     ap is_some (ap (bytes_at c.args.first) c.swap_bytes-run.ensures.runs ∙ kept_there c.args.first c.args.last rs v.0 c.new.result c.requires.start f.0 l.behind c.requires.rise v.1)
 
 pub swap_bytes-requires-clause-rise : goal.swap_bytes-requires-clause-rise

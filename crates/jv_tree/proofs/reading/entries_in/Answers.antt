@@ -1,6 +1,7 @@
 use Rattle.std.proofs.Common.{ℕ, ◌<◌, ◌^◌, sym, ap, subst, ◌∙◌, arith}
+use Rattle.jv_model.proofs.TestLaws.{none_unless}
 use Rattle.jv_tree.specs.Directories.{last_of}
-use Rattle.jv_tree.proofs.PageLaws.{read-start, read-more, fewer-left, IsEnd, Other, NoMore, no_key}
+use Rattle.jv_tree.proofs.PageLaws.{read-start, read-more, fewer-left, IsEnd, Other, NoMore}
 use Rattle.jv_tree.proofs.EntryReadLaws.{page-unread, pages-read}
 use Rattle.jv_tree.proofs.reading.entries_in.Goals as goal
 use Rattle.jv_tree.proofs.reading.entries_in.Goals.{in_default-via-in-Some+else-all, in_default-via-in_default}
@@ -34,5 +35,5 @@ returns-in_default g c =
     c.in_ok-page.ensures c.in_ok-all.ensures.0 (omega arith)
     (elim c.in_default.branch [
       | in_default-via-in-Some+else-all w ↦ Other (sym c.in_ok-all.ensures.1 ∙ w.if-all.false)
-      | in_default-via-in_default w ↦ NoMore (no_key (last_of c.in_ok-page.page) (λ key is. w.in_default.not-Some key (c.in_ok-next.ensures ∙ ap last_of c.as_slice.ensures ∙ is)))
+      | in_default-via-in_default w ↦ NoMore (none_unless (last_of c.in_ok-page.page) (λ key is. w.in_default.not-Some key (c.in_ok-next.ensures ∙ ap last_of c.as_slice.ensures ∙ is)))
     ])

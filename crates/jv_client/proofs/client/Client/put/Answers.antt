@@ -23,7 +23,7 @@ returns-after-quiets-eq1 g c entry keeper =
     c.self.inside.id (ap (λ (h : ClientValue). h.id) c.self.view_is) c.segment-bytes.result.now
     (c.segment-bytes.ensures.bytes
     ∙ ap (λ (h : ClientValue). bytes_of (segment_at c.args.at) h.pending) c.self.view_is)
-    c.segment-bytes.ensures.len (omega arith) (let least = c.requires.block.least in omega (arith, least))
+    c.segment-bytes.ensures.len (omega arith) (omega arith) c.requires.block
     c.requires.there c.in-Ok.ensures c.if-quiets-eq1.request
     (elim c.if-quiets-eq1.branch [
       | then-quiets-eq1 w ↦ w.request-is

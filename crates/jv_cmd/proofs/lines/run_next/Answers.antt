@@ -3,12 +3,12 @@ use Rattle.std.specs.Io.KnownBytes.{prepend_known}
 use Rattle.jv_model.specs.declared.limits.TheConstants.{MAX_LINES}
 use Rattle.jv_cmd.specs.declared.reader.Next.{Next}
 use Rattle.jv_cmd.specs.Cutting.{Finds, CutsText, IsOverlong}
-use Rattle.jv_cmd.proofs.GoingLaws.{Going-read, Turns-front, EndsScript-whole, EndsScript-overlong, EndsScript-too_many, EndsScript-source}
+use Rattle.jv_cmd.proofs.GoingLaws.{Going-read, NextLine-front, EndsScript-succeeded, EndsScript-overlong, EndsScript-too_many, EndsScript-source}
 use Rattle.jv_cmd.proofs.ReadingLaws.{BeginsWith-cut}
-use Rattle.jv_cmd.proofs.lines.turn.Goals as goal
+use Rattle.jv_cmd.proofs.lines.run_next.Goals as goal
 
-pub returns-then-done-eq-MAX_LINES-clause-turns : goal.returns-then-done-eq-MAX_LINES-clause-turns
-returns-then-done-eq-MAX_LINES-clause-turns g c = λ before going.
+pub returns-then-done-eq-MAX_LINES-clause-runs : goal.returns-then-done-eq-MAX_LINES-clause-runs
+returns-then-done-eq-MAX_LINES-clause-runs g c = λ before going.
     let source = g.S.Source.seen c.next.new.source in
     let left = prepend_known c.args.reader.now (g.S.Source.seen c.args.stage.now.source).content in
     let cut : CutsText left source.content c.next.new.self c.in-Ok-Text.count =
@@ -18,8 +18,8 @@ returns-then-done-eq-MAX_LINES-clause-turns g c = λ before going.
     (take c.in-Ok-Text.count c.next.new.self)
     (BeginsWith-cut left source.content c.next.new.self c.in-Ok-Text.count cut) c.if-done-eq-MAX_LINES.true
 
-pub returns-else-done-eq-MAX_LINES-clause-turns : goal.returns-else-done-eq-MAX_LINES-clause-turns
-returns-else-done-eq-MAX_LINES-clause-turns g c = λ before going.
+pub returns-else-done-eq-MAX_LINES-clause-runs : goal.returns-else-done-eq-MAX_LINES-clause-runs
+returns-else-done-eq-MAX_LINES-clause-runs g c = λ before going.
     let source = g.S.Source.seen c.next.new.source in
     let left = prepend_known c.args.reader.now (g.S.Source.seen c.args.stage.now.source).content in
     let held = c.next.new.self in
@@ -29,14 +29,14 @@ returns-else-done-eq-MAX_LINES-clause-turns g c = λ before going.
     subst (λ (next : Next). Finds left source.content held (Ok next)) c.in-Ok-Text.field-0-is
     c.in-Ok-Text.ensures.finds in
     let room : c.args.done < MAX_LINES = omega (arith, c.requires.few, c.if-done-eq-MAX_LINES.false) in
-    Turns-front left source.content before _ _ c.args.done count held c.args.schedule.now ran.new.schedule
+    NextLine-front left source.content before _ _ c.args.done count held c.args.schedule.now ran.new.schedule
     (Going-read left before _ source c.args.done c.args.schedule.now c.in-Ok-Text.ensures.counts going) room cut
     (ap (λ s. (g.S.Source.seen s).faults) ran.ensures.source) c.front.result.now c.pass.new.self
     (g.S.Source.seen ran.new.stage.source).content ran.result c.front.ensures c.pass.ensures
     (ap (λ s. (g.S.Source.seen s).content) ran.ensures.source) ran.ensures.ends
 
-pub returns-in-Ok-TooLong-clause-turns : goal.returns-in-Ok-TooLong-clause-turns
-returns-in-Ok-TooLong-clause-turns g c = λ before going.
+pub returns-in-Ok-TooLong-clause-runs : goal.returns-in-Ok-TooLong-clause-runs
+returns-in-Ok-TooLong-clause-runs g c = λ before going.
     let source = g.S.Source.seen c.next.new.source in
     let left = prepend_known c.args.reader.now (g.S.Source.seen c.args.stage.now.source).content in
     let long : IsOverlong left =
@@ -44,16 +44,16 @@ returns-in-Ok-TooLong-clause-turns g c = λ before going.
     c.in-Ok-TooLong.ensures.finds in
     EndsScript-overlong left before _ source c.args.done c.args.schedule.now going c.in-Ok-TooLong.ensures.counts long
 
-pub returns-in-Ok-End-clause-turns : goal.returns-in-Ok-End-clause-turns
-returns-in-Ok-End-clause-turns g c = λ before going.
+pub returns-in-Ok-End-clause-runs : goal.returns-in-Ok-End-clause-runs
+returns-in-Ok-End-clause-runs g c = λ before going.
     let source = g.S.Source.seen c.next.new.source in
     let left = prepend_known c.args.reader.now (g.S.Source.seen c.args.stage.now.source).content in
     let none = subst (λ (next : Next). Finds left source.content c.next.new.self (Ok next)) c.in-Ok-End.field-0-is
     c.in-Ok-End.ensures.finds in
-    EndsScript-whole left before _ source c.args.done c.args.schedule.now going c.in-Ok-End.ensures.counts none
+    EndsScript-succeeded left before _ source c.args.done c.args.schedule.now going c.in-Ok-End.ensures.counts none
 
-pub returns-in-Err-clause-turns : goal.returns-in-Err-clause-turns
-returns-in-Err-clause-turns g c = λ before going.
+pub returns-in-Err-clause-runs : goal.returns-in-Err-clause-runs
+returns-in-Err-clause-runs g c = λ before going.
     let source = g.S.Source.seen c.next.new.source in
     let left = prepend_known c.args.reader.now (g.S.Source.seen c.args.stage.now.source).content in
     EndsScript-source left before _ source c.args.done c.args.schedule.now going c.in-Err.ensures.counts
