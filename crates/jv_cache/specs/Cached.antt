@@ -15,7 +15,8 @@ pub record Cached : Type 0 where
 
 abbrev pub cached : Option (LruCache BlockKey (List ℕ)) → ℕ → ℕ → Cached
 cached None hits misses = record { blocks = []; entries = 0; hits = hits; misses = misses }
-cached (Some c) hits misses = record { blocks = c.entries; entries = c.cap; hits = hits; misses = misses }
+cached (Some c) hits misses =
+    record { blocks = c.entries; entries = c.cap; hits = hits; misses = misses }
 
 -- the room of a cache that is there, where none is there 1
 abbrev pub room_in : Option (LruCache BlockKey (List ℕ)) → ℕ
@@ -48,7 +49,10 @@ noted_in cache key = (if is_some (found_in cache key)
 -- a block goes first, and the least recently used one goes where there is no room for it; a cache for no block keeps none
 abbrev pub kept_in : Cached → BlockKey → List ℕ → Cached
 kept_in cache key bytes = (if cache.entries == 0 then cache
-    else record cache { blocks = put_entries same_key (lru_cache cache.blocks cache.entries) key bytes })
+    else record cache {
+      blocks = put_entries same_key
+          (lru_cache cache.blocks cache.entries) key bytes;
+    })
 
 -- the block stands first, with these bytes, and is found
 pub record IsFirst (cache : Cached) (key : BlockKey) (bytes : List ℕ) : Type 0 where

@@ -30,7 +30,8 @@ access number x =
     let handle = x / 2 ^ 60 + 1 in
     let position = x / 2 ^ 20 % POSITIONS in
     let size = 1 + x / 2 ^ 8 % MAX_LENGTH in
-    if number % READ_EVERY == 0 then Read handle position size else Write handle position (replicate size (x % 256))
+    if number % READ_EVERY == 0 then Read handle position size
+    else Write handle position (replicate size (x % 256))
 
 -- the operations of a script with some files and some accesses
 unfoldable pub operations : ℕ → ℕ → ℕ → List Op

@@ -41,5 +41,6 @@ totals_of replies = fold with_reply no_totals replies
 
 -- `lines L ok K err R bytes T sum S` and a line feed
 abbrev pub summary_line : TotalsValue → List ℕ
-summary_line t = codes "lines" ++ number_word t.lines ++ codes " ok" ++ number_word t.ok ++ codes " err" ++ number_word t.err
+summary_line t = codes "lines" ++ number_word t.lines ++ codes " ok" ++ number_word t.ok
+    ++ codes " err" ++ number_word t.err
     ++ codes " bytes" ++ number_word t.bytes ++ codes " sum" ++ number_word t.values ++ 10 ∷ []

@@ -1,6 +1,6 @@
 -- What becomes of inodes that lose an entry.
 use Rattle.std.specs.Prelude.{◌≡◌, ℕ, ◌≤◌, Bool, false, ◌&&◌, not, ◌==◌, List, is_some, Option, None, Some, Result, Ok, Err, IfSome, IfOk, IsTrue}
-use Rattle.std.specs.List.{list_any}
+use Rattle.jv_model.specs.Lists.{is_among}
 use Rattle.jv_model.specs.declared.fault.Fault.{Fault}
 use Rattle.jv_model.specs.declared.fault.TxFault.{TxFault}
 use Rattle.jv_model.specs.declared.limits.TheConstants.{LAST_MOMENT}
@@ -23,7 +23,7 @@ pub use Rattle.jv_model.specs.Lists.{has_no_zero}
 
 -- what a caller has open of a tree's inodes are files
 abbrev pub HoldsFiles : List ℕ → Tree → Type 0
-HoldsFiles held t = (inode : ℕ) → IsTrue (list_any (λ h. h == inode) held)
+HoldsFiles held t = (inode : ℕ) → IsTrue (is_among inode held)
     → IsTrue (is_there ((shape_of t).form inode))
     → (shape_of t).form inode ≡ Regular
 
@@ -83,6 +83,7 @@ SaysSustained sid ready before result act =
     IfSome result (λ removed. (known : RowMap) → before.rows ≡ Some known
     → Whole (typed known) → (bytes : ℕ → ℕ → ℕ)
     → ready (tree_of bytes (typed known)) → (inode : ℕ)
-    → (is_sustained (outcome (tree_of bytes (typed known)) (act (tree_of bytes (typed known)))).tree sid
+    → (is_sustained (outcome (tree_of bytes (typed known)) (act (tree_of bytes
+    (typed known)))).tree sid
     inode && not (is_sustained (tree_of bytes (typed known)) sid inode))
     ≡ is_inode (kept_of removed) inode)

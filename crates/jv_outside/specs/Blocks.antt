@@ -17,7 +17,9 @@ abbrev pub staged_cmp : ℕ × List ℕ → ℕ × List ℕ → Ordering
 staged_cmp x y = ordering_then (nat_cmp x.0 y.0) (slice_cmp nat_cmp x.1 y.1)
 
 pub staged_cmp_total : IsTotalOrder staged_cmp
-staged_cmp_total = then_total (on_total (λ (k : ℕ × List ℕ). k.0) nat_cmp_total) (on_total (λ (k : ℕ × List ℕ). k.1) nat_list_cmp_total)
+staged_cmp_total =
+    then_total (on_total (λ (k : ℕ × List ℕ). k.0) nat_cmp_total)
+    (on_total (λ (k : ℕ × List ℕ). k.1) nat_list_cmp_total)
 
 -- only equal keys tie
 pub staged_cmp_same : (x y : ℕ × List ℕ) → staged_cmp x y ≡ Equal → x ≡ y
@@ -63,4 +65,5 @@ unstaged client name blocks = remove blocks (client, name)
 -- the names of a client's first `count` blocks after a name, or from its first on, in the order of their names
 abbrev pub names_after : ℕ → Option (List ℕ) → ℕ → StagedMap → List (List ℕ)
 names_after client last count blocks =
-    take count (map (λ block. block.0.1) (filter (λ block. (block.0.0 == client) && is_later last block.0.1) blocks.list))
+    take count (map (λ block. block.0.1) (filter (λ block. (block.0.0 == client)
+    && is_later last block.0.1) blocks.list))

@@ -21,4 +21,5 @@ pub record IsSettled (store : RowStore) : Type 0 where
 -- where a scan of a table begins: at its least key, or after a key that isn't before that
 abbrev pub scan_start : RowKey → Option RowKey → Bound RowKey
 scan_start first None = Included first
-scan_start first (Some last) = (if is_le (row_cmp first last) then Excluded last else Included first)
+scan_start first (Some last) =
+    (if is_le (row_cmp first last) then Excluded last else Included first)

@@ -11,7 +11,8 @@ pub record Ticks : Type 0 where
 
 -- where the answers to come are known after, they were known before, and `count` of those have passed
 pub record Passes (before after : Option (ℕ → ℕ)) (count : ℕ) : Type 0 where
-  pub known : IfSome after (λ rest. IsSomeAnd before (λ answers. (n : ℕ) → rest n ≡ answers (n + count)))
+  pub known : IfSome after (λ rest.
+      IsSomeAnd before (λ answers. (n : ℕ) → rest n ≡ answers (n + count)))
 
 -- the clock answered the first of the answers to come, in seconds
 pub record HasAnswered (before after : Ticks) (moment : ℕ) : Type 0 where

@@ -26,7 +26,8 @@ default_setting = record {
 
 -- the first inode after the root is next, and nothing counts as used
 abbrev pub fresh_counters : Counters
-fresh_counters = record { inode = ROOT + 1; slice = 1; session = 1; used_space = 0; used_inodes = 0 }
+fresh_counters =
+    record { inode = ROOT + 1; slice = 1; session = 1; used_space = 0; used_inodes = 0 }
 
 -- an empty directory whose parent is the root, with these permission bits, made at a moment
 abbrev pub fresh_directory : ℕ → ℕ → Node

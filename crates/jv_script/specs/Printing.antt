@@ -10,7 +10,8 @@ pub record IsFirstRepeat (bytes : List ℕ) (n : ℕ) : Type 0 where
   pub some : 0 < n
   pub within : n ≤ length bytes
   pub same : take n bytes ≡ replicate n (slice_index bytes 0)
-  pub runs : runs_of bytes ≡ record { byte = slice_index bytes 0; count = n } ∷ runs_of (drop n bytes)
+  pub runs : runs_of bytes ≡ record { byte = slice_index bytes 0; count = n } ∷ runs_of
+      (drop n bytes)
 
 -- the first four bytes are equal: a long repeat begins there
 abbrev pub begins_long : List ℕ → Bool

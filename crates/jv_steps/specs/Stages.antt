@@ -22,6 +22,7 @@ changes_files _ = false
 -- A reading may go on: all that it flushes is committed and it asked for nothing since; or it made a request, and
 -- missed this many blocks.
 pub data MayRead (c : ModelClient) (d : Doing) (misses : ℕ) : Type 0 where
-  Begins : (started : ℕ) → d.stage ≡ Working 0 started → is_flushed d.flush c.pending ≡ true → misses ≡ 0
+  Begins : (started : ℕ) → d.stage ≡ Working 0 started → is_flushed d.flush c.pending ≡ true
+      → misses ≡ 0
       → MayRead c d misses
   GoesOn : d.stage ≡ Reading misses → MayRead c d misses

@@ -29,7 +29,8 @@ typed rows = map_of (typed_entries rows.list)
 
 -- a name has 1 to 255 bytes, none of them a slash or 0
 abbrev pub is_entry_name : List ℕ → Bool
-is_entry_name name = nat_le 1 (length name) && nat_le (length name) MAX_NAME && list_all (λ b. not (b == 47 || b == 0)) name
+is_entry_name name = nat_le 1 (length name) && nat_le (length name) MAX_NAME
+    && list_all (λ b. not (b == 47 || b == 0)) name
 
 -- which keys the rows of a table have: one alone, a number, a number and a name, or a number and a number of 32 or 64 bits
 abbrev pub is_key : RowKey → Bool

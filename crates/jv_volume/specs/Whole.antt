@@ -31,7 +31,8 @@ is_of_slices tab = (tab == TABLE_OF_LISTS) || (tab == TABLE_OF_SLICES) || (tab =
 
 -- lists, slices and dead slices stay as they are
 abbrev pub SlicesStay : Rows → Rows → Type 0
-SlicesStay rows after = (key : RowKey) → IsTrue (is_of_slices key.tab) → get after key ≡ get rows key
+SlicesStay rows after =
+    (key : RowKey) → IsTrue (is_of_slices key.tab) → get after key ≡ get rows key
 
 -- What a transaction on metadata leaves alone: lists, slices, and the next slice.
 pub record Quiet (rows after : Rows) : Type 0 where

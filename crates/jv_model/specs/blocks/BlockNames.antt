@@ -26,7 +26,8 @@ slice_folder hash id = (if hash == 1 then hashed_folder id else plain_folder id)
 
 -- the spelling of a block's name: the slice's id, the block's index in it and its length in bytes
 unfoldable pub block_name_of : Setting → ℕ → ℕ → ℕ → List ℕ
-block_name_of setting id index size = setting.name ++ codes "/chunks/" ++ slice_folder setting.hash id ++ codes "/"
+block_name_of setting id index size =
+    setting.name ++ codes "/chunks/" ++ slice_folder setting.hash id ++ codes "/"
     ++ decimal id ++ codes "_" ++ decimal index ++ codes "_" ++ decimal size
 
 -- the name of a block of the volume

@@ -88,7 +88,16 @@ pub record ModelClient : Type 0 where
   pub doing : Option Doing
 
 abbrev pub unmounted : ModelClient
-unmounted = record { session = None; writeback = false; handles = []; sustained = []; views = []; pending = []; doing = None }
+unmounted =
+    record {
+      session = None;
+      writeback = false;
+      handles = [];
+      sustained = [];
+      views = [];
+      pending = [];
+      doing = None;
+    }
 
 -- the session's number, 0 where there is none
 abbrev pub session_of : ModelClient → ℕ
@@ -119,7 +128,8 @@ open_count (None ∷ files) = open_count files
 open_count (Some file ∷ files) = 1 + open_count files
 
 abbrev pub with_file : {X : Type 0} → ℕ → Option X → List (Option X) → List (Option X)
-with_file handle file handles = if nat_le handle (length handles) then slice_set handles (handle - 1) file else handles ++ file ∷ []
+with_file handle file handles = if nat_le handle (length handles)
+    then slice_set handles (handle - 1) file else handles ++ file ∷ []
 
 -- the inode of an open file, 0 for none
 abbrev pub inode_in : Option OpenFile → ℕ

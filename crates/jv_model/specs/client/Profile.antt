@@ -14,7 +14,15 @@ use Rattle.jv_model.specs.Lists.{first_number}
 
 -- one metadata transaction of a mounted client, on paths or on nothing
 abbrev pub transaction : Profile
-transaction = record { needs_mount = true; handles = handles.None; opens = false; end = 0; flushes = Nothing; does = Transacts }
+transaction =
+    record {
+      needs_mount = true;
+      handles = handles.None;
+      opens = false;
+      end = 0;
+      flushes = Nothing;
+      does = Transacts;
+    }
 
 -- another operation of a mounted client, and one of any client
 abbrev pub mounted : Does → Profile
@@ -32,15 +40,18 @@ opening = record transaction { opens = true }
 
 -- a copy between the files of two handles
 abbrev pub on_files : ℕ → ℕ → Profile
-on_files source target = record transaction { handles = handles.Two source target; flushes = ItsFiles; does = Copies }
+on_files source target =
+    record transaction { handles = handles.Two source target; flushes = ItsFiles; does = Copies }
 
 -- a step on the file of a handle, whose pending bytes are committed first
 abbrev pub on_file : ℕ → Does → Profile
-on_file handle does = record transaction { handles = handles.One handle; flushes = ItsFiles; does = does }
+on_file handle does =
+    record transaction { handles = handles.One handle; flushes = ItsFiles; does = does }
 
 -- a range of which no position lies before the end of the longest file has no byte
 abbrev pub read_does : ℕ → ℕ → Does
-read_does offset len = (if (len == 0) || nat_le FILE_END offset then Answers NoData else Reads offset len)
+read_does offset len =
+    (if (len == 0) || nat_le FILE_END offset then Answers NoData else Reads offset len)
 
 -- a number of bytes from an offset on
 abbrev pub write_profile : ℕ → ℕ → ℕ → Profile

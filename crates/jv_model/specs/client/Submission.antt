@@ -44,7 +44,9 @@ names_closed handles named = list_any (is_closed handles) (handle_list named)
 
 -- the refusal of an operation at its submission, before any step
 abbrev pub submission : ModelClient → Op → Option Fault
-submission c o = submission_of (is_some c.doing) (is_some c.session) (names_closed c.handles (profile o).handles) (open_count c.handles) (profile o)
+submission c o =
+    submission_of (is_some c.doing) (is_some c.session) (names_closed c.handles (profile o).handles)
+    (open_count c.handles) (profile o)
 
 -- what is committed first, with a buffer of `buffer` bytes
 abbrev pub flush_of : ℕ → ModelClient → Profile → Flush

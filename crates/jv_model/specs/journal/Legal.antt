@@ -28,7 +28,8 @@ tick_of _ = 0
 abbrev pub IsMoment : Past → Act → Type 0
 IsMoment p act = MatchBool (is_workers p) ((p.at ≤ act.at) × (act.at ≤ LAST_MOMENT))
     (MatchBool (asks_clock p act)
-    (MatchOption p.run.clock ((p.at ≤ act.at) × (act.at ≤ LAST_MOMENT)) (λ answers. act.at ≡ clock_moment p (p.ticks + tick_of act.kind) answers))
+    (MatchOption p.run.clock ((p.at ≤ act.at) × (act.at ≤ LAST_MOMENT))
+    (λ answers. act.at ≡ clock_moment p (p.ticks + tick_of act.kind) answers))
     (act.at ≡ p.at))
 
 -- the one entry of a refused submission, for which memory may run out too, but not where an operation goes on
@@ -65,7 +66,8 @@ pub record OfClient (p : Past) (act : Act) (client : ℕ) (begins : Bool) : Type
 -- an entry of the present line
 abbrev pub OfLine : Past → Act → Due → Type 0
 OfLine p act NoMore = ⊥
-OfLine p act (Refusal client fault) = (act.client ≡ client) × IsRefusal (is_busy p client) fault act.kind
+OfLine p act (Refusal client fault) =
+    (act.client ≡ client) × IsRefusal (is_busy p client) fault act.kind
 OfLine p act (MayLack client) = (act.client ≡ client) × (act.kind ≡ Answered (ToldRefused NoMemory))
 OfLine p act (ToAnswer client) = OfClient p act client (begins_in (p.state.clients client) act.kind)
 OfLine p act (OneStep client) = OfClient p act client true
@@ -76,7 +78,8 @@ OfLine p act (DrainEntries client) = (act.client ≡ NO_CLIENT) × Drains p.stat
 
 -- an entry of an uploading thread, of which there are some, on a line of the script
 abbrev pub OfWorker : Past → Act → Type 0
-OfWorker p act = IsTrue (nat_lt 0 p.run.uploads) × (act.client ≡ NO_CLIENT) × IsPublish p.state act.kind × IsTrue (nat_le p.line (length p.run.script))
+OfWorker p act = IsTrue (nat_lt 0 p.run.uploads) × (act.client ≡ NO_CLIENT)
+    × IsPublish p.state act.kind × IsTrue (nat_le p.line (length p.run.script))
 
 -- an entry may stand, its line being the present one
 pub record Allowed (p : Past) (act : Act) : Type 0 where

@@ -19,7 +19,11 @@ changes_file inode _ = false
 
 -- An entry is a fresh look at a window of an open file, at the end of a journal: the client looked at that window of
 -- the file, after it had opened it, and has not changed the file since.
-pub record IsFreshLook (journal : List Act) (client : ℕ) (file : OpenFile) (window look : ℕ) : Type 0 where
-  pub looked : IsSomeAnd (entry_at journal look) (λ act. (act.client ≡ client) × (act.kind ≡ Look file.inode window))
+pub record IsFreshLook (journal : List Act) (client : ℕ) (file : OpenFile)
+    (window look : ℕ) : Type 0 where
+  pub looked : IsSomeAnd (entry_at journal look)
+      (λ act. (act.client ≡ client) × (act.kind ≡ Look file.inode window))
   pub opened : file.opened < look
-  pub unchanged : (later : ℕ) → look < later → IfSome (entry_at journal later) (λ act. act.client ≡ client → changes_file file.inode act.kind ≡ false)
+  pub unchanged : (later : ℕ) → look < later
+      → IfSome (entry_at journal later) (λ act. act.client ≡ client
+      → changes_file file.inode act.kind ≡ false)

@@ -10,7 +10,8 @@ abbrev pub is_spelled : Op → Bool
 is_spelled (op.Mkdir path mode) = has_no_zero path && nat_le mode MAX_MODE
 is_spelled (op.Create path mode) = has_no_zero path && nat_le mode MAX_MODE
 is_spelled (op.Chmod path mode) = nat_le mode MAX_MODE
-is_spelled (op.Symlink target path) = has_no_zero target && nat_lt 0 (length target) && has_no_zero path
+is_spelled (op.Symlink target path) =
+    has_no_zero target && nat_lt 0 (length target) && has_no_zero path
 is_spelled (op.Link path to) = has_no_zero to
 is_spelled (op.Rename path to how) = has_no_zero to
 is_spelled _ = true

@@ -35,7 +35,8 @@ touch t now dir = change_node t dir (touched now)
 
 -- an entry that names this inode
 abbrev pub put_entry : Tree → ℕ → EntryKey → ℕ → Tree
-put_entry t now place inode = record (touch t now place.dir) { entries = insert t.entries place inode }
+put_entry t now place inode =
+    record (touch t now place.dir) { entries = insert t.entries place inode }
 
 -- without an entry
 abbrev pub take_entry : Tree → ℕ → EntryKey → Tree
@@ -56,7 +57,12 @@ byte_within content position = (if nat_lt position content.length then content.b
 
 -- a file's bytes, none from its length on
 abbrev pub content_of : ℕ → (ℕ → ℕ) → Content
-content_of length byte = record { length = length; byte = λ position. if nat_lt position length then byte position else 0 }
+content_of length byte =
+    record {
+      length = length;
+      byte = λ position. if nat_lt position length then byte position
+          else 0;
+    }
 
 -- A file cut to a length, or with zeros up to it (POSIX.1-2017, "ftruncate").
 abbrev pub resized : Content → ℕ → Content
@@ -77,8 +83,10 @@ overwritten content from bytes = patched content from (length bytes) (slice_inde
 
 -- a file with bytes of another, or of its own, put at a place
 abbrev pub copied_over : Content → ℕ → Content → ℕ → ℕ → Content
-copied_over source from target to len = patched target to len (λ distance. byte_within source (from + distance))
+copied_over source from target to len =
+    patched target to len (λ distance. byte_within source (from + distance))
 
 -- the tree with a file's bytes replaced, which sets its times
 abbrev pub with_content : Tree → ℕ → ℕ → Content → Tree
-with_content t now inode content = change_node t inode (λ (node : Node). record (touched now node) { kind = File content })
+with_content t now inode content =
+    change_node t inode (λ (node : Node). record (touched now node) { kind = File content })

@@ -26,7 +26,8 @@ truncated t now inode len = elim (content_at t inode) [
 ]
 
 abbrev pub copied_between : Tree → ℕ → Option Content → ℕ → ℕ → Option Content → ℕ → ℕ → Tree
-copied_between t now (Some source) from target (Some content) to len = with_content t now target (copied_over source from content to len)
+copied_between t now (Some source) from target (Some content) to len =
+    with_content t now target (copied_over source from content to len)
 copied_between t now _ from target _ to len = t
 
 -- The tree with bytes of a file, as they were, put into a file, which may be the same. No byte is no change.

@@ -42,14 +42,16 @@ date_in_era era year month day = record {
 }
 
 abbrev date_by_year : ℕ → ℕ → ℕ → Date
-date_by_year era year day = date_in_era era year (month_in_year day) (day - days_before_month (month_in_year day))
+date_by_year era year day =
+    date_in_era era year (month_in_year day) (day - days_before_month (month_in_year day))
 
 abbrev date_by_era : ℕ → ℕ → Date
 date_by_era era day = date_by_year era (year_in_era day) (day - days_before_year (year_in_era day))
 
 -- the date of a day, counted from 1970-01-01
 abbrev pub date_of : ℕ → Date
-date_of day = date_by_era ((day + days_before_1970) / era_days) ((day + days_before_1970) % era_days)
+date_of day =
+    date_by_era ((day + days_before_1970) / era_days) ((day + days_before_1970) % era_days)
 
 abbrev pub two_digits : ℕ → List ℕ
 two_digits n = (48 + n / 10 % 10) ∷ (48 + n % 10) ∷ []

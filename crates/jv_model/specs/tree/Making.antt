@@ -27,7 +27,8 @@ new_place t path = do
 
 -- the tree with the next inode under a new entry
 abbrev pub with_next : Tree → ℕ → EntryKey → Node → Tree
-with_next t now place node = record (with_node t now place t.next_inode node) { next_inode = t.next_inode + 1 }
+with_next t now place node =
+    record (with_node t now place t.next_inode node) { next_inode = t.next_inode + 1 }
 
 -- the same, where the limits of the volume allow it
 abbrev pub entered : Tree → ℕ → EntryKey → Node → Result Tree Fault

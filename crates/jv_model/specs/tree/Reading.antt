@@ -44,7 +44,8 @@ attr_of t inode node = record {
 
 -- The entries of a directory in the order of their names' bytes. `.` and `..` aren't listed, nor `.trash` in the root.
 abbrev pub entries_of : Tree → ℕ → List (List ℕ × ℕ)
-entries_of t dir = map (λ e. (e.0.name, e.1)) (entries_where (λ key inode. key.dir == dir) t.entries)
+entries_of t dir =
+    map (λ e. (e.0.name, e.1)) (entries_where (λ key inode. key.dir == dir) t.entries)
 
 -- what `statfs` returns; the two limits are as they were set
 abbrev pub usage_of : Tree → Space
@@ -143,7 +144,9 @@ unfoldable pub chmod : Tree → Caller → List ℕ → ℕ → Result Outcome F
 chmod t who path mode = with_attributes t who path (λ (node : Node). record node { mode = mode })
 
 unfoldable pub chown : Tree → Caller → List ℕ → ℕ → ℕ → Result Outcome Fault
-chown t who path uid gid = with_attributes t who path (λ (node : Node). record node { uid = uid; gid = gid })
+chown t who path uid gid =
+    with_attributes t who path (λ (node : Node). record node { uid = uid; gid = gid })
 
 unfoldable pub utimes : Tree → Caller → List ℕ → ℕ → Result Outcome Fault
-utimes t who path mtime = with_attributes t who path (λ (node : Node). record node { mtime = mtime })
+utimes t who path mtime =
+    with_attributes t who path (λ (node : Node). record node { mtime = mtime })

@@ -47,7 +47,8 @@ with_fate Dropped t who place inode = drop_node t inode
 
 -- the tree without an entry of a file or a symlink
 unfoldable pub remove_entry : Tree → Caller → EntryKey → ℕ → Tree
-remove_entry t who place inode = with_fate (fate_of t who place inode) (take_entry t who.now place) who place inode
+remove_entry t who place inode =
+    with_fate (fate_of t who place inode) (take_entry t who.now place) who place inode
 
 -- the tree without an empty directory: directories don't go to the trash
 abbrev pub remove_directory : Tree → ℕ → EntryKey → ℕ → Tree

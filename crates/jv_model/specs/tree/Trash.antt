@@ -32,7 +32,8 @@ hour_place hour = record { dir = TRASH_ROOT; name = hour_name hour }
 -- the tree with the directory of an hour
 unfoldable pub with_hour : Tree → ℕ → ℕ → Tree
 with_hour t now hour = elim (node_at t (hour_inode hour)) [
-  | None ↦ with_node t now (hour_place hour) (hour_inode hour) (new_node (Directory TRASH_ROOT) READ_ONLY_MODE now)
+  | None ↦ with_node t now (hour_place hour) (hour_inode hour)
+      (new_node (Directory TRASH_ROOT) READ_ONLY_MODE now)
   | Some node ↦ t
 ]
 
@@ -46,13 +47,16 @@ trash_place hour place inode = record { dir = hour_inode hour; name = trash_name
 -- the tree with an inode in the trash that lost its last entry, which stood at a place
 abbrev pub trashed : Tree → ℕ → EntryKey → ℕ → Tree
 trashed t now place inode =
-    let entered = put_entry (with_hour t now (hour_at now)) now (trash_place (hour_at now) place inode) inode in
+    let entered =
+    put_entry (with_hour t now (hour_at now)) now
+    (trash_place (hour_at now) place inode) inode in
     change_node entered inode (status_changed now)
 
 -- the directory of the least hour that is due
 abbrev pub due_hour : Tree → ℕ → Option ℕ
 due_hour t now = option_map (λ e. e.1)
-    (first_where (λ key inode. (key.dir == TRASH_ROOT) && is_due t.setting now (hour_of inode)) t.entries)
+    (first_where (λ key inode. (key.dir == TRASH_ROOT)
+    && is_due t.setting now (hour_of inode)) t.entries)
 
 -- the first entry of a directory
 abbrev pub first_in : Tree → ℕ → Option (EntryKey × ℕ)

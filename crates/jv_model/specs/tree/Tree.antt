@@ -88,7 +88,8 @@ abbrev pub in_trash : ℕ → Bool
 in_trash dir = nat_le TRASH_ROOT dir
 
 abbrev pub new_node : Kind → ℕ → ℕ → Node
-new_node kind mode now = record { kind = kind; mode = mode; uid = 0; gid = 0; mtime = now; ctime = now }
+new_node kind mode now =
+    record { kind = kind; mode = mode; uid = 0; gid = 0; mtime = now; ctime = now }
 
 -- the tree of a volume that was just formatted
 abbrev pub fresh_tree : Setting → ℕ → Tree
@@ -148,7 +149,8 @@ node_at t inode = get t.nodes inode
 
 abbrev pub content_of : Option Node → Option Content
 content_of None = None
-content_of (Some node) = elim node.kind [ File content ↦ Some content | Directory parent ↦ None | Symlink target ↦ None ]
+content_of (Some node) =
+    elim node.kind [ File content ↦ Some content | Directory parent ↦ None | Symlink target ↦ None ]
 
 -- the bytes of a file, where the inode is one
 abbrev pub content_at : Tree → ℕ → Option Content
@@ -156,7 +158,8 @@ content_at t inode = content_of (node_at t inode)
 
 abbrev pub parent_of : Option Node → Option ℕ
 parent_of None = None
-parent_of (Some node) = elim node.kind [ File content ↦ None | Directory parent ↦ Some parent | Symlink target ↦ None ]
+parent_of (Some node) =
+    elim node.kind [ File content ↦ None | Directory parent ↦ Some parent | Symlink target ↦ None ]
 
 -- the parent of a directory, where the inode is one
 abbrev pub parent_at : Tree → ℕ → Option ℕ
@@ -167,7 +170,8 @@ is_directory t inode = is_some (parent_at t inode)
 
 abbrev pub target_in : Option Node → Option (List ℕ)
 target_in None = None
-target_in (Some node) = elim node.kind [ File content ↦ None | Directory parent ↦ None | Symlink target ↦ Some target ]
+target_in (Some node) =
+    elim node.kind [ File content ↦ None | Directory parent ↦ None | Symlink target ↦ Some target ]
 
 -- the target of a symlink, where the inode is one
 abbrev pub target_at : Tree → ℕ → Option (List ℕ)
@@ -205,7 +209,9 @@ directory_within t dir key inode = (if key.dir == dir && is_directory t inode th
 -- The link count (POSIX.1-2017, chapter 3 "Link Count"): of a directory 2 and one for each directory in it, of any other
 -- inode the number of the entries that name it.
 abbrev pub link_count : Tree → ℕ → ℕ
-link_count t inode = (if is_directory t inode then 2 + sum_over (directory_within t inode) t.entries else entry_count t inode)
+link_count t inode =
+    (if is_directory t inode then 2 + sum_over (directory_within t inode) t.entries
+    else entry_count t inode)
 
 -- whether the link count of an inode can be stored
 abbrev pub links_fit : Tree → ℕ → Bool

@@ -53,7 +53,8 @@ abbrev pub way_on : Tree → Bool → List (List ℕ) → ℕ → Option (List �
 way_on t follow names inode = (if follow || not (is_nil names) then target_at t inode else None)
 
 -- a walk from a directory, which goes on at a symlink by what `again` says of a directory and names
-unfoldable pub walk_names : (ℕ → List (List ℕ) → Result ℕ Fault) → Tree → Bool → ℕ → List (List ℕ) → Result ℕ Fault
+unfoldable pub walk_names : (ℕ → List (List ℕ) → Result ℕ Fault) → Tree → Bool → ℕ → List (List ℕ)
+    → Result ℕ Fault
 walk_names again t follow inode [] = Ok inode
 walk_names again t follow inode (name ∷ names) = do
   next ← stepped t inode name
@@ -66,7 +67,8 @@ walk_names again t follow inode (name ∷ names) = do
 -- it begins with a slash, and else from the symlink's directory.
 unfoldable pub walk : ℕ → Tree → Bool → ℕ → List (List ℕ) → Result ℕ Fault
 walk zero t follow inode names = walk_names (λ at rest. Err SymlinkLoop) t follow inode names
-walk (suc left) t follow inode names = walk_names (λ at rest. walk left t follow at rest) t follow inode names
+walk (suc left) t follow inode names =
+    walk_names (λ at rest. walk left t follow at rest) t follow inode names
 
 -- the inode that a path leads to from the root, where a symlink that comes last is followed, or isn't
 abbrev pub inode_by : Bool → Tree → List ℕ → Result ℕ Fault
