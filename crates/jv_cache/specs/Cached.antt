@@ -6,7 +6,8 @@ use Rattle.lru.specs.LruCache.{LruCache, lru_cache, promoted, put_entries}
 use Rattle.jv_cache.specs.declared.key.BlockKey.{BlockKey}
 use Rattle.jv_cache.specs.Keys.{same_key}
 
--- the blocks, the most recently used first, how many there may be, and how many finds were hits and misses
+-- the blocks, the most recently used first, how many there may be, and how many finds were hits and
+-- misses
 pub record Cached : Type 0 where
   pub blocks : List (BlockKey × List ℕ)
   pub entries : ℕ
@@ -46,7 +47,8 @@ noted_in cache key = (if is_some (found_in cache key)
     then record (promoted_in cache key) { hits = counted cache.hits }
     else record cache { misses = counted cache.misses })
 
--- a block goes first, and the least recently used one goes where there is no room for it; a cache for no block keeps none
+-- a block goes first, and the least recently used one goes where there is no room for it; a cache
+-- for no block keeps none
 abbrev pub kept_in : Cached → BlockKey → List ℕ → Cached
 kept_in cache key bytes = (if cache.entries == 0 then cache
     else record cache {

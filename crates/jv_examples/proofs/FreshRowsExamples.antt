@@ -13,7 +13,8 @@ use Rattle.jv_outside.specs.Rows.{applied}
 use Rattle.jv_volume.specs.TypedRows.{Rows, typed}
 use Rattle.jv_volume.specs.TreeOf.{selected, nodes_of, entries_of, sessions_of, sustained_of, tree_of}
 use Rattle.jv_volume.specs.Whole.{no_bytes}
-use Rattle.jv_rows.specs.FreshRows.{default_setting, fresh_counters, fresh_directory, fresh_rows}
+use Rattle.jv_volume.specs.Fresh.{fresh_counters, fresh_directory}
+use Rattle.jv_rows.specs.FreshRows.{default_setting, fresh_rows}
 
 -- what the changes of a format leave where no row was
 abbrev formatted : ℕ → RowMap

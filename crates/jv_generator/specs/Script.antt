@@ -1,4 +1,5 @@
--- The script of a seed: client A mounts, makes its files, reads and writes at places that are drawn from the seed, and flushes.
+-- The script of a seed: client A mounts, makes its files, reads and writes at places that are drawn
+-- from the seed, and flushes.
 use Rattle.std.specs.Prelude.{ℕ, zero, suc, ◌+◌, ◌*◌, ◌/◌, ◌%◌, ◌^◌, ◌==◌, false, if◌then◌else◌, List, ◌∷◌, ◌++◌, map, replicate, codes, decimal}
 use Rattle.std.specs.List.{range_with_len}
 use Rattle.jv_model.specs.declared.op.Op.{Op}
@@ -24,7 +25,8 @@ state seed (suc steps) = next_state (state seed steps)
 abbrev pub create : ℕ → Op
 create i = Create (codes "/g" ++ decimal i) MODE
 
--- the access with a number, given its state: the handle, the position, how many bytes, and for a write of which value
+-- the access with a number, given its state: the handle, the position, how many bytes, and for a
+-- write of which value
 abbrev pub access : ℕ → ℕ → Op
 access number x =
     let handle = x / 2 ^ 60 + 1 in

@@ -6,7 +6,8 @@ use Rattle.jv_model.specs.Counts.{counted, saturated}
 use Rattle.jv_model.specs.journal.State.{is_refused}
 use Rattle.jv_model.specs.script.Printed.{number_word}
 
--- the lines, those of them that were answered `ok` and `err`, and the bytes that reads returned with the sum of their values
+-- the lines, those of them that were answered `ok` and `err`, and the bytes that reads returned
+-- with the sum of their values
 pub record TotalsValue : Type 0 where
   pub lines : ℕ
   pub ok : ℕ

@@ -65,13 +65,15 @@ FollowsClock = (run : Setup) (journal : List Act) → AllAllowed (at_start run) 
     → (earlier later : ℕ) → earlier ≤ later
     → IfSome (entry_at journal earlier) (λ a. IfSome (entry_at journal later) (λ b. Follows a b))
 
--- An entry that asks the clock has the moment of the clock's next answer, and another one that of the entry before it.
+-- An entry that asks the clock has the moment of the clock's next answer, and another one that of
+-- the entry before it.
 pub record HasMoment (answers : ℕ → ℕ) (p : Past) (act : Act) : Type 0 where
   pub asked : IsTrue (asks_clock p act)
       → act.at ≡ clock_moment p (p.ticks + tick_of act.kind) answers
   pub unasked : asks_clock p act ≡ false → act.at ≡ p.at
 
--- Where the clock's answers are known, they and the ticks determine the moments. Entries of uploading threads are left out.
+-- Where the clock's answers are known, they and the ticks determine the moments. Entries of
+-- uploading threads are left out.
 abbrev pub MomentsAreTheClocks : Type 0
 MomentsAreTheClocks = (run : Setup) (journal : List Act) (act : Act)
     → AllAllowed (at_start run) (journal ++ act ∷ []) → run.by_worker (1 + length journal) ≡ false
@@ -100,7 +102,8 @@ abbrev pub settles : ℕ → ActKind → Bool
 settles commit (Settled settled) = settled == commit
 settles commit _ = false
 
--- A client owes a commit at the end of a journal: it left blocks staged, and nothing settled it since.
+-- A client owes a commit at the end of a journal: it left blocks staged, and nothing settled it
+-- since.
 pub record IsOwed (journal : List Act) (client commit : ℕ) : Type 0 where
   pub made : IsSomeAnd (entry_at journal commit)
       (λ act. (act.client ≡ client) × IsTrue (leaves_staged act.kind))
@@ -118,7 +121,8 @@ pub record IsOwedBySome (journal : List Act) (commit : ℕ) : Type 0 where
   pub client : ℕ
   pub owed : IsOwed journal client commit
 
--- A settled commit is owed by some client: by the one whose upload settles it, or whose line of the script waits for that.
+-- A settled commit is owed by some client: by the one whose upload settles it, or whose line of the
+-- script waits for that.
 pub record SettlesOf (run : Setup) (journal : List Act) (act : Act) (commit : ℕ) : Type 0 where
   pub by_some : IsOwedBySome journal commit
   pub by_own : (act.client ≡ NO_CLIENT → ⊥) → IsOwed journal act.client commit
@@ -239,8 +243,9 @@ pub record ResolvesWrite (client inode position : ℕ) (act : Act) : Type 0 wher
   pub resolves : IsTrue (commits_position inode position act.kind)
       ⊎ IsTrue (loses_pending inode act.kind)
 
--- Between a write that is done and a close of the file that is done, by one client, stands its commit to each position
--- that was written, unless the client crashed meanwhile, or was answered that its session or the file is gone.
+-- Between a write that is done and a close of the file that is done, by one client, stands its
+-- commit to each position that was written, unless the client crashed meanwhile, or was answered
+-- that its session or the file is gone.
 abbrev pub ClosesCommitWrites : Type 0
 ClosesCommitWrites = (run : Setup) (before between : List Act) (write close : Act)
     → AllAllowed (at_start run) ((before ++ write ∷ between) ++ close ∷ [])
@@ -266,8 +271,8 @@ pub record AnswersAsTree (p : Past) (act : Act) (tree_reply : Reply) : Type 0 wh
   pub kind : act.kind ≡ Answered (told_of tree_reply)
   pub reply : line_reply p (told_of tree_reply) ≡ tree_reply
 
--- The next entry of the client after its operation's transaction answers it, with the tree's reply to the operation on
--- the state before the transaction.
+-- The next entry of the client after its operation's transaction answers it, with the tree's reply
+-- to the operation on the state before the transaction.
 abbrev pub AnswersModel : Type 0
 AnswersModel = (run : Setup) (before between : List Act) (act answer : Act)
     → AllAllowed (at_start run) ((before ++ act ∷ between) ++ answer ∷ [])
@@ -287,8 +292,9 @@ pub record AreSeen (run : Setup) (journal : List Act) (client : ℕ) (file : Ope
   pub same : bytes ≡ bytes_between (or_empty (content_at (reached run
       (take look journal)).state.tree file.inode)) asked.from asked.to
 
--- Bytes of the parts of a range, one part for each window, by the looks cited for them, 0 for a window that wasn't read:
--- the second window is read where the first one gave all that was asked of it.
+-- Bytes of the parts of a range, one part for each window, by the looks cited for them, 0 for a
+-- window that wasn't read: the second window is read where the first one gave all that was asked of
+-- it.
 pub data AreRead (run : Setup) (journal : List Act) (client : ℕ) (opened : Option OpenFile)
     (parts : List Asked) (first second : ℕ) (bytes : List ℕ) : Type 0 where
   NoPart : parts ≡ [] → first ≡ 0 → second ≡ 0 → bytes ≡ []
@@ -303,7 +309,8 @@ pub data AreRead (run : Setup) (journal : List Act) (client : ℕ) (opened : Opt
       → AreSeen run journal client file second other more → bytes ≡ some ++ more
       → AreRead run journal client opened parts first second bytes
 
--- a read that is answered with two looks and a number returns that many bytes, which are those of the looks
+-- a read that is answered with two looks and a number returns that many bytes, which are those of
+-- the looks
 pub record Returns (run : Setup) (journal : List Act) (client : ℕ) (c : ModelClient) (d : Doing)
     (handle offset len first second number : ℕ) : Type 0 where
   pub bytes : List ℕ
@@ -341,7 +348,8 @@ ReadsCiteLooks = (run : Setup) (journal : List Act) (act : Act)
 
 -- lines
 
--- what the entries of a line do, but for those of uploading threads, in a journal whose first entry has this number
+-- what the entries of a line do, but for those of uploading threads, in a journal whose first entry
+-- has this number
 abbrev pub kinds_on : (ℕ → Bool) → ℕ → ℕ → List Act → List ActKind
 kinds_on by_worker line number [] = []
 kinds_on by_worker line number (act ∷ acts) =
@@ -366,7 +374,8 @@ pub data IsOneStep (kinds : List ActKind) : Type 0 where
   OneEntry : (kind : ActKind) → kinds ≡ kind ∷ [] → IsOneStep kinds
   AndAnswer : (kind : ActKind) (told : Told) → kinds ≡ kind ∷ Answered told ∷ [] → IsOneStep kinds
 
--- The entries that a line has: a refused operation has its answer alone, and one that was begun none.
+-- The entries that a line has: a refused operation has its answer alone, and one that was begun
+-- none.
 abbrev pub FitsLine : Line → List ActKind → Type 0
 FitsLine Empty kinds = kinds ≡ []
 FitsLine (Do client o) kinds = EndsAnswered kinds
@@ -398,8 +407,8 @@ pub record RefusesAlone (client : ℕ) (fault : Fault) (act later : Act) : Type 
       ⊎ (act.kind ≡ Answered (ToldRefused NoMemory))
   pub alone : act.line < later.line
 
--- Where the line of an entry submits an operation that is refused, the entry says so, and no other follows on the line.
--- Entries of uploading threads are left out.
+-- Where the line of an entry submits an operation that is refused, the entry says so, and no other
+-- follows on the line. Entries of uploading threads are left out.
 abbrev pub RefusedLinesHaveOneEntry : Type 0
 RefusedLinesHaveOneEntry = (run : Setup) (before between : List Act) (act later : Act)
     → AllAllowed (at_start run) ((before ++ act ∷ between) ++ later ∷ [])
@@ -453,15 +462,16 @@ CleansOnlyInClean = (run : Setup) (journal : List Act) (act : Act)
     → ((begun_to act.line (reached run journal)).state.clients act.client).doing ≡ Some d
     → d.op ≡ op.Clean
 
--- whether an entry ends its client's operation: a crash and an answer do, but for the refusal of another operation meanwhile
+-- whether an entry ends its client's operation: a crash and an answer do, but for the refusal of
+-- another operation meanwhile
 abbrev pub ends_operation : ActKind → Bool
 ends_operation Crashed = true
 ends_operation (Answered (ToldRefused InProgress)) = false
 ends_operation (Answered told) = true
 ends_operation _ = false
 
--- A request of the client's operation in progress changed nothing, and this held in the state before it, at its moment. So
--- many entries stand before it.
+-- A request of the client's operation in progress changed nothing, and this held in the state
+-- before it, at its moment. So many entries stand before it.
 pub record FoundNothing (run : Setup) (journal : List Act) (client before : ℕ)
     (Holds : State → ℕ → Type 0) : Type 0 where
   pub act : Act
@@ -480,7 +490,8 @@ NoSessionDue client s now = due_session s.tree (session_of (s.clients client)) n
 abbrev pub NoHourDue : State → ℕ → Type 0
 NoHourDue s now = due_purge s.tree now ≡ None
 
--- The operation in progress found no session that was due, and later no directory of an hour that was.
+-- The operation in progress found no session that was due, and later no directory of an hour that
+-- was.
 pub record FoundNoneDue (run : Setup) (journal : List Act) (client : ℕ) : Type 0 where
   pub first : ℕ
   pub second : ℕ
@@ -495,7 +506,8 @@ pub data MayEndCleaning (run : Setup) (journal : List Act) (client : ℕ)
       → MayEndCleaning run journal client stage
   HadFewer : FoundNoneDue run journal client → MayEndCleaning run journal client stage
 
--- a `clean` that is done had as many items as one may have, or found no session and then no hour that was due
+-- a `clean` that is done had as many items as one may have, or found no session and then no hour
+-- that was due
 abbrev pub CleansWhatIsDue : Type 0
 CleansWhatIsDue = (run : Setup) (journal : List Act) (act : Act)
     → AllAllowed (at_start run) (journal ++ act ∷ []) → (act.client ≡ NO_CLIENT → ⊥)

@@ -27,8 +27,8 @@ HoldsFiles held t = (inode : ℕ) → IsTrue (is_among inode held)
     → IsTrue (is_there ((shape_of t).form inode))
     → (shape_of t).form inode ≡ Regular
 
--- an entry of a file or a symlink of a whole tree, which a caller whose session is there removes at a moment of the
--- clock
+-- an entry of a file or a symlink of a whole tree, which a caller whose session is there removes at
+-- a moment of the clock
 pub record MayLose (t : Tree) (who : Caller) (place : EntryKey) (inode : ℕ) : Type 0 where
   pub whole : WholeShape (shape_of t)
   pub is : get t.entries place ≡ Some inode
@@ -75,7 +75,8 @@ abbrev pub renamed_in : Result (Option Removed) TxFault → Option (Option Remov
 renamed_in (Ok removed) = Some removed
 renamed_in (Err fault) = None
 
--- Over whole rows, whose tree is ready, what was removed says which file the session keeps from then on.
+-- Over whole rows, whose tree is ready, what was removed says which file the session keeps from
+-- then on.
 abbrev pub SaysSustained : ℕ → (Tree → Type 0) → Store → Option (Option Removed)
     → (Tree → Result Outcome Fault)
     → Type 0

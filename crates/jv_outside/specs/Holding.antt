@@ -4,7 +4,8 @@ use Rattle.std.specs.Option.{option_map}
 use Rattle.jv_model.specs.declared.fault.Down.{Down}
 use Rattle.jv_outside.specs.Causes.{IsCaused}
 
--- the content, where it is known; the place where the device was opened last, if it was; and how many calls failed
+-- the content, where it is known; the place where the device was opened last, if it was; and how
+-- many calls failed
 pub record Holding (M : Type 0) : Type 0 where
   pub content : Option M
   pub opened : Option (List ℕ)

@@ -56,8 +56,8 @@ abbrev pub seen_after : Option (List ℕ) → ℕ → ObjectMap → List Seen
 seen_after last count objects =
     take count (map as_seen (filter (λ object. is_later last object.0) objects.list))
 
--- The parcel's bytes and moment are at its name, and no call failed since. A depot whose objects are known knows the
--- bytes, so it publishes no parcel that may stand for any.
+-- The parcel's bytes and moment are at its name, and no call failed since. A depot whose objects
+-- are known knows the bytes, so it publishes no parcel that may stand for any.
 pub record IsPublished (before after : Holding ObjectMap) (parcel : Parcel) : Type 0 where
   pub content_is : (bytes : List ℕ) → Carries parcel.load bytes
       → after.content ≡ option_map (with_object parcel.name bytes parcel.at) before.content

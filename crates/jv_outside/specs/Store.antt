@@ -9,7 +9,8 @@ use Rattle.jv_outside.specs.declared.batch.Change.{Change}
 use Rattle.jv_outside.specs.Causes.{IsCaused}
 use Rattle.jv_outside.specs.Rows.{applied, rows_after}
 
--- the rows, where they are known; the place where the keeper was opened last, if it was; and how many calls failed
+-- the rows, where they are known; the place where the keeper was opened last, if it was; and how
+-- many calls failed
 pub record Store : Type 0 where
   pub rows : Option RowMap
   pub opened : Option (List ℕ)

@@ -9,7 +9,8 @@ use Rattle.jv_outside.specs.declared.store.RowStore.{RowStore}
 use Rattle.jv_outside.specs.LazyTrees.{entries_in}
 use Rattle.jv_outside.specs.Rows.{applied}
 
--- the rows: those in the tree, before them those that aren't there yet, and on both the changes that wait
+-- the rows: those in the tree, before them those that aren't there yet, and on both the changes
+-- that wait
 abbrev pub stored : RowStore → RowMap
 stored store = applied store.waiting.items (row_map (store.listed.items ++ entries_in store.tree))
 

@@ -112,7 +112,8 @@ pub record IsCut (inode from : ℕ) (bytes : List ℕ) (runs : List Run) : Type 
   pub order : InOrder (place inode from - gap from) runs
   pub ends : end_after (place inode from) runs ≡ place inode (from + length bytes)
 
--- what a write from a position on leaves of the runs that it overlaps or touches: the bytes before it
+-- what a write from a position on leaves of the runs that it overlaps or touches: the bytes before
+-- it
 abbrev pub head_of : ℕ → List Run → List ℕ
 head_of from [] = []
 head_of from (r ∷ rs) = take (from - r.0.from) r.1
@@ -146,7 +147,8 @@ abbrev pub Reaches : ℕ → List Run → Type 0
 Reaches from [] = Unit {0}
 Reaches from (r ∷ rs) = from + 1 ≤ end_of_run r + gap from
 
--- the run at `first` overlaps or touches what begins at a position, or `first` is its start, and no run before it does
+-- the run at `first` overlaps or touches what begins at a position, or `first` is its start, and no
+-- run before it does
 pub record IsFirst (inode from : ℕ) (runs : List Run) (first : RunStart) : Type 0 where
   pub inode_is : first.inode ≡ inode
   pub from_is : first.from ≤ from
@@ -177,7 +179,8 @@ abbrev pub given_back : RunStart → Bool → List ℕ → List Run → List Run
 given_back s is_new bytes runs =
     if is_new then without_run s runs else with_runs ((s, bytes) ∷ []) (place_of s + 1) runs
 
--- the last run before `end` begins behind `first`, and more than `count` of its bytes lie behind a position
+-- the last run before `end` begins behind `first`, and more than `count` of its bytes lie behind a
+-- position
 pub record IsLonger (first end : RunStart) (to count : ℕ) (runs : List Run)
     (last : RunStart) : Type 0 where
   pub bytes : List ℕ
@@ -186,13 +189,14 @@ pub record IsLonger (first end : RunStart) (to count : ℕ) (runs : List Run)
   pub from : last.from ≤ to
   pub longer : count + (to - last.from) < length bytes
 
--- the run at `first` overlaps or touches what begins at a position, or `first` is its start, and the runs from there on are
--- in order
+-- the run at `first` overlaps or touches what begins at a position, or `first` is its start, and
+-- the runs from there on are in order
 pub record Starts (from : ℕ) (runs : List Run) (first : RunStart) : Type 0 where
   pub order : InOrder (place_of first - gap first.from) (runs_from (place_of first) runs)
   pub touches : IsFirst first.inode from (runs_from (place_of first) runs) first
 
--- the run at `first` is the only one that a write of `count` bytes overlaps or touches, and the write stays in one window
+-- the run at `first` is the only one that a write of `count` bytes overlaps or touches, and the
+-- write stays in one window
 pub record IsOnly (from count : ℕ) (runs : List Run) (first : RunStart) : Type 0 where
   pub is_first : IsFirst first.inode from runs first
   pub there : IsSome (bytes_at first runs)

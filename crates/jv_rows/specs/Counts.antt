@@ -76,7 +76,8 @@ pub record IsFull (id gone added : ℕ) (rows : Rows) : Type 0 where
   pub was : get rows (slice_key id) ≡ Some (Ok (OfSlice slice))
   pub full : may_become slice.count (recounted slice.count gone added) ≡ false
 
--- why a slice's count didn't follow: it would grow past 2^62, its row is malformed or absent, the keeper failed, or out of memory
+-- why a slice's count didn't follow: it would grow past 2^62, its row is malformed or absent, the
+-- keeper failed, or out of memory
 abbrev pub RefusesRecount : ℕ → ℕ → ℕ → List Change → Option RowMap → TxFault → Type 0
 RefusesRecount id gone added changes rows (Refused fault) =
     (fault ≡ NoSpace) × IfSome rows (λ known. IsFull id gone added (drafted changes known))
@@ -100,8 +101,8 @@ RefusesAdjust gone added changes rows (OfRows (Bad at bytes)) =
 RefusesAdjust gone added changes rows (OfRows Failed) = Unit {0}
 RefusesAdjust gone added changes rows (OfRows Memory) = Unit {0}
 
--- Counts follow records that went and came, over changes: rows and place are the same, and where the rows are known, the changes
--- leave them adjusted.
+-- Counts follow records that went and came, over changes: rows and place are the same, and where
+-- the rows are known, the changes leave them adjusted.
 pub record Adjusts (gone added : List Rec) (due : ℕ) (before after : Store)
     (changes changed : List Change) (result : Result (Unit {0}) TxFault) : Type 0 where
   pub rows_are : after.rows ≡ before.rows

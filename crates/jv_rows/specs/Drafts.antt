@@ -33,14 +33,16 @@ last_change key [] = None
 last_change key (first ∷ rest) =
     option_or (last_change key rest) (if is_key_of key (key_in first) then Some first else None)
 
--- why no value was read from bytes that a change left at a key: they are malformed, or out of memory
+-- why no value was read from bytes that a change left at a key: they are malformed, or out of
+-- memory
 abbrev pub RefusesPut : {A : Type 0} → (List ℕ → Option A) → RowKey → List ℕ → RowFault → Type 0
 RefusesPut read key bytes (Bad at malformed) =
     (at ≡ key) × (malformed ≡ bytes) × (read bytes ≡ None)
 RefusesPut read key bytes Failed = ⊥
 RefusesPut read key bytes Memory = Unit {0}
 
--- what was read from bytes that a change left at a key: the value that they spell, which the grammar allows
+-- what was read from bytes that a change left at a key: the value that they spell, which the
+-- grammar allows
 pub record ReadsPut {A : Type 0} (read : List ℕ → Option A) (is_allowed : A → Bool) (key : RowKey)
     (bytes : List ℕ) (result : Result (Option A) RowFault) : Type 0 where
   pub found : IfOk result (λ found.
@@ -62,8 +64,8 @@ RefusesCell key changes rows (Bad at bytes) =
 RefusesCell key changes rows Failed = Unit {0}
 RefusesCell key changes rows Memory = Unit {0}
 
--- A reading of the row at a key, over changes: rows and place are the same, and where the rows are known, the answer is what
--- stands there. A row is one that the grammar allows, whatever is known.
+-- A reading of the row at a key, over changes: rows and place are the same, and where the rows are
+-- known, the answer is what stands there. A row is one that the grammar allows, whatever is known.
 pub record Sees {A : Type 0} (row : A → Row) (is_allowed : A → Bool) (key : RowKey)
     (changes : List Change) (before after : Store)
     (result : Result (Option A) RowFault) : Type 0 where
@@ -88,7 +90,8 @@ IsNoRow None bytes = bytes ≡ []
 IsNoRow (Some (Ok row)) bytes = ⊥
 IsNoRow (Some (Err stored)) bytes = stored ≡ bytes
 
--- why a row that has to be there wasn't found: it is malformed or absent, the keeper failed, or out of memory
+-- why a row that has to be there wasn't found: it is malformed or absent, the keeper failed, or out
+-- of memory
 abbrev pub RefusesNeeded : RowKey → List Change → Option RowMap → TxFault → Type 0
 RefusesNeeded key changes rows (Refused fault) = ⊥
 RefusesNeeded key changes rows (Moved list) = ⊥

@@ -75,8 +75,8 @@ RefusesList rows (Bad at bytes) = IfSome rows (λ known. get (typed known) at �
 RefusesList rows Failed = Unit {0}
 RefusesList rows Memory = Unit {0}
 
--- A reading of a file's next list, after a window or from the first on: rows and place are the same, and where the rows are known,
--- there is none between.
+-- A reading of a file's next list, after a window or from the first on: rows and place are the
+-- same, and where the rows are known, there is none between.
 pub record FindsList (inode : ℕ) (last : Option ℕ) (before now : Store)
     (result : Result (Option (ℕ × List Rec)) RowFault) : Type 0 where
   pub rows_are : now.rows ≡ before.rows

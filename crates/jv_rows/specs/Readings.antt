@@ -32,8 +32,8 @@ RefusesRow read key rows (Bad at bytes) =
 RefusesRow read key rows Failed = Unit {0}
 RefusesRow read key rows Memory = Unit {0}
 
--- a reading of the row at a key: rows and place are the same, and where the rows are known, the answer is what is stored.
--- A value is one that the grammar allows, whatever is known
+-- a reading of the row at a key: rows and place are the same, and where the rows are known, the
+-- answer is what is stored. A value is one that the grammar allows, whatever is known
 pub record ReadsRow {A : Type 0} (read : List ℕ → Option A) (spelled : A → List ℕ)
     (is_allowed : A → Bool) (key : RowKey) (before after : Store)
     (result : Result (Option A) RowFault) : Type 0 where

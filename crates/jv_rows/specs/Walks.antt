@@ -35,14 +35,16 @@ abbrev pub inode_in : Result Place TxFault → Result ℕ TxFault
 inode_in (Ok place) = Ok place.inode
 inode_in (Err fault) = Err fault
 
--- A part of a walk that reaches a node: over whole rows it is the model's, and its row, one that the grammar allows, stands there.
+-- A part of a walk that reaches a node: over whole rows it is the model's, and its row, one that
+-- the grammar allows, stands there.
 pub record Comes (before after : Store) (result : Result Place TxFault)
     (finds : Tree → Result ℕ Fault) : Type 0 where
   pub looks : Looks before after (inode_in result) finds
   pub stands : IfOk result (λ place. HasNodeRow after place.inode place.node)
   pub allowed : IfOk result (λ place. IsTrue (is_node place.node))
 
--- Where a walk comes without following a symlink: to its end, or to a symlink, from whose directory or the root it goes on by other names.
+-- Where a walk comes without following a symlink: to its end, or to a symlink, from whose directory
+-- or the root it goes on by other names.
 pub data Course : Type 0 where
   Ended : (inode : ℕ) → Course
   Onward : (inode : ℕ) (names : List (List ℕ)) → Course
@@ -96,8 +98,8 @@ abbrev pub entry_in : Result EntryPlace TxFault → Result (ℕ × List ℕ) TxF
 entry_in (Ok entry) = Ok (entry.dir.inode, entry.name)
 entry_in (Err fault) = Err fault
 
--- A walk to an entry, whether that is there or not: over whole rows it is the model's, and its directory's row, one that the grammar
--- allows, stands there.
+-- A walk to an entry, whether that is there or not: over whole rows it is the model's, and its
+-- directory's row, one that the grammar allows, stands there.
 pub record ComesToEntry (before after : Store) (result : Result EntryPlace TxFault)
     (finds : Tree → Result (ℕ × List ℕ) Fault) : Type 0 where
   pub looks : Looks before after (entry_in result) finds

@@ -11,8 +11,8 @@ use Rattle.jv_model.specs.client.ModelClient.{ModelClient, session_of}
 use Rattle.jv_model.specs.journal.State.{State, has_session}
 use Rattle.jv_model.specs.journal.Steps.{Start, is_crowded}
 
--- The first of what it needs that isn't so: its session, its file, that its first block was put less than an upload's
--- life ago, and room for its bytes, its slice and its record.
+-- The first of what it needs that isn't so: its session, its file, that its first block was put
+-- less than an upload's life ago, and room for its bytes, its slice and its record.
 pub data RefusesCommit (start : Start) (s : State) (now : ℕ) (c : ModelClient) (segment : Segment)
     (started : ℕ)
     (fault : Fault) : Type 0 where

@@ -1,4 +1,5 @@
--- What makes a tree whole. It sees no times, attributes or bytes, so it is a fact on the tree's shape alone.
+-- What makes a tree whole. It sees no times, attributes or bytes, so it is a fact on the tree's
+-- shape alone.
 use Rattle.std.specs.Prelude.{◌≡◌, ℕ, zero, suc, ◌<◌, ◌≤◌, Bool, true, false, ◌&&◌, ◌||◌, ◌==◌, nat_le, nat_lt, List, is_some, Option, None, Some, IsTrue}
 use Rattle.jv_model.specs.declared.limits.TheConstants.{FULL_COUNT, ROOT, TRASH_ROOT}
 use Rattle.jv_model.specs.declared.lifetimes.TheConstants.{FIRST_HOUR}
@@ -81,7 +82,8 @@ pub record NamesHour (at : EntryKey) (inode : ℕ) : Type 0 where
   pub hour : IsTrue (is_hour inode)
   pub name : at.name ≡ hour_name (hour_of inode)
 
--- an entry of an hour is a file or a symlink, the last entry of its inode, named after where it stood and its inode
+-- an entry of an hour is a file or a symlink, the last entry of its inode, named after where it
+-- stood and its inode
 pub record NamesTrashed (s : Shape) (at : EntryKey) (inode : ℕ) : Type 0 where
   pub leaf : is_dir (s.form inode) ≡ false
   pub only : names s inode ≡ 1

@@ -17,7 +17,8 @@ use Rattle.jv_model.specs.tree.Changes.{content_of}
 use Rattle.jv_volume.specs.TypedRows.{Cell, Rows}
 use Rattle.jv_volume.specs.Views.{row_in, setting_at, counters_at, node_in, edge_in, session_in, sustained_in}
 
--- A table's rows as a map of their own: what a row's key is there, if it is of the table, and what the row is.
+-- A table's rows as a map of their own: what a row's key is there, if it is of the table, and what
+-- the row is.
 abbrev pub entry_selected : {K X : Type 0} → (K → Option Row → Option X) → Option K → Cell
     → List (K × X) → List (K × X)
 entry_selected value_of None cell others = others

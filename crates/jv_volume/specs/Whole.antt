@@ -1,4 +1,5 @@
--- When a volume's rows are whole: they are those of their tree, which is whole, and so are lists, slices and files.
+-- When a volume's rows are whole: they are those of their tree, which is whole, and so are lists,
+-- slices and files.
 use Rattle.std.specs.Prelude.{◌≡◌, ℕ, Bool, ◌||◌, ◌==◌, Some, IsTrue}
 use Rattle.jv_model.specs.declared.tables.TheConstants.{TABLE_OF_LISTS, TABLE_OF_SLICES, TABLE_OF_DEAD}
 use Rattle.jv_model.specs.declared.row.RowKey.{RowKey}

@@ -12,7 +12,8 @@ upper_digit n = slice_index (codes "0123456789ABCDEF") n
 abbrev pub upper_pair : ℕ → List ℕ
 upper_pair byte = upper_digit (byte / 16) ∷ upper_digit (byte % 16) ∷ []
 
--- where the blocks of a slice lie without hash prefix: by millions of ids, and below that by thousands
+-- where the blocks of a slice lie without hash prefix: by millions of ids, and below that by
+-- thousands
 abbrev pub plain_folder : ℕ → List ℕ
 plain_folder id = decimal (id / 1000 / 1000) ++ codes "/" ++ decimal (id / 1000)
 

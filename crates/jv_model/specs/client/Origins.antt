@@ -35,7 +35,8 @@ abbrev pub marks_truncated : ℕ → ℕ → ℕ → Marks → Marks
 marks_truncated entry inode len marks = λ i position. if (i == inode) && nat_le len position
     then marked Zero entry else marks i position
 
--- a copy takes each origin along; zeros fill what lies between the target's old length and its range
+-- a copy takes each origin along; zeros fill what lies between the target's old length and its
+-- range
 abbrev pub marks_copied : ℕ → ℕ → ℕ → ℕ → ℕ → ℕ → ℕ → Marks → Marks
 marks_copied entry source from target to len length marks =
     λ i position. if not (i == target) || (len == 0) then marks i position
@@ -60,7 +61,8 @@ pub record Owed : Type 0 where
 abbrev pub owes : ℕ → ℕ → Owed → Bool
 owes client commit owed = (owed.commit == commit) && not (owed.client == client)
 
--- the number of the Commit of another client, or 0 for a byte from before the run, that may be missing for this client
+-- the number of the Commit of another client, or 0 for a byte from before the run, that may be
+-- missing for this client
 abbrev pub missing_commit : (ℕ → ℕ → List ℕ) → List Owed → ℕ → Origin → Option ℕ
 missing_commit shelved owed client (Start inode position) =
     (if list_any (λ q. not (q == client)) (shelved inode position) then Some 0 else None)

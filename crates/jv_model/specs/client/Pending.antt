@@ -1,5 +1,5 @@
--- Bytes that a client has written and not yet committed: a partial map from inode and position to byte, kept as
--- the list of its bytes in rising order of their places.
+-- Bytes that a client has written and not yet committed: a partial map from inode and position to
+-- byte, kept as the list of its bytes in rising order of their places.
 use Rattle.std.specs.Prelude.{ℕ, ◌+◌, ◌%◌, Bool, true, ◌&&◌, ◌||◌, not, ◌==◌, nat_lt, nat_le, if◌then◌else◌, List, [], ◌∷◌, map, filter, Option, None, Some}
 use Rattle.jv_model.specs.declared.limits.TheConstants.{WINDOW}
 
@@ -78,7 +78,8 @@ run_length inode position (b ∷ bs) = (if stands_at inode position b
     then (if (position + 1) % WINDOW == 0 then 1 else 1 + run_length inode (position + 1) bs)
     else 0)
 
--- the least segment: pending positions in a row, as many as there are inside one window; a flush commits it first
+-- the least segment: pending positions in a row, as many as there are inside one window; a flush
+-- commits it first
 abbrev pub first_segment : List PendingByte → Option Segment
 first_segment [] = None
 first_segment (b ∷ bs) =

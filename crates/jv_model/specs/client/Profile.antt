@@ -1,4 +1,5 @@
--- What each operation needs before its first step, what it commits first, and what it does then: one row an operation.
+-- What each operation needs before its first step, what it commits first, and what it does then:
+-- one row an operation.
 use Rattle.std.specs.Prelude.{ℕ, ◌+◌, true, false, ◌||◌, ◌==◌, nat_le, if◌then◌else◌, List, [], ◌∷◌, length}
 use Rattle.jv_model.specs.declared.limits.TheConstants.{FILE_END}
 use Rattle.jv_model.specs.declared.op.Op.{Op}

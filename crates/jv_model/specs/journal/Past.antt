@@ -1,5 +1,6 @@
--- A run so far: its lines, what the present one may still have, what is printed, and the clock, beside the state that its
--- entries have reached. A journal is folded over its entries; before an entry the lines up to its own are begun.
+-- A run so far: its lines, what the present one may still have, what is printed, and the clock,
+-- beside the state that its entries have reached. A journal is folded over its entries; before an
+-- entry the lines up to its own are begun.
 use Rattle.std.specs.Prelude.{ℕ, zero, suc, ◌+◌, ◌-◌, Bool, true, false, ◌&&◌, not, if◌then◌else◌, List, [], ◌∷◌, ◌++◌, length, is_some, Option, None, Some, codes, decimal, unwrap_or}
 use Rattle.jv_model.specs.declared.basics.Limits.{Limits}
 use Rattle.jv_model.specs.declared.act.Act.{Act}
@@ -86,7 +87,8 @@ ends_now (Some d) = must_answer d
 abbrev pub ends_in_step : ModelClient → Bool
 ends_in_step c = ends_now c.doing
 
--- whether a line may end here: an operation that goes on may be left after a step, or before it began
+-- whether a line may end here: an operation that goes on may be left after a step, or before it
+-- began
 abbrev pub is_over : Past → Bool
 is_over p = elim p.due [
   | NoMore ↦ true
@@ -133,7 +135,8 @@ begun p (Crash client) = record p { due = CrashEntry client }
 begun p (Drain client) = record p { due = DrainEntries client }
 begun p (Tick by) = record p { due = TickEntry by }
 
--- the line that was begun is over, and these are left: its text is printed, and whether it was complete is kept
+-- the line that was begun is over, and these are left: its text is printed, and whether it was
+-- complete is kept
 abbrev pub after_line : Past → List Line → Past
 after_line p rest = record p {
   rest = rest;

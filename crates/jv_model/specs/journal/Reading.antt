@@ -24,7 +24,8 @@ pub record Asked : Type 0 where
   pub from : ℕ
   pub to : ℕ
 
--- The parts of a range, one for each window that it touches, at most two. No file goes past its greatest length.
+-- The parts of a range, one for each window that it touches, at most two. No file goes past its
+-- greatest length.
 abbrev pub asked_parts : ℕ → ℕ → List Asked
 asked_parts offset len =
     let stop = min (offset + len) FILE_END in
@@ -38,8 +39,8 @@ asked_parts offset len =
       to = stop;
     } ∷ []
 
--- A handle's view is fresh while the client keeps it, where it was taken after the file was opened: a client gives up its
--- views of a file when it changes the file.
+-- A handle's view is fresh while the client keeps it, where it was taken after the file was opened:
+-- a client gives up its views of a file when it changes the file.
 abbrev pub is_fresh : ℕ → OpenFile → ℕ → View → Bool
 is_fresh handle file window view = (view.handle == handle) && (view.inode == file.inode)
     && (view.window == window) && nat_lt file.opened view.entry
@@ -77,7 +78,8 @@ read_on views handle file second asked (other ∷ others) (Some bytes) =
     (if is_full asked bytes then joined bytes (part_read views handle file second other)
     else provided (second == 0) bytes)
 
--- what a read of these parts returns, citing one look for each part that was read and 0 for each that wasn't
+-- what a read of these parts returns, citing one look for each part that was read and 0 for each
+-- that wasn't
 abbrev pub reading : List View → ℕ → OpenFile → List Asked → ℕ → ℕ → Option (List ℕ)
 reading views handle file [] first second = provided ((first == 0) && (second == 0)) []
 reading views handle file (asked ∷ others) first second =
@@ -87,8 +89,8 @@ reading views handle file (asked ∷ others) first second =
 abbrev pub shows_all : Asked → View → Bool
 shows_all asked view = nat_le asked.to view.content.length
 
--- The part whose window has to be looked at before the reading goes on: the first without a fresh view, where all parts
--- before it are full. None where nothing has to be looked at.
+-- The part whose window has to be looked at before the reading goes on: the first without a fresh
+-- view, where all parts before it are full. None where nothing has to be looked at.
 abbrev pub part_to_look : List View → ℕ → OpenFile → List Asked → Option Asked
 part_to_look views handle file [] = None
 part_to_look views handle file (asked ∷ others) = elim (fresh_view views handle file asked.window) [

@@ -1,5 +1,5 @@
--- What a journal has reached, and what one more entry does to it: the tree, the clients, and whose blocks are owed. It
--- knows no lines, clock or text.
+-- What a journal has reached, and what one more entry does to it: the tree, the clients, and whose
+-- blocks are owed. It knows no lines, clock or text.
 use Rattle.std.specs.Prelude.{ℕ, ◌+◌, ◌%◌, Bool, true, false, ◌&&◌, ◌||◌, not, ◌==◌, nat_lt, if◌then◌else◌, List, [], ◌∷◌, ◌++◌, map, filter, is_some, Option, None, Some, unwrap_or}
 use Rattle.jv_model.specs.declared.tables.TheConstants.{TABLE_OF_DROPPED}
 use Rattle.jv_model.specs.declared.limits.TheConstants.{TRASH_ROOT}
@@ -191,8 +191,8 @@ session_gone c = reply.Refused (Stale (Session (session_of c)))
 abbrev pub has_session : Tree → ModelClient → Bool
 has_session t c = is_some (get t.sessions (session_of c))
 
--- A request of the flush: the first takes a number for the slice, in a transaction that needs the session; the others
--- bring the blocks, from the moment of the second on.
+-- A request of the flush: the first takes a number for the slice, in a transaction that needs the
+-- session; the others bring the blocks, from the moment of the second on.
 abbrev pub flushing_on : State → ModelClient → ℕ → ℕ → ℕ → Stage
 flushing_on s c now quiets started =
     (if quiets == 0 then if has_session s.tree c then Working 1 0 else Replying (session_gone c)
@@ -225,7 +225,8 @@ removes_block Slices = false
 removes_block Blocks = true
 removes_block MoreBlocks = true
 
--- A request of a cleaning that found nothing more in its part, or a slice, or that removed a block, which needs no session.
+-- A request of a cleaning that found nothing more in its part, or a slice, or that removed a block,
+-- which needs no session.
 abbrev pub cleaning_on : State → ModelClient → Cleaning → Stage
 cleaning_on s c k =
     (if has_session s.tree c || removes_block k.part
@@ -235,8 +236,9 @@ abbrev pub is_collecting : Does → Bool
 is_collecting (Collects delete) = true
 is_collecting _ = false
 
--- A collection lists a page of names and judges them in a transaction, which needs the session. Where it removes none, every
--- second request is such a transaction; else the second one is, and others stand between removals.
+-- A collection lists a page of names and judges them in a transaction, which needs the session.
+-- Where it removes none, every second request is such a transaction; else the second one is, and
+-- others stand between removals.
 abbrev pub judges : Does → ℕ → Bool
 judges (Collects true) requests = requests == 1
 judges (Collects false) requests = requests % 2 == 1
@@ -513,8 +515,8 @@ settled commit s = record s { owed = filter (λ o. not (o.commit == commit)) s.o
 
 -- answers
 
--- What a done operation leaves of its client: a write is pending, a closed handle is open no more, and after `umount` the
--- client is as before any mount.
+-- What a done operation leaves of its client: a write is pending, a closed handle is open no more,
+-- and after `umount` the client is as before any mount.
 abbrev pub finished : Op → ModelClient → ModelClient
 finished (op.Mount writeback) c = c
 finished op.Umount c = unmounted
@@ -555,7 +557,8 @@ finished (op.Gc delete) c = c
 finished op.Upload c = c
 finished op.Stats c = c
 
--- a client whose session is gone is as before any mount; what is pending of an inode that is gone is dropped
+-- a client whose session is gone is as before any mount; what is pending of an inode that is gone
+-- is dropped
 abbrev pub refused_as : Fault → ModelClient → ModelClient
 refused_as (Stale (Session sid)) c = unmounted
 refused_as (Stale (Node inode)) c = record c { pending = pending_of_others inode c.pending }

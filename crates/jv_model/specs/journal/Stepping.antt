@@ -1,5 +1,5 @@
--- One step of a client's operation, which makes at most one transaction or one request: its entries, and whether it ends the
--- operation.
+-- One step of a client's operation, which makes at most one transaction or one request: its
+-- entries, and whether it ends the operation.
 use Rattle.std.specs.Prelude.{◌≡◌, ℕ, Bool, true, false, List, [], ◌∷◌, Option, None, Some}
 use Rattle.jv_model.specs.declared.act.Act.{Act}
 use Rattle.jv_model.specs.declared.act.ActKind.{ActKind}
@@ -34,7 +34,8 @@ is_answer _ = false
 abbrev pub answer_of : ModelClient → Told → Option Reply
 answer_of c told = elim c.doing [ None ↦ None | Some d ↦ Some (reply_of c d told) ]
 
--- A step is a request after which the operation goes on; or an answer that needs no request; or a request and its answer.
+-- A step is a request after which the operation goes on; or an answer that needs no request; or a
+-- request and its answer.
 pub data AllowsStep (start : Start) (alone : Bool) (s : State) (client now : ℕ)
     (kinds : List ActKind) (step : Step) : Type 0 where
   GoesOn : (kind : ActKind) → kinds ≡ kind ∷ [] → step ≡ More

@@ -1,5 +1,5 @@
--- What an entry of a client's operation may be, by the state alone: the requests of the operation in their order, each with
--- the operation's own numbers, and the answers with their causes.
+-- What an entry of a client's operation may be, by the state alone: the requests of the operation
+-- in their order, each with the operation's own numbers, and the answers with their causes.
 use Rattle.std.specs.Prelude.{◌≡◌, ℕ, ◌+◌, ◌%◌, ◌≤◌, ◌<◌, Bool, true, false, ◌&&◌, ◌||◌, not, ◌==◌, nat_le, nat_lt, if◌then◌else◌, IsTrue, MatchBool, IsSomeAnd, List, [], ◌∷◌, length, is_some, Option, None, Some, Result, Ok, Err}
 use Rattle.std.specs.List.{list_any}
 use Rattle.std.specs.Option.{option_map}
@@ -45,7 +45,8 @@ pub record Start : Type 0 where
   pub next_slice : ℕ
   pub records : ℕ  -- of all lists together
 
--- Stored numbers that the tree doesn't have may stand near their end: the next slice's, or how often a slice is named.
+-- Stored numbers that the tree doesn't have may stand near their end: the next slice's, or how
+-- often a slice is named.
 abbrev pub is_crowded : Start → State → Bool
 is_crowded start s = nat_le FULL_COUNT (start.next_slice + s.count)
     || nat_le FULL_COUNT (start.records + s.count + FILE_END + s.copied)
@@ -102,8 +103,8 @@ abbrev may_be_staged : Bool → ℕ → ℕ → Bool
 may_be_staged true quiets staged = nat_lt staged quiets
 may_be_staged false quiets staged = staged == 0
 
--- A commit is of the least segment that is left, after a request for its slice's number and one for each block. Its session
--- and its file are there, it comes in time, and the volume has room.
+-- A commit is of the least segment that is left, after a request for its slice's number and one for
+-- each block. Its session and its file are there, it comes in time, and the volume has room.
 pub record Commits (s : State) (now : ℕ) (c : ModelClient) (d : Doing)
     (inode from len staged : ℕ) : Type 0 where
   pub requests : 2 ≤ quiets_in d.stage
@@ -186,13 +187,15 @@ takes_blocks Written = false
 takes_blocks Replaced = true
 takes_blocks Ended = true
 
--- since the view was taken its file was cut, compacted or removed, and a cleaning went on after that
+-- since the view was taken its file was cut, compacted or removed, and a cleaning went on after
+-- that
 abbrev pub may_be_cleaned : State → View → Bool
 may_be_cleaned s view =
     list_any (λ change. (change.inode == view.inode) && takes_blocks change.kind
     && nat_lt view.entry change.entry && nat_lt change.entry s.swept) s.changes
 
--- why a block that a view shows may be missing: another client owes bytes of it, or it was cleaned away
+-- why a block that a view shows may be missing: another client owes bytes of it, or it was cleaned
+-- away
 pub data MayBeGone (start : Start) (s : State) (client : ℕ) (view : View)
     (from to : ℕ) : Type 0 where
   Owes : (position commit : ℕ) → from ≤ position → position < to
@@ -232,7 +235,8 @@ compaction_target t who o = Err Invalid
 abbrev pub has_to_look_again : Compaction → Bool
 has_to_look_again k = is_some k.missed && (k.view.entry == k.first)
 
--- A compaction looks at the window of its path's file first, and again after a block of it wasn't found.
+-- A compaction looks at the window of its path's file first, and again after a block of it wasn't
+-- found.
 pub data CompactionLooks (s : State) (client now : ℕ) (c : ModelClient) (d : Doing)
     (inode window : ℕ) : Type 0 where
   First : IsTrue (is_ready c d)
@@ -260,7 +264,8 @@ abbrev is_in_time : ℕ → List ℕ → Bool
 is_in_time now [] = true
 is_in_time now (moment ∷ moments) = list_any (λ m. nat_lt now (m + UPLOAD_LIFE)) (moment ∷ moments)
 
--- the list of a window is replaced over a span of it, whose positions are counted from the window's start
+-- the list of a window is replaced over a span of it, whose positions are counted from the window's
+-- start
 pub record Replaces (s : State) (now : ℕ) (c : ModelClient) (d : Doing)
     (inode window from to : ℕ) : Type 0 where
   pub k : Compaction
@@ -329,7 +334,8 @@ CleansRow s c d table key =
     MatchBool (table == TABLE_OF_DROPPED) (CleansItem s c d Files × DropsFile s key)
     ((table ≡ TABLE_OF_DEAD) × CleansItem s c d MoreBlocks)
 
--- a request of a cleaning found nothing more in its part; blocks of slices are removed in any number
+-- a request of a cleaning found nothing more in its part; blocks of slices are removed in any
+-- number
 abbrev finds_none : State → ModelClient → ℕ → CleaningPart → Bool
 finds_none s c now Sessions = not (is_some (due_session s.tree (session_of c) now))
 finds_none s c now Trash = not (is_some (due_purge s.tree now))
@@ -396,7 +402,8 @@ abbrev pub is_failure : Told → Bool
 is_failure (ToldRefused fault) = is_device_or_memory fault
 is_failure _ = false
 
--- whether the step that was made ends the operation: its answer comes in that step, and nothing else may
+-- whether the step that was made ends the operation: its answer comes in that step, and nothing
+-- else may
 abbrev pub must_answer : Doing → Bool
 must_answer d = elim d.stage [
   | Working quiets started ↦ false
@@ -484,8 +491,8 @@ commit_fits s now c segment =
     fits s.tree (committed s.tree now segment.inode segment.from
     (bytes_in_range segment.inode segment.from segment.len c.pending))
 
--- A block was missed, and its window was looked at again just now: the view, what was owed when the block was missed, and
--- the part of the file that is asked for.
+-- A block was missed, and its window was looked at again just now: the view, what was owed when the
+-- block was missed, and the part of the file that is asked for.
 pub data IsMissed (c : ModelClient) (d : Doing) (view : View) (owed : List Owed)
     (from to : ℕ) : Type 0 where
   InReading : (misses window : ℕ) → (file : OpenFile) → (asked : Asked)
@@ -554,7 +561,8 @@ pub record AnswersAtOnce (c : ModelClient) (d : Doing) (told : Told) : Type 0 wh
   pub first : d.moved ≡ false
   pub same : option_map told_of (answer_then c d) ≡ Some told
 
--- A read returns the bytes of the fresh views that it cites, and a view of each window that it needs.
+-- A read returns the bytes of the fresh views that it cites, and a view of each window that it
+-- needs.
 pub record ReadsFresh (c : ModelClient) (d : Doing) (told : Told) : Type 0 where
   pub goes_on : IsTrue (may_read_on c d)
   pub file : OpenFile
@@ -582,7 +590,8 @@ pub data EndsCompaction (d : Doing) (told : Told) : Type 0 where
       → k.has_replaced ≡ true → 2 ≤ before
       → told ≡ Fine before after 0 0 → EndsCompaction d told
 
--- an upload sent a block, or found none that is free to take; where no threads upload, none is staged then
+-- an upload sent a block, or found none that is free to take; where no threads upload, none is
+-- staged then
 pub data EndsUpload (alone : Bool) (s : State) (client : ℕ) (c : ModelClient) (d : Doing)
     (told : Told) : Type 0 where
   Sent : (id index size : ℕ) → d.stage ≡ Requesting 1 → told ≡ Fine id index size 1

@@ -1,4 +1,5 @@
--- The fields of rows: how each is spelled, and how it is read from the first bytes. Numbers are big-endian.
+-- The fields of rows: how each is spelled, and how it is read from the first bytes. Numbers are
+-- big-endian.
 use Rattle.std.specs.Prelude.{ℕ, Bool, ◌&&◌, nat_lt, if◌then◌else◌, List, [], ◌∷◌, length, take, drop, Option, None, Some}
 use Rattle.std.specs.Int.{w16, w32, w64, Width, byte_len, from_be_bytes, to_be_bytes}
 pub use Rattle.jv_model.specs.Optional.{◌>>=◌}

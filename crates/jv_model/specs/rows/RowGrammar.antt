@@ -1,4 +1,5 @@
--- The grammar of rows, version 1: what a value of each table may be, its one spelling, and the value that bytes spell, if they do.
+-- The grammar of rows, version 1: what a value of each table may be, its one spelling, and the
+-- value that bytes spell, if they do.
 use Rattle.std.specs.Prelude.{ℕ, ◌-◌, ◌*◌, ◌/◌, zero, suc, Bool, true, ◌&&◌, ◌||◌, not, ◌==◌, nat_le, if◌then◌else◌, List, [], ◌∷◌, ◌++◌, length, slice_index, Option, None, Some}
 use Rattle.std.specs.List.{flat_map, list_all}
 use Rattle.std.specs.Option.{option_map}

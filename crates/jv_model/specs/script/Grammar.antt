@@ -1,4 +1,5 @@
--- The whole grammar of a script: which line a text is, if it is one. A text is the bytes of a line without its line feed.
+-- The whole grammar of a script: which line a text is, if it is one. A text is the bytes of a line
+-- without its line feed.
 use Rattle.std.specs.Prelude.{ℕ, ◌+◌, ◌%◌, Bool, true, false, ◌&&◌, not, ◌==◌, nat_lt, nat_le, if◌then◌else◌, List, [], ◌∷◌, ◌++◌, length, replicate, Option, None, Some, option_map, codes, bytes_eq, sum_by}
 use Rattle.std.specs.List.{list_all, flat_map}
 use Rattle.jv_model.specs.declared.limits.TheConstants.{MAX_TICK, MAX_DATA, LAST_MOMENT}
@@ -31,7 +32,8 @@ seconds_of text = do
 abbrev pub is_plain : ℕ → Bool
 is_plain c = nat_le 33 c && nat_le c 126 && not (c == 37)
 
--- what may stand between a `%` and the next: the two digits of a byte other than 0, and bytes that are written as themselves
+-- what may stand between a `%` and the next: the two digits of a byte other than 0, and bytes that
+-- are written as themselves
 abbrev pub is_escape : List ℕ → Bool
 is_escape (high ∷ low ∷ plain) =
     is_hex_digit high && is_hex_digit low && nat_lt 0 (byte_of high low) && list_all is_plain plain

@@ -12,7 +12,8 @@ use Rattle.jv_model.specs.blocks.BlockNames.{upper_pair, name_in}
 use Rattle.jv_model.specs.script.Spelling.{is_letter_or_digit}
 use Rattle.jv_model.specs.script.Printed.{number_word, ok_text, data_text, fault_text}
 
--- names, paths and targets: letters, digits and a few others stand for themselves, all else is `%` and two upper-case digits
+-- names, paths and targets: letters, digits and a few others stand for themselves, all else is `%`
+-- and two upper-case digits
 abbrev pub is_kept_in_name : ℕ → Bool
 is_kept_in_name c = is_letter_or_digit c || (c == 46) || (c == 95) || (c == 45) || (c == 126)
 

@@ -5,7 +5,8 @@ use Rattle.jv_model.specs.declared.op.Op.{Op}
 use Rattle.jv_model.specs.declared.op.Op.TheVariants as op
 use Rattle.jv_model.specs.Lists.{has_no_zero}
 
--- Paths and targets that are written have no byte 0, permission bits are four octal digits, and a target has at least one byte.
+-- Paths and targets that are written have no byte 0, permission bits are four octal digits, and a
+-- target has at least one byte.
 abbrev pub is_spelled : Op → Bool
 is_spelled (op.Mkdir path mode) = has_no_zero path && nat_le mode MAX_MODE
 is_spelled (op.Create path mode) = has_no_zero path && nat_le mode MAX_MODE

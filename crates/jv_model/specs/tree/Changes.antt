@@ -5,8 +5,8 @@ use Rattle.jv_model.specs.FiniteMap.{insert, remove}
 use Rattle.jv_model.specs.tree.Tree.{Tree, Node, File, Content, EntryKey, node_at}
 use Rattle.jv_model.specs.Ranges.{in_range}
 
--- A node whose content or entries changed has both times at the moment (POSIX.1-2017, 4.9 "File Times Update": last data
--- modification and last file status change).
+-- A node whose content or entries changed has both times at the moment (POSIX.1-2017, 4.9 "File
+-- Times Update": last data modification and last file status change).
 abbrev pub touched : ℕ → Node → Node
 touched now node = record node { mtime = now; ctime = now }
 
@@ -68,8 +68,8 @@ content_of length byte =
 abbrev pub resized : Content → ℕ → Content
 resized content len = content_of len (byte_within content)
 
--- A file with a number of bytes put at a place, each by its distance from there. Zeros fill what lies between the file's
--- end and them (POSIX.1-2017, "write" behind an "lseek" past the end).
+-- A file with a number of bytes put at a place, each by its distance from there. Zeros fill what
+-- lies between the file's end and them (POSIX.1-2017, "write" behind an "lseek" past the end).
 abbrev pub patched : Content → ℕ → ℕ → (ℕ → ℕ) → Content
 patched content from len byte = record {
   length = max content.length (from + len);

@@ -2,8 +2,8 @@
 use Rattle.std.specs.Prelude.{ℕ, ◌+◌, ◌-◌, ◌*◌, ◌/◌, ◌%◌, nat_lt, if◌then◌else◌, List, [], ◌∷◌, ◌++◌}
 use Rattle.jv_model.specs.declared.lifetimes.TheConstants.{HOUR, DAY}
 
--- The calendar repeats after 400 years. Here its years begin on the first of March, so that a leap day ends its year,
--- and its eras of 400 years on the first of March of a year that 400 divides.
+-- The calendar repeats after 400 years. Here its years begin on the first of March, so that a leap
+-- day ends its year, and its eras of 400 years on the first of March of a year that 400 divides.
 abbrev pub era_days : ℕ
 era_days = 146097
 
@@ -11,8 +11,9 @@ era_days = 146097
 abbrev pub days_before_1970 : ℕ
 days_before_1970 = 719468
 
--- The year of a day in its era, both from 0. What is left once the leap days before are taken out is 365 days a year:
--- there is one more every 4 years (1,460 days and it), none after 100 (36,524 days), and one after 400.
+-- The year of a day in its era, both from 0. What is left once the leap days before are taken out
+-- is 365 days a year: there is one more every 4 years (1,460 days and it), none after 100 (36,524
+-- days), and one after 400.
 abbrev pub year_in_era : ℕ → ℕ
 year_in_era day = (day - day / 1460 + day / 36524 - day / 146096) / 365
 
@@ -20,7 +21,8 @@ year_in_era day = (day - day / 1460 + day / 36524 - day / 146096) / 365
 abbrev pub days_before_year : ℕ → ℕ
 days_before_year year = 365 * year + year / 4 - year / 100
 
--- The month of a day in its year, 0 for March. Five months from March on have 153 days, and so have the five from August.
+-- The month of a day in its year, 0 for March. Five months from March on have 153 days, and so have
+-- the five from August.
 abbrev pub month_in_year : ℕ → ℕ
 month_in_year day = (5 * day + 2) / 153
 

@@ -1,5 +1,5 @@
--- New entries, by POSIX.1-2017's "mkdirat", "openat" with O_CREAT and O_EXCL, "symlinkat" and "linkat" (without
--- AT_SYMLINK_FOLLOW).
+-- New entries, by POSIX.1-2017's "mkdirat", "openat" with O_CREAT and O_EXCL, "symlinkat" and
+-- "linkat" (without AT_SYMLINK_FOLLOW).
 use Rattle.std.specs.Prelude.{ℕ, ◌+◌, Bool, not, ◌||◌, nat_lt, nat_le, List, length, is_some, Result, Ok}
 use Rattle.jv_model.specs.declared.limits.TheConstants.{MAX_PATH, FULL_MODE, FULL_COUNT}
 use Rattle.jv_model.specs.declared.fault.Fault.{Fault}

@@ -1,5 +1,6 @@
--- Look-ups and attributes of nodes, by POSIX.1-2017's "fstatat", "readdir", "readlink", "fstatvfs", "fchmodat",
--- "fchownat" and "utimensat"; without permissions, and without the time of the last access.
+-- Look-ups and attributes of nodes, by POSIX.1-2017's "fstatat", "readdir", "readlink", "fstatvfs",
+-- "fchmodat", "fchownat" and "utimensat"; without permissions, and without the time of the last
+-- access.
 use Rattle.std.specs.Prelude.{ℕ, not, ◌==◌, List, length, map, Result, Ok}
 use Rattle.jv_model.specs.declared.limits.TheConstants.{DIRECTORY_LENGTH}
 use Rattle.jv_model.specs.declared.fault.Fault.{Fault}
@@ -42,7 +43,8 @@ attr_of t inode node = record {
   ctime = node.ctime;
 }
 
--- The entries of a directory in the order of their names' bytes. `.` and `..` aren't listed, nor `.trash` in the root.
+-- The entries of a directory in the order of their names' bytes. `.` and `..` aren't listed, nor
+-- `.trash` in the root.
 abbrev pub entries_of : Tree → ℕ → List (List ℕ × ℕ)
 entries_of t dir =
     map (λ e. (e.0.name, e.1)) (entries_where (λ key inode. key.dir == dir) t.entries)

@@ -1,4 +1,5 @@
--- Entries renamed, by POSIX.1-2017's "renameat" and Linux's "renameat2" with RENAME_NOREPLACE and RENAME_EXCHANGE.
+-- Entries renamed, by POSIX.1-2017's "renameat" and Linux's "renameat2" with RENAME_NOREPLACE and
+-- RENAME_EXCHANGE.
 use Rattle.std.specs.Prelude.{ℕ, zero, suc, Bool, true, false, ◌&&◌, ◌||◌, not, ◌==◌, List, is_some, Option, None, Some, Result}
 use Rattle.jv_model.specs.declared.limits.TheConstants.{ROOT}
 use Rattle.jv_model.specs.declared.basics.How.{How}
@@ -29,8 +30,8 @@ is_within (suc steps) t dir above = (dir == above) || elim (parent_at t dir) [
   | Some parent ↦ not (dir == ROOT) && is_within steps t parent above
 ]
 
--- whether an inode is a directory that another one is, or lies below; no way up to the root is longer than the number of
--- nodes
+-- whether an inode is a directory that another one is, or lies below; no way up to the root is
+-- longer than the number of nodes
 abbrev pub is_inside : Tree → ℕ → ℕ → Bool
 is_inside t dir inode = is_directory t inode && is_within (key_count t.nodes) t dir inode
 

@@ -1,5 +1,6 @@
--- Sessions (JuiceFS, "Sessions" of its internals): a mount makes one, a beat keeps it alive, and an umount ends it; one
--- that expired is ended by a cleaning. A session keeps files without entries that its client has open.
+-- Sessions (JuiceFS, "Sessions" of its internals): a mount makes one, a beat keeps it alive, and an
+-- umount ends it; one that expired is ended by a cleaning. A session keeps files without entries
+-- that its client has open.
 use Rattle.std.specs.Prelude.{ℕ, ◌+◌, true, false, ◌&&◌, not, ◌==◌, nat_lt, nat_le, Option, Result}
 use Rattle.std.specs.Option.{option_map}
 use Rattle.jv_model.specs.declared.limits.TheConstants.{FULL_COUNT}

@@ -1,6 +1,7 @@
--- The tree of a file system (POSIX.1-2017, 4.6 "File Hierarchy" and 4.9 "File Times Update", and "Directory" of chapter 3):
--- nodes by inode, and one map of all entries, keyed by directory and name. Sessions, and files that stay without a name
--- while a session has them open, are JuiceFS's ("Sessions" of its internals).
+-- The tree of a file system (POSIX.1-2017, 4.6 "File Hierarchy" and 4.9 "File Times Update", and
+-- "Directory" of chapter 3): nodes by inode, and one map of all entries, keyed by directory and
+-- name. Sessions, and files that stay without a name while a session has them open, are JuiceFS's
+-- ("Sessions" of its internals).
 use Rattle.std.specs.Prelude.{ℕ, ◌+◌, ◌-◌, ◌*◌, ◌/◌, max, Bool, ◌&&◌, ◌||◌, not, ◌==◌, nat_lt, nat_le, if◌then◌else◌, List, []}
 use Rattle.std.specs.Prelude.{◌∷◌, is_some, Option, None, Some}
 use Rattle.std.proofs.Common.{ap}
@@ -30,7 +31,8 @@ pub record Node : Type 0 where
   pub mtime : ℕ
   pub ctime : ℕ
 
--- where an entry stands: entries are in the order of their directories, and then of their names' bytes
+-- where an entry stands: entries are in the order of their directories, and then of their names'
+-- bytes
 pub record EntryKey : Type 0 where
   pub dir : ℕ
   pub name : List ℕ
@@ -104,7 +106,8 @@ fresh_tree setting now = record {
   next_session = 1;
 }
 
--- Used space and used inodes count neither the root nor the trash's own directories, whose inodes begin at the trash root.
+-- Used space and used inodes count neither the root nor the trash's own directories, whose inodes
+-- begin at the trash root.
 abbrev pub is_counted : ℕ → Bool
 is_counted inode = not (inode == ROOT) && nat_lt inode TRASH_ROOT
 
@@ -206,8 +209,8 @@ entry_count t inode = name_count t.entries inode
 abbrev directory_within : Tree → ℕ → EntryKey → ℕ → ℕ
 directory_within t dir key inode = (if key.dir == dir && is_directory t inode then 1 else 0)
 
--- The link count (POSIX.1-2017, chapter 3 "Link Count"): of a directory 2 and one for each directory in it, of any other
--- inode the number of the entries that name it.
+-- The link count (POSIX.1-2017, chapter 3 "Link Count"): of a directory 2 and one for each
+-- directory in it, of any other inode the number of the entries that name it.
 abbrev pub link_count : Tree → ℕ → ℕ
 link_count t inode =
     (if is_directory t inode then 2 + sum_over (directory_within t inode) t.entries
