@@ -92,7 +92,7 @@ pub record Dropped (inode : ℕ) (last : Option ℕ) (rows middle after : Rows)
 abbrev pub IsLastBefore : ℕ → Option ℕ → Type 0
 IsLastBefore len last = (window : ℕ) → is_past last window ≡ nat_le len (window * WINDOW)
 
--- that moment by the setting of rows
+-- the moment when slices that die at a moment are due, by the setting of rows
 pub record IsDue (now : ℕ) (rows : Rows) (due : ℕ) : Type 0 where
   pub setting : Setting
   pub set : setting_at rows ≡ Some setting

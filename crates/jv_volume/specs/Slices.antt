@@ -74,7 +74,8 @@ pub data HasLists (rows : Rows) (inode : ℕ) : Type 0 where
       → HasLists rows inode
   OfDropped : dropped_at rows inode ≢ None → HasLists rows inode
 
--- no file is longer than it may be, and none shows anything from its length on
+-- no file is longer than it may be, and none shows anything from its length on; only files and
+-- removed ones have lists, and no node has the number of a removed one, which was given before
 pub record WholeFiles (rows : Rows) : Type 0 where
   pub small : (inode : ℕ) (node : NodeRow) → node_row_at rows inode ≡ Some node → node.kind ≡ 1
       → node.length ≤ FILE_END

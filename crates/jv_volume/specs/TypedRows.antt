@@ -27,7 +27,7 @@ typed_entries entries = map (λ e. (e.0, cell_of e.0 e.1)) entries
 unfoldable pub typed : RowMap → Rows
 typed rows = map_of (typed_entries rows.list)
 
--- a name has 1 to 255 bytes, none of them a slash or 0
+-- a name has 1 to MAX_NAME bytes, none of them a slash or 0
 abbrev pub is_entry_name : List ℕ → Bool
 is_entry_name name = nat_le 1 (length name) && nat_le (length name) MAX_NAME
     && list_all (λ b. not (b == 47 || b == 0)) name

@@ -89,10 +89,10 @@ first_segment (b ∷ bs) =
       len = run_length b.inode b.position (b ∷ bs);
     })
 
--- the same of one inode alone, where one is given
-abbrev pub next_segment : Option ℕ → List PendingByte → Option Segment
-next_segment None pending = first_segment pending
-next_segment (Some inode) pending = first_segment (pending_of inode pending)
+-- the least segment of one inode alone where one is given, else of all
+abbrev pub first_segment_of : Option ℕ → List PendingByte → Option Segment
+first_segment_of None pending = first_segment pending
+first_segment_of (Some inode) pending = first_segment (pending_of inode pending)
 
 -- the bytes of a range of an inode, in order
 abbrev pub bytes_in_range : ℕ → ℕ → ℕ → List PendingByte → List ℕ

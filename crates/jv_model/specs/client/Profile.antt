@@ -26,11 +26,11 @@ transaction =
     }
 
 -- another operation of a mounted client, and one of any client
-abbrev pub mounted : Does → Profile
-mounted does = record transaction { does = does }
+abbrev pub of_mounted : Does → Profile
+of_mounted does = record transaction { does = does }
 
-abbrev pub unmounted : Does → Profile
-unmounted does = record transaction { needs_mount = false; does = does }
+abbrev pub of_any_client : Does → Profile
+of_any_client does = record transaction { needs_mount = false; does = does }
 
 -- a transaction that commits all that is pending first, and one that opens a handle
 abbrev pub flushing_all : Profile
@@ -44,7 +44,7 @@ abbrev pub on_files : ℕ → ℕ → Profile
 on_files source target =
     record transaction { handles = handles.Two source target; flushes = ItsFiles; does = Copies }
 
--- a step on the file of a handle, whose pending bytes are committed first
+-- an operation on the file of a handle, whose pending bytes are committed first
 abbrev pub on_file : ℕ → Does → Profile
 on_file handle does =
     record transaction { handles = handles.One handle; flushes = ItsFiles; does = does }
@@ -64,7 +64,7 @@ write_profile handle offset len = record transaction {
 }
 
 abbrev pub profile : Op → Profile
-profile (op.Mount writeback) = unmounted (Mounts writeback)
+profile (op.Mount writeback) = of_any_client (Mounts writeback)
 profile op.Umount = flushing_all
 profile op.Beat = transaction
 profile (op.Lookup path) = transaction
@@ -91,11 +91,11 @@ profile (op.Unlink path) = transaction
 profile (op.Rmdir path) = transaction
 profile (op.Link path to) = transaction
 profile (op.Rename path to how) = transaction
-profile (op.Compact path window) = mounted Compacts
-profile op.Clean = mounted Cleans
-profile (op.Gc delete) = mounted (Collects delete)
-profile op.Upload = unmounted Uploads
-profile op.Stats = mounted (Answers CacheStats)
+profile (op.Compact path window) = of_mounted Compacts
+profile op.Clean = of_mounted Cleans
+profile (op.Gc delete) = of_mounted (Collects delete)
+profile op.Upload = of_any_client Uploads
+profile op.Stats = of_mounted (Answers CacheStats)
 
 -- the handles in the order of the operation's words
 abbrev pub handle_list : Handles → List ℕ

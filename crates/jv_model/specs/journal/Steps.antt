@@ -26,7 +26,7 @@ use Rattle.jv_model.specs.tree.Tree.{Tree, node_at, fits}
 use Rattle.jv_model.specs.tree.Caller.{Caller}
 use Rattle.jv_model.specs.tree.Attempt.{◌>>=◌}
 use Rattle.jv_model.specs.tree.FileBytes.{committed}
-use Rattle.jv_model.specs.tree.Reading.{compact_inode}
+use Rattle.jv_model.specs.tree.Reading.{file_inode}
 use Rattle.jv_model.specs.tree.Sessions.{due_session}
 use Rattle.jv_model.specs.tree.Trash.{due_purge}
 use Rattle.jv_model.specs.client.Pending.{Segment, bytes_in_range}
@@ -228,7 +228,7 @@ pub record MissesBlock (start : Start) (s : State) (client : ℕ) (c : ModelClie
 -- the window that a compaction looks at first
 abbrev compaction_target : Tree → Caller → Op → Result (ℕ × ℕ) Fault
 compaction_target t who (op.Compact path window) =
-    compact_inode t who path >>= λ inode. Ok (inode, window)
+    file_inode t who path >>= λ inode. Ok (inode, window)
 compaction_target t who o = Err Invalid
 
 -- a block was missed, and the window wasn't looked at again yet

@@ -5,7 +5,7 @@ use Rattle.std.specs.List.{flat_map, list_all}
 use Rattle.std.specs.Option.{option_map}
 use Rattle.std.specs.Str.{is_utf8}
 use Rattle.jv_model.specs.declared.tables.TheConstants.{TABLE_OF_SETTING, TABLE_OF_COUNTERS, TABLE_OF_NODES, TABLE_OF_EDGES, TABLE_OF_LISTS, TABLE_OF_SLICES, TABLE_OF_SESSIONS, TABLE_OF_SUSTAINED, TABLE_OF_DROPPED, TABLE_OF_DEAD, RECORD_LENGTH}
-use Rattle.jv_model.specs.declared.limits.TheConstants.{MIN_BLOCK, MAX_BLOCK, MIN_VOLUME_NAME, MAX_VOLUME_NAME, MAX_BUCKET, MAX_TRASH_DAYS, MAX_CAPACITY, FULL_COUNT, SPACE_UNIT, MAX_PATH, MAX_MODE, LAST_CLIENT}
+use Rattle.jv_model.specs.declared.limits.TheConstants.{MIN_BLOCK, MAX_BLOCK, MIN_VOLUME_NAME, MAX_VOLUME_NAME, MAX_BUCKET, MAX_TRASH_DAYS, MAX_CAPACITY, FULL_COUNT, DIRECTORY_LENGTH, MAX_PATH, MAX_MODE, LAST_CLIENT}
 use Rattle.jv_model.specs.declared.setting.Setting.{Setting}
 use Rattle.jv_model.specs.declared.slice.Rec.{Rec}
 use Rattle.jv_model.specs.declared.row.Counters.{Counters}
@@ -35,7 +35,7 @@ is_block size = is_among size block_sizes
 abbrev pub is_name_byte : ℕ → Bool
 is_name_byte c = (nat_le 97 c && nat_le c 122) || (nat_le 48 c && nat_le c 57) || c == 45
 
--- a volume's name has 3 to 63 of these, and `-` neither first nor last
+-- a volume's name has MIN_VOLUME_NAME to MAX_VOLUME_NAME of these, and `-` neither first nor last
 abbrev pub is_volume_name : List ℕ → Bool
 is_volume_name name = nat_le MIN_VOLUME_NAME (length name) && nat_le (length name) MAX_VOLUME_NAME
     && list_all is_name_byte name && not (slice_index name 0 == 45)
@@ -109,7 +109,7 @@ abbrev pub is_file : Node → Bool
 is_file n = n.parent == 0 && is_nil n.target
 
 abbrev pub is_directory : Node → Bool
-is_directory n = n.length == SPACE_UNIT && is_nil n.target
+is_directory n = n.length == DIRECTORY_LENGTH && is_nil n.target
 
 -- 1 to 4,096 bytes without the byte 0
 abbrev pub is_target : List ℕ → Bool

@@ -50,15 +50,10 @@ abbrev pub is_letter_or_digit : ℕ → Bool
 is_letter_or_digit c =
     is_decimal_digit c || (nat_le 65 c && nat_le c 90) || (nat_le 97 c && nat_le c 122)
 
--- the name of a file: 1 to 255 letters and digits
+-- the name of a file: 1 to MAX_NAME letters and digits
 abbrev pub is_name : List ℕ → Bool
 is_name name =
     nat_lt 0 (length name) && nat_le (length name) MAX_NAME && list_all is_letter_or_digit name
-
--- whether a text is the path of a file in the root: a slash and a name
-unfoldable pub is_root_path : List ℕ → Bool
-is_root_path [] = false
-is_root_path (slash ∷ name) = (slash == 47) && is_name name
 
 -- hexadecimal digits of either case
 abbrev pub is_hex_digit : ℕ → Bool

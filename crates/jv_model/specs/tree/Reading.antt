@@ -98,14 +98,10 @@ file_inode t who path = do
   _ ← require (not (is_directory t inode)) IsADirectory
   Ok inode
 
--- the file that a compaction looks at first
-abbrev pub compact_inode : Tree → Caller → List ℕ → Result ℕ Fault
-compact_inode = file_inode
-
--- a compaction leaves the tree, and is refused by its walk
+-- a compaction looks at this file first; it leaves the tree, and is refused by its walk
 unfoldable pub compact : Tree → Caller → List ℕ → Result Outcome Fault
 compact t who path = do
-  inode ← compact_inode t who path
+  inode ← file_inode t who path
   done t
 
 -- an open for reading and writing

@@ -132,7 +132,7 @@ used_space t = sum_over node_space t.nodes
 abbrev pub used_inodes : Tree → ℕ
 used_inodes t = sum_over node_count t.nodes
 
--- the limits in bytes and inodes; a limit of 0 in the setting stands for 2^62
+-- the limits in bytes and inodes; a limit of 0 in the setting stands for FULL_COUNT
 abbrev pub space_limit : Setting → ℕ
 space_limit s = (if s.capacity == 0 then FULL_COUNT else s.capacity * GIB)
 
@@ -150,14 +150,14 @@ fits old new = sum_fits (space_limit old.setting) (used_space old) (used_space n
 abbrev pub node_at : Tree → ℕ → Option Node
 node_at t inode = get t.nodes inode
 
-abbrev pub content_of : Option Node → Option Content
-content_of None = None
-content_of (Some node) =
+abbrev pub content_in : Option Node → Option Content
+content_in None = None
+content_in (Some node) =
     elim node.kind [ File content ↦ Some content | Directory parent ↦ None | Symlink target ↦ None ]
 
 -- the bytes of a file, where the inode is one
 abbrev pub content_at : Tree → ℕ → Option Content
-content_at t inode = content_of (node_at t inode)
+content_at t inode = content_in (node_at t inode)
 
 abbrev pub parent_of : Option Node → Option ℕ
 parent_of None = None

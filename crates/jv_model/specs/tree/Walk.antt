@@ -86,7 +86,7 @@ inode_of = inode_by true
 abbrev pub unfollowed_inode_of : Tree → List ℕ → Result ℕ Fault
 unfollowed_inode_of = inode_by false
 
--- all names but the last one, and the last one
+-- all names but the last one
 abbrev pub all_but_last : List (List ℕ) → List (List ℕ)
 all_but_last [] = []
 all_but_last (name ∷ []) = []
