@@ -6,7 +6,8 @@ use Rattle.lru.specs.LruCache.{LruCache, lru_cache, promoted, put_entries}
 use Rattle.jv_cache.specs.declared.key.BlockKey.{BlockKey}
 use Rattle.jv_cache.specs.Keys.{same_key}
 
--- the blocks, the most recently used first, how many there may be, and how many finds were hits and misses
+-- the blocks, the most recently used first, how many there may be, and how many finds were hits and
+-- misses
 pub record Cached : Type 0 where
   pub blocks : List (BlockKey × List ℕ)
   pub entries : ℕ
@@ -15,7 +16,8 @@ pub record Cached : Type 0 where
 
 abbrev pub cached : Option (LruCache BlockKey (List ℕ)) → ℕ → ℕ → Cached
 cached None hits misses = record { blocks = []; entries = 0; hits = hits; misses = misses }
-cached (Some c) hits misses = record { blocks = c.entries; entries = c.cap; hits = hits; misses = misses }
+cached (Some c) hits misses =
+    record { blocks = c.entries; entries = c.cap; hits = hits; misses = misses }
 
 -- the room of a cache that is there, where none is there 1
 abbrev pub room_in : Option (LruCache BlockKey (List ℕ)) → ℕ
@@ -45,10 +47,14 @@ noted_in cache key = (if is_some (found_in cache key)
     then record (promoted_in cache key) { hits = counted cache.hits }
     else record cache { misses = counted cache.misses })
 
--- a block goes first, and the least recently used one goes where there is no room for it; a cache for no block keeps none
+-- a block goes first, and the least recently used one goes where there is no room for it; a cache
+-- for no block keeps none
 abbrev pub kept_in : Cached → BlockKey → List ℕ → Cached
 kept_in cache key bytes = (if cache.entries == 0 then cache
-    else record cache { blocks = put_entries same_key (lru_cache cache.blocks cache.entries) key bytes })
+    else record cache {
+      blocks = put_entries same_key
+          (lru_cache cache.blocks cache.entries) key bytes;
+    })
 
 -- the block stands first, with these bytes, and is found
 pub record IsFirst (cache : Cached) (key : BlockKey) (bytes : List ℕ) : Type 0 where

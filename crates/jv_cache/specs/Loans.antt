@@ -7,4 +7,5 @@ use Rattle.jv_cache.specs.Cached.{Cached, noted_in}
 use Rattle.jv_cache.specs.contracts.cache.BlockCache.{the_row}
 
 abbrev pub EndsNoted : MutBor Cached → BlockKey → Fml
-EndsNoted cache key = follows_so the_row the_row cache.ghost_name none (λ _ _. ⊤) (λ n. n ≡ noted_in cache.now key)
+EndsNoted cache key =
+    follows_so the_row the_row cache.ghost_name none (λ _ _. ⊤) (λ n. n ≡ noted_in cache.now key)

@@ -1,4 +1,5 @@
--- What changes in mind make of a volume's rows, and what one more step of a transaction adds to them.
+-- What changes in mind make of a volume's rows, and what one more step of a transaction adds to
+-- them.
 use Rattle.std.specs.Prelude.{◌≡◌, ℕ, List, None, Some, Result, Ok, Err, IfErr, IfSome, IsTrue, OnOk}
 use Rattle.jv_model.specs.declared.fault.Fault.{Fault}
 use Rattle.jv_model.specs.declared.fault.RowFault.TheVariants.{Bad, Failed, Memory}
@@ -18,7 +19,8 @@ use Rattle.jv_volume.specs.Stored.{Stored}
 use Rattle.jv_volume.specs.Slices.{WholeFiles}
 use Rattle.jv_volume.specs.Whole.{IsRowAt, Quiet}
 
--- With changes in mind, rows are those of a tree, though not yet of a whole one: lists and slices are as before.
+-- With changes in mind, rows are those of a tree, though not yet of a whole one: lists and slices
+-- are as before.
 pub record Minds (known : RowMap) (changes : List Change) (bytes : ℕ → ℕ → ℕ)
     (t : Tree) : Type 0 where
   pub tree : tree_of bytes (drafted changes known) ≡ t
@@ -53,9 +55,9 @@ LeadsTo known changes bytes (Err (OfRows (Bad at bad))) model = ⊥
 LeadsTo known changes bytes (Err (OfRows Failed)) model = Unit {0}
 LeadsTo known changes bytes (Err (OfRows Memory)) model = Unit {0}
 
--- A step of a transaction: it adds changes to those in mind, and the keeper's rows stay. Where the rows are known, and
--- those
--- in mind are a tree's that is ready for it, it does what the model does to that tree.
+-- A step of a transaction: it adds changes to those in mind, and the keeper's rows stay. Where the
+-- rows are known, and those in mind are a tree's that is ready for it, it does what the model does
+-- to that tree.
 pub record Drafting {A : Type 0} (ready : Tree → Type 0) (was now : List Change)
     (before after : Store)
     (result : Result A TxFault) (step : Tree → Result Tree Fault) : Type 0 where

@@ -17,7 +17,8 @@ use Rattle.jv_outside.specs.Store.{Store}
 use Rattle.jv_rows.specs.Drafts.{drafted, RefusesCell}
 use Rattle.jv_rows.specs.Transactions.{TransactionCounts}
 
--- why a node wasn't read: it isn't there, its bytes are malformed, the keeper failed, or out of memory
+-- why a node wasn't read: it isn't there, its bytes are malformed, the keeper failed, or out of
+-- memory
 abbrev pub RefusesNode : ℕ → List Change → Option RowMap → TxFault → Type 0
 RefusesNode inode changes rows (Refused fault) = (fault ≡ Stale (GoneNode inode)) × IfSome rows
     (λ known. get (drafted changes known) (node_key inode) ≡ None)

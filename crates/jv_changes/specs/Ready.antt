@@ -51,9 +51,9 @@ abbrev pub sustaining : ℕ → ℕ → Tree → Tree
 sustaining sid inode t =
     record t { sustained = insert t.sustained (record { sid = sid; inode = inode }) tt }
 
--- The directory of an hour is there, or may come: the trash is there, no entry has its place, none names it, and none
--- is in it.
--- Entries of the trash are directories of hours, so there are few, and inodes that are given stay below it.
+-- The directory of an hour is there, or may come: the trash is there, no entry has its place, none
+-- names it, and none is in it. Entries of the trash are directories of hours, so there are few, and
+-- inodes that are given stay below it.
 pub record MayHaveHour (t : Tree) (hour : ℕ) : Type 0 where
   pub trash : is_directory t TRASH_ROOT ≡ true
   pub free : node_at t (hour_inode hour) ≡ None → get t.entries (hour_place hour) ≡ None

@@ -22,7 +22,7 @@ use jv_rows::{Draft, needed_node};
 use std::alloc::{AllocError, Global};
 use std::marker::Model;
 
-/// The name in the trash of an inode that loses its last entry: `PARENT-INODE-NAME`, cut to 255 bytes. The only error
+/// The name in the trash of an inode that loses its last entry: `PARENT-INODE-NAME`, cut to [`jv_model::MAX_NAME`] bytes. The only error
 /// is out of memory. JuiceFS, Trash.
 pub fn trash_name(alloc: Global, dir: u64, name: &Name, inode: u64) -> Result<Name, AllocError>
     ensures { IfOk result (λ text. text ≡ model.trash_name

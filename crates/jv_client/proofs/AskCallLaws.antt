@@ -43,10 +43,10 @@ use Rattle.jv_client.specs.Reading.{put_at}
 use Rattle.jv_client.specs.Transacting.{EndsUnmade, Fails}
 use Rattle.jv_client.specs.UnderWay.{IsAt, IsReady, IsUnderWay, left, names_open}
 use Rattle.jv_client.proofs.AnswerLaws.{makes-as}
-use Rattle.jv_client.proofs.ReaderLaws.{Asking, asking, is_asking}
+use Rattle.jv_client.proofs.ReaderLaws.{Asking, asking, cached-known, is_asking}
 use Rattle.jv_client.proofs.GoneOnLaws.{over}
 use Rattle.jv_client.proofs.LookLaws.{seen_handles, seen_opened, view_of}
-use Rattle.jv_client.proofs.UnlookedLaws.{cached-here, look-out, look-unmade}
+use Rattle.jv_client.proofs.UnlookedLaws.{look-out, look-unmade}
 use Rattle.jv_client.proofs.GotLaws.{get-missed, get-unread}
 use Rattle.jv_client.proofs.ReadCallLaws.{get-came, get-lost, look-came, look-lost, taken_out}
 
@@ -128,8 +128,7 @@ module _ (now entry : ℕ) (h c : ClientValue) (window : ℕ) (before : Shared)
         (fails.after_is ∙ ap ended (same ∙ asked.is)) refl fails.made_is
         (look-out now entry block h asked.d asked.offset asked.len asked.cache asked.fetch window asked.asks before refl
         keeper asked.cache asked.asks.looked
-        (cached-here now entry block h asked.d asked.offset asked.len asked.cache asked.fetch window asked.asks before
-        refl keeper)
+        (cached-known asked.asks before refl)
         looks.looks.rows_are looks.looks.opened_at looks.looks.counts)
 
     module _ (mid then : ClientValue)

@@ -71,7 +71,7 @@ use Rattle.jv_client.proofs.EndingLaws.{holds-told}
 use Rattle.jv_client.proofs.HeldLaws.{doing_of}
 use Rattle.jv_client.proofs.KeptLaws.{cache-goes, held-goes}
 use Rattle.jv_client.proofs.ReadingLaws.{lacks-later}
-use Rattle.jv_client.proofs.ReaderLaws.{IsAsking, busy_in, file_by, handle_in, may_get, none_flying, opened_in}
+use Rattle.jv_client.proofs.ReaderLaws.{IsAsking, busy_in, cached-known, file_by, handle_in, may_get, none_flying, opened_in}
 use Rattle.jv_client.proofs.GoneOnLaws.{client-on, client-over, falls-on, going_on, none-kept, over, reading-is}
 use Rattle.jv_client.proofs.GoneOnLaws.{ready-on}
 use Rattle.jv_client.proofs.ReadFailedLaws.{failed}
@@ -183,11 +183,6 @@ module _ (now entry block : ℕ) (h : ClientValue) (d : Doing) (offset len : ℕ
   abbrev used : Shared
   used = record before { yard = yard }
 
-  -- what the cache has is known
-  pub cached-before : (s : State) (g : Known) → HasStore s.tree g before → IsClient g before (s.clients h.id) s.count h
-      → IsCacheOf g.sizes before.yard.setting.block g.blocks cache
-  cached-before s g has client = (asks.goes g before (s.clients h.id) s.count length_is client).2
-
   module _ (s : State) (g : Known) (has : HasStore s.tree g before)
       (client : IsClient g before (s.clients h.id) s.count h) where
     abbrev m : ModelClient
@@ -244,7 +239,7 @@ module _ (now entry block : ℕ) (h : ClientValue) (d : Doing) (offset len : ℕ
         → Keeps b bytes cache kept → IsCacheOf g.sizes before.yard.setting.block g.blocks kept
     cached-kept bytes kept gets keeps =
         cache_of-keeps g.sizes before.yard.setting.block g.blocks b bytes cache kept keeps (known bytes gets)
-        (subst (λ n. b ≡ block_at b.id (g.sizes b.id) n b.index) own_block sized) (cached-before s g has client)
+        (subst (λ n. b ≡ block_at b.id (g.sizes b.id) n b.index) own_block sized) (cached-known asks before length_is s g has client)
 
   -- ---- it came
 
@@ -399,7 +394,7 @@ module _ (now entry block : ℕ) (h : ClientValue) (d : Doing) (offset len : ℕ
       subst (λ fault. Makes now entry h (over h.handles cache h) before used
       (made.Answer (ToldRefused fault) (RefusedReply fault))) (sym unread.is)
       (failed now entry block h d offset len cache fetch (NeedsBlock b) asks before used
-      (same-gets before yard h.id name (Err unread.why) unread.gets) (yard_fault unread.why) cache cached-before
+      (same-gets before yard h.id name (Err unread.why) unread.gets) (yard_fault unread.why) cache (cached-known asks before length_is)
       (fails-yard unread.why) (uses-unread unread.why before yard unread.gets)
       (yard-unread now h (unread_as unread.why) unread.why before.yard yard unread.gets)
       (LooksOnly (LookedUp cache asks.looked refl)))

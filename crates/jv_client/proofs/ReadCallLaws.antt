@@ -36,10 +36,10 @@ use Rattle.jv_client.specs.Makes.{Makes}
 use Rattle.jv_client.specs.Reading.{ClientComesTo, GoesOnAfter, OnlyLooksUp, cache_in, put_at}
 use Rattle.jv_client.specs.UnderWay.{moved_to}
 use Rattle.jv_client.proofs.AnswerLaws.{makes-as}
-use Rattle.jv_client.proofs.ReaderLaws.{IsAsking}
+use Rattle.jv_client.proofs.ReaderLaws.{IsAsking, cached-known}
 use Rattle.jv_client.proofs.GoneOnLaws.{going_on, over}
 use Rattle.jv_client.proofs.LookLaws.{look-on, look-over, not_seen, seen_handle, seen_handles, seen_opened, view_of}
-use Rattle.jv_client.proofs.UnlookedLaws.{cached-here, look-out}
+use Rattle.jv_client.proofs.UnlookedLaws.{look-out}
 use Rattle.jv_client.proofs.GotLaws.{get-on, get-out, get-over}
 use Rattle.jv_fetching.proofs.CacheLaws.{cache_of-looks, looks_then}
 
@@ -134,7 +134,7 @@ module _ (now entry block : ℕ) (h : ClientValue) (d : Doing) (offset len : ℕ
       (look-out now entry block h d offset len cache fetch window asks before length_is keeper up.later
       (looks_then (cache_in h.limits.entries h.cache) cache up.later asks.looked up.looks)
       (λ s g has client. cache_of-looks g.sizes before.yard.setting.block g.blocks cache up.later up.looks
-      (cached-here now entry block h d offset len cache fetch window asks before length_is keeper s g has client))
+      (cached-known asks before length_is s g has client))
       looks.looks.rows_are looks.looks.opened_at looks.looks.counts)
 
 -- ---- a block

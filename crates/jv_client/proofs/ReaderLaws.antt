@@ -9,7 +9,7 @@ use Rattle.jv_model.specs.client.Profile.{handle_of}
 use Rattle.jv_model.specs.client.ModelClient.{ModelClient, OpenFile, file_of}
 use Rattle.jv_model.specs.client.Submission.{is_flushed}
 use Rattle.jv_model.specs.journal.Reading.{asked_parts}
-use Rattle.jv_model.specs.journal.State.{sees_first}
+use Rattle.jv_model.specs.journal.State.{State, sees_first}
 use Rattle.jv_model.specs.journal.Steps.{asked_of, file_in_use}
 use Rattle.jv_model.specs.client.Pending.{PendingByte}
 use Rattle.jv_cache.specs.Cached.{Cached}
@@ -20,7 +20,7 @@ use Rattle.jv_fetching.specs.Going.{CanFetch, IsFetching}
 use Rattle.jv_handles.specs.declared.handle.Handle.{Handle}
 use Rattle.jv_handles.specs.Held.{IsHandle}
 use Rattle.jv_handles.proofs.HandleLaws.{handles-there}
-use Rattle.jv_shared.specs.Shared.{Known, Shared}
+use Rattle.jv_shared.specs.Shared.{HasStore, Known, Shared}
 use Rattle.jv_steps.specs.Stages.{MayRead, Begins, GoesOn}
 use Rattle.jv_requests.proofs.GetLaws.{MayGet, First, Later}
 use Rattle.jv_handles.proofs.TableLaws.{the_some}
@@ -166,6 +166,13 @@ pub record IsAsking (block : ℕ) (h : ClientValue) (d : Doing) (offset len : �
       → IsClient g v m count h
       → (fetch.block ≡ v.yard.setting.block) × IsFetching g.blocks reads.file.views (asked_parts offset len) fetch
       × IsCacheOf g.sizes v.yard.setting.block g.blocks cache
+
+-- what its cache has is known
+pub cached-known : {block : ℕ} {h : ClientValue} {d : Doing} {offset len : ℕ} {cache : Cached} {fetch : Fetching} {next : Need}
+    → IsAsking block h d offset len cache fetch next → (before : Shared) → before.yard.setting.block ≡ block
+    → (s : State) (g : Known) → HasStore s.tree g before → IsClient g before (s.clients h.id) s.count h
+    → IsCacheOf g.sizes before.yard.setting.block g.blocks cache
+cached-known {block} {h} asks before length_is s g has client = (asks.goes g before (s.clients h.id) s.count length_is client).2
 
 -- and what it is then
 pub record Asking (block : ℕ) (h c : ClientValue) (next : Need) : Type 0 where

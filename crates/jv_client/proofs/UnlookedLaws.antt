@@ -63,7 +63,7 @@ use Rattle.jv_client.proofs.EndingLaws.{holds-told}
 use Rattle.jv_client.proofs.HeldLaws.{doing_of}
 use Rattle.jv_client.proofs.KeptLaws.{cache-goes, held-goes, told-client}
 use Rattle.jv_client.proofs.WrittenLaws.{names-held}
-use Rattle.jv_client.proofs.ReaderLaws.{IsAsking, asking, busy_in, file_by, handle_in, may_read, none_flying, opened_in}
+use Rattle.jv_client.proofs.ReaderLaws.{IsAsking, asking, busy_in, cached-known, file_by, handle_in, may_read, none_flying, opened_in}
 use Rattle.jv_client.proofs.GoneOnLaws.{over}
 use Rattle.jv_client.proofs.ReadFailedLaws.{failed, held-cache}
 use Rattle.jv_client.proofs.LookLaws.{uses-look}
@@ -114,11 +114,6 @@ module _ (now entry block : ℕ) (h : ClientValue) (d : Doing) (offset len : ℕ
 
   abbrev c : ClientValue
   c = asking h cache d fetch (NeedsLook window)
-
-  -- what the cache has is known
-  pub cached-here : (s : State) (g : Known) → HasStore s.tree g before → IsClient g before (s.clients h.id) s.count h
-      → IsCacheOf g.sizes before.yard.setting.block g.blocks cache
-  cached-here s g has client = (asks.goes g before (s.clients h.id) s.count length_is client).2
 
   -- the blocks that were looked up before it
   looked-before : MovesInRead h d before.yard before.yard (Some cache)
@@ -209,7 +204,7 @@ module _ (now entry block : ℕ) (h : ClientValue) (d : Doing) (offset len : ℕ
       is_client = told-client g used (s.count + 2) d.op (ToldRefused fault) m c refl
           (held-goes s.tree g before has 0 g used stays m s.count (s.count + 2) c (omega arith)
           (held-cache g before m s.count h c.cache c.doing client.held))
-          (cache-goes s.tree g before has 0 g used stays (Some cache) (cached-here s g has client));
+          (cache-goes s.tree g before has 0 g used stays (Some cache) (cached-known asks before length_is s g has client));
       holds = holds-told d.op (ToldRefused fault) s.tree m refl holds;
     }
 
@@ -289,7 +284,7 @@ module _ (now entry block : ℕ) (h : ClientValue) (d : Doing) (offset len : ℕ
       (subst (λ x. Makes now entry h x before used
       (made.Answer (ToldRefused (DeviceFailed Keeper)) (Refused (DeviceFailed Keeper)))) (sym ends.after_is)
       (failed now entry block h d offset len cache fetch (NeedsLook window) asks before used
-      (same-rows before keeper before.carrier looks.looks.rows_are) (DeviceFailed Keeper) cache cached-here refl
+      (same-rows before keeper before.carrier looks.looks.rows_are) (DeviceFailed Keeper) cache (cached-known asks before length_is) refl
       (uses-failed before keeper looks.looks.rows_are looks.looks.opened_at looks.looks.counts)
       (same-yard now h (made.Answer (ToldRefused (DeviceFailed Keeper)) (Refused (DeviceFailed Keeper))) before.yard)
       looked-before))
@@ -297,4 +292,4 @@ module _ (now entry block : ℕ) (h : ClientValue) (d : Doing) (offset len : ℕ
       subst (λ x. Makes now entry h after before used x) (sym ends.made_is)
       (subst (λ x. Makes now entry h x before used (made.Answer (ToldRefused NoMemory) (Refused NoMemory)))
       (sym ends.after_is)
-      (look-out cache asks.looked cached-here looks.looks.rows_are looks.looks.opened_at looks.looks.counts))
+      (look-out cache asks.looked (cached-known asks before length_is) looks.looks.rows_are looks.looks.opened_at looks.looks.counts))

@@ -1,5 +1,5 @@
--- The lines that a session runs today: eight clients, step by step, with all operations on metadata and on the bytes of files, in
--- direct mode.
+-- The lines that a session runs today: eight clients, step by step, with all operations on metadata
+-- and on the bytes of files, in direct mode.
 use Rattle.std.specs.Prelude.{Bool, true, false, ◌||◌, not, nat_le, length}
 use Rattle.jv_model.specs.declared.limits.TheConstants.{MAX_DATA}
 use Rattle.jv_model.specs.declared.basics.Limits.{Limits}
@@ -9,8 +9,9 @@ use Rattle.jv_model.specs.declared.op.Line.{Line}
 use Rattle.jv_model.specs.declared.op.Line.TheVariants.{Empty, Do, Begin, Step, Run, Crash, Drain, Tick}
 use Rattle.jv_model.specs.script.Spelled.{is_spelled}
 
--- The operations that are built: a mount that isn't in writeback mode, and what neither compacts, cleans, collects nor uploads. What
--- a line writes is as a line can spell it, and what it reads or writes of a file has as many bytes as a line may.
+-- The operations that are built: a mount that isn't in writeback mode, and what neither compacts,
+-- cleans, collects nor uploads. What a line writes is as a line can spell it, and what it reads or
+-- writes of a file has as many bytes as a line may.
 abbrev pub is_built_op : Limits → Op → Bool
 is_built_op limits (op.Mount writeback) = not (writeback || limits.writeback)
 is_built_op limits (op.Compact path window) = false

@@ -39,8 +39,9 @@ leaves o (made.Answer told reply) = ends_mount o told
 leaves o (made.Both kind told reply) = ends_mount o told
 leaves o (made.Broken key bytes) = false
 
--- In a step of a read blocks are looked up, in the cache that is there or in an empty one. The
--- block that the reading needs next, which the cache lacks, is got of the yard and kept unless
+-- In a step of a read blocks are looked up, in the cache that is there or in an empty one. At most
+-- one block that the cache lacks is got of the yard: the next one that a reading in progress needs,
+-- or one that a record of its views names where the reading begins in this step. It is kept unless
 -- memory is out, and then the next ones are looked up.
 pub data MovesInRead (h : ClientValue) (d : Doing) (before after : YardValue)
     (is : Option Cached) : Type 0 where

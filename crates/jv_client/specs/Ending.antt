@@ -21,7 +21,8 @@ ended h = record h { doing = None }
 abbrev pub without : ℕ → List ℕ → List ℕ
 without gone inodes = filter (λ inode. not (inode == gone)) inodes
 
--- without a handle; where it was the last one on a file that this client removed, the file isn't kept any more
+-- without a handle; where it was the last one on a file that this client removed, the file isn't
+-- kept any more
 abbrev pub closed : ℕ → ClientValue → ClientValue
 closed handle h = record h {
   handles = with_file handle None h.handles;
@@ -37,7 +38,8 @@ finished_here op.Umount h = crashed h
 finished_here (op.Close handle) h = closed handle h
 finished_here o h = ended h
 
--- a client whose session is gone is as before any mount; what is pending of an inode that is gone is dropped
+-- a client whose session is gone is as before any mount; what is pending of an inode that is gone
+-- is dropped
 abbrev pub refused_here : Fault → ClientValue → ClientValue
 refused_here (Stale (Session sid)) h = crashed h
 refused_here (Stale (Node inode)) h =

@@ -18,7 +18,8 @@ use Rattle.jv_client.specs.ClientValue.{ClientValue}
 use Rattle.jv_client.specs.Ending.{told_here}
 use Rattle.jv_client.specs.UnderWay.{answer_here, ends_itself, left, moved_to}
 
--- a client whose segment was committed: it isn't pending any more, and views of its file are dropped
+-- a client whose segment was committed: it isn't pending any more, and views of its file are
+-- dropped
 abbrev pub without_segment : Segment → ClientValue → ClientValue
 without_segment segment h = record h {
   pending = without_range segment.inode segment.from segment.len h.pending;
@@ -48,7 +49,8 @@ pub data IsWrittenAlone (o : Op) (handles : List (Option Handle)) (limit : ℕ)
       → next ≡ Some (record { bytes = bytes; limit = limit })
       → IsWrittenAlone o handles limit next
 
--- what is pending after a write whose flush ends with a segment of this length, and None before another segment
+-- what is pending after a write whose flush ends with a segment of this length, and None before
+-- another segment
 pub data NextOf (d : Doing) (len : ℕ) (h : ClientValue) (next : Option PendingValue) : Type 0 where
   Last : length h.pending ≤ len → IsWrittenAlone d.op h.handles h.limits.buffer next
       → NextOf d len h next
@@ -59,8 +61,8 @@ abbrev pub IsWorkingOn : Progress → Type 0
 IsWorkingOn (Working quiets started id) = Unit {0}
 IsWorkingOn (Reading fetch need) = ⊥
 
--- What comes after a commit: its answer where nothing is left to ask for, else the operation goes on. A write that had to wait for
--- room is pending then.
+-- What comes after a commit: its answer where nothing is left to ask for, else the operation goes
+-- on. A write that had to wait for room is pending then.
 pub data Follows (d : Doing) (kind : ActKind) (h after : ClientValue) (made : Made) : Type 0 where
   Answers : left h ≡ None → IsTrue (ends_itself h d)
       → (length h.pending ≤ 0 → written_alone d.op h.handles ≡ None)

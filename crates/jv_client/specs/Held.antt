@@ -105,7 +105,8 @@ pub record IsDoing (m : ModelDoing) (d : Doing) : Type 0 where
   pub stage : m.stage ≡ stage_of d.progress
   pub moved : m.moved ≡ d.has_moved
 
--- the slice in flight of an operation that flushes: it has its number, and one block less than requests was put
+-- the slice in flight of an operation that flushes: it has its number, and one block less than
+-- requests was put
 abbrev pub flight_from : ℕ → ℕ → List PendingByte → Option Segment → Option Flight
 flight_from put id pending None = None
 flight_from put id pending (Some segment) =

@@ -70,7 +70,8 @@ says_failure device (made.Broken key bytes) = false
 abbrev pub IsCalm : Told → Type 0
 IsCalm told = (device : Device) → is_failure_of device told ≡ false
 
--- That a device failed is answered without a request alone: the answer after one is calm, and the request's entry is none.
+-- That a device failed is answered without a request alone: the answer after one is calm, and the
+-- request's entry is none.
 abbrev pub FailsAlone : Made → Type 0
 FailsAlone (made.Request kind) = is_answer kind ≡ false
 FailsAlone (made.Answer told reply) = Unit {0}
@@ -97,8 +98,8 @@ faults_of Depot v = v.yard.depot.faults
 faults_of Shelf v = v.yard.shelf.faults
 faults_of Carrier v = v.carrier.faults
 
--- What a step does to devices: each is open where it was, and failed where the step answers so, and not otherwise. Without a request
--- they hold what they held.
+-- What a step does to devices: each is open where it was, and failed where the step answers so, and
+-- not otherwise. Without a request they hold what they held.
 pub record UsesDevices (made : Made) (before after : Shared) : Type 0 where
   pub keeper_at : after.keeper.opened ≡ before.keeper.opened
   pub carrier_at : after.carrier.opened ≡ before.carrier.opened
@@ -126,7 +127,8 @@ pub record StepsTo (s : State) (g : Known) (before : Shared) (h : ClientValue) (
   pub is_client : IsClient learned v model (s.count + length kinds) after
   pub holds : Holds tree model
 
--- A step that stopped leaves the client as it was, but that its read may have begun, for which it may have a cache.
+-- A step that stopped leaves the client as it was, but that its read may have begun, for which it
+-- may have a cache.
 pub record Stops (before after : ClientValue) : Type 0 where
   pub progress : Progress
   pub after_is : after ≡ record before {
@@ -140,8 +142,9 @@ Falls More before after = (steps_left after < steps_left before) × IsSome after
 Falls (Done reply) before after = after.doing ≡ None
 Falls (Broken key bytes) before after = Stops before after
 
--- A step was made at this moment; its first entry has this number. From every state of the model that client and devices stand for,
--- it leads to one that they stand for then. That rows and blocks are known and whole is part of standing for one.
+-- A step was made at this moment; its first entry has this number. From every state of the model
+-- that client and devices stand for, it leads to one that they stand for then. That rows and blocks
+-- are known and whole is part of standing for one.
 pub record Makes (now entry : ℕ) (h after : ClientValue) (before used : Shared)
     (done : Made) : Type 0 where
   pub id : after.id ≡ h.id

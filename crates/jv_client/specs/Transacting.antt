@@ -1,4 +1,5 @@
--- What the transaction of an operation promises, without a journal, and what its answer makes of the client.
+-- What the transaction of an operation promises, without a journal, and what its answer makes of
+-- the client.
 use Rattle.std.specs.Prelude.{◌≡◌, ℕ, List, ◌∷◌, [], ◌++◌, Option, None, Some, Result, IfSome}
 use Rattle.jv_model.specs.declared.act.ActKind.{ActKind}
 use Rattle.jv_model.specs.declared.act.Told.TheVariants.{Refused as ToldRefused}
@@ -83,16 +84,16 @@ IsPlain (OfRows (Bad at bytes)) = ⊥
 IsPlain (OfRows Failed) = Unit {0}
 IsPlain (OfRows Memory) = Unit {0}
 
--- A transaction wasn't made: rows and place are as before, the keeper's count rose where it failed, and where the rows are known,
--- a row that is called Bad is so.
+-- A transaction wasn't made: rows and place are as before, the keeper's count rose where it failed,
+-- and where the rows are known, a row that is called Bad is so.
 pub record NotMade (fault : TxFault) (before after : Store) : Type 0 where
   pub rows_are : after.rows ≡ before.rows
   pub opened_at : after.opened ≡ before.opened
   pub counts : FaultCause before.faults after.faults fault
   pub bad : IfSome before.rows (λ known. BadFault (typed known) fault)
 
--- what a refusal leaves of the client, and how the step ends: with the request that was refused, or, where the keeper failed or
--- memory ran out, without one
+-- what a refusal leaves of the client, and how the step ends: with the request that was refused,
+-- or, where the keeper failed or memory ran out, without one
 pub record Refuses (kind : ActKind) (fault : Fault) (h after : ClientValue)
     (done : Made) : Type 0 where
   pub after_is : after ≡ refused_here fault h
@@ -102,8 +103,8 @@ pub record Fails (fault : Fault) (h after : ClientValue) (done : Made) : Type 0 
   pub after_is : after ≡ ended h
   pub made_is : done ≡ made.Answer (ToldRefused fault) (RefusedReply fault)
 
--- What an operation is refused with whose transaction was refused. A device that failed is never the reason: its count of faults didn't
--- rise. No transaction over a volume's rows is refused so.
+-- What an operation is refused with whose transaction was refused. A device that failed is never
+-- the reason: its count of faults didn't rise. No transaction over a volume's rows is refused so.
 abbrev pub refusal_of : Fault → Fault
 refusal_of (DeviceFailed device) = Invalid
 refusal_of fault = fault

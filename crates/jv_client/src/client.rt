@@ -22,7 +22,7 @@ pub struct Client {
     /// The inodes that lost their last name by this client's own hand while it had them open.
     pub(crate) sustained: Vec<u64>,
     pub(crate) pending: Pending,
-    /// `None` until the first read. A cache that is there has as many entries as the limits say.
+    /// `None` until the first read. A cache that is there has room for as many blocks as the limits say.
     pub(crate) cache: Option<BlockCache>,
     pub(crate) doing: Option<Doing>,
 }

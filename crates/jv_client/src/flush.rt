@@ -7,7 +7,7 @@ ghost use Rattle.jv_model.specs.declared.op.Reply.TheVariants.{Count};
 ghost use Rattle.jv_model.specs.declared.limits.TheConstants.{FILE_END, WINDOW};
 ghost use Rattle.jv_shared.specs.Lengths.{IsLength};
 ghost use Rattle.jv_model.specs.blocks.Slices.{block_count};
-ghost use Rattle.jv_model.specs.client.Pending.{next_segment};
+ghost use Rattle.jv_model.specs.client.Pending.{first_segment_of};
 ghost use Rattle.jv_outside.specs.Carriage.{Carriage};
 ghost use Rattle.jv_outside.specs.Store.{Store};
 ghost use Rattle.jv_pending.specs.At.{segment_at};
@@ -47,7 +47,7 @@ impl Client {
     pub(crate) fn segment_left(&self) -> Option<SegmentAt>
         ensures least { option_map segment_at result ≡ left self.now }
         ensures own { IfSome result (λ at.
-            next_segment (Some at.inode) self.now.pending ≡ Some (segment_at at)) }
+            first_segment_of (Some at.inode) self.now.pending ≡ Some (segment_at at)) }
         ensures some { IfSome result (λ at. 0 < at.len) }
         ensures inside { IfSome result (λ at. at.pos + at.len ≤ WINDOW) }
         ensures file { IfSome result (λ at. at.window * WINDOW < FILE_END) }
@@ -72,7 +72,7 @@ impl Client {
         requires block { let seen = ⟦<Yard<D, H> as ObservedYard>⟧.seen in
             IsLength (seen yard.old).setting.block }
         requires next { left self.old ≡ Some (segment_at at) }
-        requires own { next_segment (Some at.inode) self.old.pending ≡ Some (segment_at at) }
+        requires own { first_segment_of (Some at.inode) self.old.pending ≡ Some (segment_at at) }
         requires some { 0 < at.len }
         requires inside { at.pos + at.len ≤ WINDOW }
         requires window { at.window * WINDOW < FILE_END }
@@ -171,7 +171,7 @@ impl Client {
         requires there { let seen = ⟦<Yard<D, H> as ObservedYard>⟧.seen in
             upload.quiets ≤ block_count at.len (seen yard.old).setting.block }
         requires next { left self.old ≡ Some (segment_at at) }
-        requires own { next_segment (Some at.inode) self.old.pending ≡ Some (segment_at at) }
+        requires own { first_segment_of (Some at.inode) self.old.pending ≡ Some (segment_at at) }
         requires some { 0 < at.len }
         requires inside { at.pos + at.len ≤ WINDOW }
         requires window { at.window * WINDOW < FILE_END }
@@ -217,7 +217,7 @@ impl Client {
         requires asked { 0 < upload.quiets }
         requires ready { IsReady self.old }
         requires next { left self.old ≡ Some (segment_at at) }
-        requires own { next_segment (Some at.inode) self.old.pending ≡ Some (segment_at at) }
+        requires own { first_segment_of (Some at.inode) self.old.pending ≡ Some (segment_at at) }
         requires some { 0 < at.len }
         requires inside { at.pos + at.len ≤ WINDOW }
         requires window { at.window * WINDOW < FILE_END }
@@ -269,7 +269,7 @@ impl Client {
 
     /// The record that shows a segment's slice, which has all of the segment's bytes.
     fn record_of(&self, at: SegmentAt, id: u64) -> Rec
-        requires own { next_segment (Some at.inode) self.now.pending ≡ Some (segment_at at) }
+        requires own { first_segment_of (Some at.inode) self.now.pending ≡ Some (segment_at at) }
         ensures shows { result
             ≡ record { pos = at.pos; id = id; size = at.len; off = 0; len = at.len } }
         ensures long { length (bytes_of (segment_at at) self.now.pending) ≡ at.len }
@@ -286,7 +286,7 @@ impl Client {
 
     /// Drops a segment that was committed, and the views of its file.
     fn drop_segment(&mut self, at: SegmentAt)
-        requires own { next_segment (Some at.inode) self.old.pending ≡ Some (segment_at at) }
+        requires own { first_segment_of (Some at.inode) self.old.pending ≡ Some (segment_at at) }
         requires long { length (bytes_of (segment_at at) self.old.pending) ≡ at.len }
         ensures rest { self.new ≡ without_segment (segment_at at) self.old }
         ensures fewer { length self.new.pending + at.len ≡ length self.old.pending }
@@ -351,7 +351,7 @@ fn upload_of(progress: &Progress) -> Upload
 fn first_left(pending: &Pending, flush: Flush) -> Option<SegmentAt>
     ensures least { option_map segment_at result ≡ segment_left flush pending.now.bytes }
     ensures own { IfSome result (λ at.
-        next_segment (Some at.inode) pending.now.bytes ≡ Some (segment_at at)) }
+        first_segment_of (Some at.inode) pending.now.bytes ≡ Some (segment_at at)) }
     ensures some { IfSome result (λ at. 0 < at.len) }
     ensures inside { IfSome result (λ at. at.pos + at.len ≤ WINDOW) }
     ensures file { IfSome result (λ at. at.window * WINDOW < FILE_END) }

@@ -19,8 +19,8 @@ impl Client {
     /// last one. Appends the step's entries for this line. Where memory runs out the answer is `NoMemory`, where a
     /// device failed it is `DeviceFailed`: the operation has ended, and in a read the cache has changed by its looks and
     /// by the needed block, where that came. `Broken` if a row that the step reads is malformed, names one that isn't
-    /// there, or is absent where each volume has one: nothing has changed but that a read may have begun, and there is
-    /// no entry.
+    /// there, or is absent where each volume has one: nothing has changed but that a read may have begun and looked into
+    /// the cache, and there is no entry.
     /// JuiceFS, Architecture: clients; Cache: a close stores what was written.
     pub fn step<K: Keeper, D: Depot, H: Shelf>(
         &mut self,

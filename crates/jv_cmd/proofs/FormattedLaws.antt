@@ -24,7 +24,8 @@ use Rattle.jv_volume.specs.Whole.{Whole}
 use Rattle.jv_volume.proofs.FreshWholeLaws.{first_rows, whole-first_rows}
 use Rattle.jv_volume.proofs.TypedLaws.{typed-insert-row}
 use Rattle.jv_volume.proofs.WrittenRowsLaws.{none_at}
-use Rattle.jv_rows.specs.FreshRows.{fresh_counters, fresh_directory, fresh_rows}
+use Rattle.jv_volume.specs.Fresh.{fresh_counters, fresh_directory}
+use Rattle.jv_rows.specs.FreshRows.{fresh_rows}
 use Rattle.jv_rows.specs.RoundTrips.{SettingWidths}
 use Rattle.jv_rows.proofs.ExactRowLaws.{setting_exact, counters_exact, node_exact}
 use Rattle.jv_yard.specs.Contents.{blocks_in, is_block}

@@ -6,7 +6,7 @@ use Rattle.jv_model.specs.declared.act.Act.{Act}
 use Rattle.jv_model.specs.declared.op.Line.{Line}
 use Rattle.jv_model.specs.declared.op.Line.TheVariants.{Empty}
 use Rattle.jv_model.specs.journal.Legal.{Legal, AllAllowed, may_be_cut, may_stop}
-use Rattle.jv_model.specs.journal.Past.{Past, Setup, NoMore, is_over, at_start, begun, turned, begin_from, begin_next, begun_by, begun_to, past, reached, at_end, text_of}
+use Rattle.jv_model.specs.journal.Past.{Past, Setup, NoMore, is_over, at_start, begun, after_line, begin_from, begin_next, begun_by, begun_to, past, reached, at_end, text_of}
 use Rattle.jv_laws.proofs.JournalGrowthLaws.{begun_to-twice, begun_to-next, past-append, AllAllowed-append, past-begun_to, AllAllowed-begun_to}
 use Rattle.jv_shared.specs.Shared.{Shared}
 use Rattle.jv_outside.specs.Ticks.{Ticks}
@@ -116,9 +116,9 @@ Stands-settled p s k st = record {
 }
 
 -- an empty line does nothing
-Stands-turned : (p : Past) (more : List Line) (s : ScheduleValue) (k : Shared) → Stands p s k
-    → Stands (begun (turned p more) Empty) s k
-Stands-turned p more s k st = record {
+Stands-after_line : (p : Past) (more : List Line) (s : ScheduleValue) (k : Shared) → Stands p s k
+    → Stands (begun (after_line p more) Empty) s k
+Stands-after_line p more s k st = record {
   complete = and_from p.complete (is_over p) st.complete st.over;
   over = refl;
   at = st.at;
@@ -131,7 +131,7 @@ Stands-turned p more s k st = record {
   state = st.state;
 }
 
-next_is : (p : Past) (more : List Line) → p.rest ≡ Empty ∷ more → begin_next p ≡ begun (turned p more) Empty
+next_is : (p : Past) (more : List Line) → p.rest ≡ Empty ∷ more → begin_next p ≡ begun (after_line p more) Empty
 unfolding begin_next
 next_is p more e = ap (λ rest. begin_from rest p) e
 
@@ -143,7 +143,7 @@ Advances-quiet line number before after s s' empty leaves = record {
   uses = uses_nothing (used before s) (used after s') (ap (λ (ticks : Ticks). ticks.answers) leaves.clock) leaves.devices leaves.journal
       leaves.schedule;
   goes = λ p more stands next rest count clock.
-      let is : begun (turned p more) Empty ≡ begun_to number p =
+      let is : begun (after_line p more) Empty ≡ begun_to number p =
       sym (begun_to-next number p next ∙ next_is p more (rest ∙ ap (λ (l : Line). l ∷ more) empty)) in
       record {
         acts = [];
@@ -152,9 +152,9 @@ Advances-quiet line number before after s s' empty leaves = record {
         at = subst (λ q. IsAt q p.run more number (p.asked + 0) (length after.journal)
             (p.printed ++ p.said ++ []) s' after.devices) is (record {
               line = next;
-              stands = subst (λ v. Stands (begun (turned p more) Empty) v after.devices) (sym leaves.schedule)
-                  (subst (λ k. Stands (begun (turned p more) Empty) s k) (sym leaves.devices)
-                  (Stands-turned p more s before.devices stands));
+              stands = subst (λ v. Stands (begun (after_line p more) Empty) v after.devices) (sym leaves.schedule)
+                  (subst (λ k. Stands (begun (after_line p more) Empty) s k) (sym leaves.devices)
+                  (Stands-after_line p more s before.devices stands));
               same_run = refl;
               rest = refl;
               count = count ∙ ap length (sym leaves.journal);

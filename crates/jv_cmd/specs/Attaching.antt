@@ -1,4 +1,5 @@
--- Where a session opens the devices for blocks and in which order, and how its yard is started over them.
+-- Where a session opens the devices for blocks and in which order, and how its yard is started over
+-- them.
 use Rattle.std.specs.Prelude.{◌≡◌, ℕ, List, Result, Ok, Err}
 use Rattle.jv_model.specs.declared.fault.Device.{Device}
 use Rattle.jv_model.specs.declared.fault.Device.TheVariants as device
@@ -19,13 +20,15 @@ abbrev pub ended_at : Ended → Down → Ended
 ended_at failed Failed = failed
 ended_at failed Memory = OutOfMemory
 
--- the depot and the carrier were opened at the bucket, and the shelf at the folder; what they hold is the same
+-- the depot and the carrier were opened at the bucket, and the shelf at the folder; what they hold
+-- is the same
 pub record AreAttached (bucket folder : List ℕ) (before after : BlockDevices) : Type 0 where
   pub depot : Attaches before.depot after.depot (Ok tt) bucket
   pub carrier : Moves before.carrier after.carrier (Ok tt) bucket
   pub shelf : Attaches before.shelf after.shelf (Ok tt) folder
 
--- The first of depot, carrier and shelf that isn't opened: those before it were, and those after it are as they were.
+-- The first of depot, carrier and shelf that isn't opened: those before it were, and those after it
+-- are as they were.
 pub data CannotAttach (bucket folder : List ℕ) (before after : BlockDevices)
     (ended : Ended) : Type 0 where
   NoDepot : (down : Down) → ended ≡ ended_at DepotFailed down
@@ -62,8 +65,8 @@ pub record CannotStart (before after : BlockDevices) (ended : Ended) : Type 0 wh
   pub depot : after.depot ≡ before.depot
   pub carrier : after.carrier ≡ before.carrier
 
--- They are open where they were, the shelf has the blocks that it had, and each of them failed as often as
--- `answers` says.
+-- They are open where they were, the shelf has the blocks that it had, and each of them failed as
+-- often as `answers` says.
 pub record UsesBlocks (answers : Device → ℕ) (before after : BlockDevices) : Type 0 where
   pub depot_at : after.depot.opened ≡ before.depot.opened
   pub shelf_at : after.shelf.opened ≡ before.shelf.opened

@@ -39,11 +39,11 @@ pub record RunsNone (answers : Device → ℕ) (before after : WorldValue) : Typ
   pub lines : LeavesLines before after
   pub rows : after.keeper.rows ≡ before.keeper.rows
 
--- A session with these options: there is no volume to run on, and no device for blocks is opened; or one
--- of them isn't opened for the volume of that setting; or the shelf's blocks couldn't be read; or the
--- script runs on that volume, with depot and shelf in a yard, which are back where they were in the end;
--- blocks were put, all other objects are as they were, and so is the shelf (`StaysPut`). `answers` is how
--- often each device failed and an operation was answered so.
+-- A session with these options: there is no volume to run on, and no device for blocks is opened;
+-- or one of them isn't opened for the volume of that setting; or the shelf's blocks couldn't be
+-- read; or the script runs on that volume, with depot and shelf in a yard, which are back where
+-- they were in the end; blocks were put, all other objects are as they were, and so is the shelf
+-- (`StaysPut`). `answers` is how often each device failed and an operation was answered so.
 pub data SessionEnds (options : SessionOptions) (answers : Device → ℕ) (before after : WorldValue)
     (ended : Ended) : Type 0 where
   NotOpened : CannotOpen before.keeper.rows ended → RunsNone answers before after
@@ -86,8 +86,8 @@ abbrev pub is_drawn : Command → Bool
 is_drawn (Format place setting) = false
 is_drawn (Session place options) = is_some options.generate
 
--- A session over the volume of a setting, for which depot, carrier and shelf are opened: the shelf's blocks couldn't be
--- read, and no line was run; or the lines ran.
+-- A session over the volume of a setting, for which depot, carrier and shelf are opened: the
+-- shelf's blocks couldn't be read, and no line was run; or the lines ran.
 pub data RunsAttached (options : SessionOptions) (setting : Setting) (before after : WorldValue)
     (ended : Ended) : Type 0 where
   Unstarted : CannotStart before.blocks after.blocks ended → LeavesLines before after
@@ -118,7 +118,8 @@ pub record RunsSession (place : List ℕ) (options : SessionOptions) (before aft
   pub ends : SessionEnds options answers before after ended
   pub keeper : UsesKeeper ended (answers Keeper) place before.keeper after.keeper
 
--- a command: what it did, which device failed, and where the keeper is opened; the shelf has the blocks that it had
+-- a command: what it did, which device failed, and where the keeper is opened; the shelf has the
+-- blocks that it had
 pub record RunsCommand (command : Command) (before after : WorldValue)
     (ended : Ended) : Type 0 where
   pub answers : Device → ℕ
@@ -128,8 +129,8 @@ pub record RunsCommand (command : Command) (before after : WorldValue)
       after.keeper
   pub shelf : after.blocks.shelf.content ≡ before.blocks.shelf.content
 
--- how the command ended: what it did apart from standard error, its status, and its text there; no line of
--- a drawn script ends it
+-- how the command ended: what it did apart from standard error, its status, and its text there; no
+-- line of a drawn script ends it
 pub record EndsCommand (command : Command) (before after : WorldValue) (status : ℕ) : Type 0 where
   pub ended : Ended
   pub runs : RunsCommand command before (record after { err = before.err }) ended

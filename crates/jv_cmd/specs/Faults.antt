@@ -53,13 +53,14 @@ IsOpened KeeperFailed place before after = MayOpen place before after
 IsOpened OutOfMemory place before after = MayOpen place before after
 IsOpened _ place before after = after ≡ Some place
 
--- how often the keeper failed: at operations that were answered so, and once more where it ended the command
+-- how often the keeper failed: at operations that were answered so, and once more where it ended
+-- the command
 abbrev pub failures_of : Ended → ℕ → ℕ
 failures_of KeeperFailed answers = suc answers
 failures_of _ answers = answers
 
--- where the keeper is opened after a command at a place, and its count of faults, where `answers` operations were
--- answered that it failed
+-- where the keeper is opened after a command at a place, and its count of faults, where `answers`
+-- operations were answered that it failed
 pub record UsesKeeper (ended : Ended) (answers : ℕ) (place : List ℕ)
     (before after : Store) : Type 0 where
   pub opened : IsOpened ended place before.opened after.opened

@@ -1,5 +1,5 @@
--- What a session is whose script is drawn from a seed: one that reads the script's text, but that prints a
--- summary in place of answers.
+-- What a session is whose script is drawn from a seed: one that reads the script's text, but that
+-- prints a summary in place of answers.
 use Rattle.std.specs.Prelude.{◌≡◌, ◌≢◌, ℕ, Bool, false, ◌==◌, if◌then◌else◌, List, [], ◌∷◌, ◌++◌, length, drop, Option, None, Some, unwrap_or, IsSomeAnd, codes, decimal}
 use Rattle.std.specs.List.{flat_map}
 use Rattle.jv_model.specs.declared.fault.Device.{Device}
@@ -79,7 +79,8 @@ abbrev pub begins_with_o : List ℕ → Bool
 begins_with_o [] = false
 begins_with_o (first ∷ _) = first == 111
 
--- what totals count of a line's answer: a refusal, whichever it is, the bytes of a read, or that the line was done
+-- what totals count of a line's answer: a refusal, whichever it is, the bytes of a read, or that
+-- the line was done
 unfoldable pub reply_said : Line → List ℕ → Reply
 reply_said line answer = (if begins_with_o answer
     then (if is_read_line line then Data (spelled_bytes (drop 3 answer)) else Done)
@@ -102,8 +103,8 @@ abbrev pub with_streams : Option (List ℕ) → Option (List ℕ) → StageValue
 with_streams left taken stage =
     record stage { source = never_failing left; out = never_failing taken }
 
--- The summary of a whole run was printed, or out failed after a proper prefix of it, or there was no memory for what
--- the lines print or for the summary, and nothing was printed.
+-- The summary of a whole run was printed, or out failed after a proper prefix of it, or there was
+-- no memory for what the lines print or for the summary, and nothing was printed.
 abbrev pub SumsUp : ℕ → Option (List ℕ) → Stream → Stream → Ended → Type 0
 SumsUp seed said before after Succeeded =
     IsSomeAnd said (λ text. HasAll before after (summary_of seed text))
@@ -117,8 +118,8 @@ abbrev pub PrintsSummary : ℕ → Option (List ℕ) → Stream → Stream → E
 PrintsSummary seed said before after Succeeded ended = SumsUp seed said before after ended
 PrintsSummary seed said before after ran ended = (ended ≡ ran) × (after ≡ before)
 
--- The lines ran as those of a source with the script's text, and printed `said` where out would keep it. The source
--- wasn't used. Outside writeback mode none of the lines ends the run.
+-- The lines ran as those of a source with the script's text, and printed `said` where out would
+-- keep it. The source wasn't used. Outside writeback mode none of the lines ends the run.
 pub record RunsDrawn (seed : ℕ) (answers : Device → ℕ) (before after : StageValue)
     (ended : Ended) : Type 0 where
   pub ran : Ended
@@ -135,7 +136,8 @@ abbrev pub RunsScript : Option ℕ → (Device → ℕ) → StageValue → Stage
 RunsScript None answers before after ended = RunsLines answers before after ended
 RunsScript (Some seed) answers before after ended = RunsDrawn seed answers before after ended
 
--- the run of a script ended; `answers` is how often each device failed and an operation was answered so
+-- the run of a script ended; `answers` is how often each device failed and an operation was
+-- answered so
 pub record EndsScript (seed : Option ℕ) (before after : StageValue) (ended : Ended) : Type 0 where
   pub answers : Device → ℕ
   pub runs : RunsScript seed answers before after ended

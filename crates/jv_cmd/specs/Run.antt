@@ -34,14 +34,16 @@ use Rattle.jv_model.specs.declared.limits.TheConstants.{MAX_LINE, MAX_LINES}
 use Rattle.jv_cmd.specs.Stages.{StageValue}
 use Rattle.jv_cmd.specs.Texts.{texts_of}
 
--- what a session begins with: its limits, the setting and the rows of the volume, and the objects of its depot
+-- what a session begins with: its limits, the setting and the rows of the volume, and the objects
+-- of its depot
 pub record Beginning : Type 0 where
   pub limits : Limits
   pub setting : Setting
   pub rows : RowMap
   pub objects : ObjectMap
 
--- The tree of the rows, whose files have the bytes of the depot's blocks. No byte is on a shelf alone.
+-- The tree of the rows, whose files have the bytes of the depot's blocks. No byte is on a shelf
+-- alone.
 abbrev pub start_of : Beginning → Start
 start_of start = record {
   tree = tree_with (known_by start.setting.block (blocks_in start.setting start.objects))
@@ -51,8 +53,9 @@ start_of start = record {
   records = record_count (typed start.rows);
 }
 
--- The rows, the depot and the shelf are known, and a session may begin on them: the rows are whole, the depot has each
--- block of their slices, copies of one name are alike, and no block is of a slice that is still to get its number.
+-- The rows, the depot and the shelf are known, and a session may begin on them: the rows are whole,
+-- the depot has each block of their slices, copies of one name are alike, and no block is of a
+-- slice that is still to get its number.
 pub record StartsWhole (before : StageValue) (start : Beginning) : Type 0 where
   pub limits : start.limits ≡ before.limits
   pub setting : start.setting ≡ before.devices.yard.setting
@@ -60,13 +63,14 @@ pub record StartsWhole (before : StageValue) (start : Beginning) : Type 0 where
   pub objects : before.devices.yard.depot.content ≡ Some start.objects
   pub fresh : IsFresh before.devices
 
--- Rows, depot and shelf are known, and the volume in them is whole, with all blocks of its files, and
--- stands for this tree.
+-- Rows, depot and shelf are known, and the volume in them is whole, with all blocks of its files,
+-- and stands for this tree.
 pub record Leaves (devices : Shared) (t : Tree) : Type 0 where
   pub known : Known
   pub store : HasStore t known devices
 
--- The run of lines over such a volume, with the clock's answers where they are known. No thread uploads.
+-- The run of lines over such a volume, with the clock's answers where they are known. No thread
+-- uploads.
 abbrev pub session_run : Beginning → Option (ℕ → ℕ) → List Line → ℕ → Setup
 session_run start known lines status = record {
   start = start_of start;
@@ -78,8 +82,8 @@ session_run start known lines status = record {
   status = status;
 }
 
--- The clock's answers by which a run may be judged: none, or those that were known at the start, where the answers are
--- known at the end too.
+-- The clock's answers by which a run may be judged: none, or those that were known at the start,
+-- where the answers are known at the end too.
 abbrev pub IsKnownClock : Option (ℕ → ℕ) → Ticks → Ticks → Type 0
 IsKnownClock None before after = Unit {0}
 IsKnownClock (Some answers) before after = (before.answers ≡ Some answers) × IsSome after.answers
@@ -88,8 +92,8 @@ IsKnownClock (Some answers) before after = (before.answers ≡ Some answers) × 
 pub record BeginWith (bytes : Option (List ℕ)) (texts : List (List ℕ)) : Type 0 where
   pub known : IfSome bytes (λ all. (more : List (List ℕ)) × (texts_of all ≡ texts ++ more))
 
--- the texts are the first ones of the source, they are lines of the grammar, at most `MAX_LINES` of them, and none is
--- longer than `MAX_LINE` bytes
+-- the texts are the first ones of the source, they are lines of the grammar, at most `MAX_LINES` of
+-- them, and none is longer than `MAX_LINE` bytes
 pub record AreLines (bytes : Option (List ℕ)) (texts : List (List ℕ))
     (lines : List Line) : Type 0 where
   pub first : BeginWith bytes texts
@@ -105,7 +109,8 @@ up_to number = filter (λ act. nat_le act.line number)
 abbrev pub IsBuilt : Limits → Line → Type 0
 IsBuilt limits line = is_built_line limits line ≡ true
 
--- why the line of that number isn't run: it is one too many, it is too long, it is malformed, or it isn't built
+-- why the line of that number isn't run: it is one too many, it is too long, it is malformed, or it
+-- isn't built
 pub data IsNotRun (limits : Limits) (number : ℕ) (text : List ℕ) : Type 0 where
   OneTooMany : MAX_LINES < number → IsNotRun limits number text
   TooLong : MAX_LINE < length text → IsNotRun limits number text
@@ -143,7 +148,8 @@ abbrev pub printed_by : Beginning → Option (ℕ → ℕ) → List Line → End
 printed_by start known lines ended journal =
     text_of (session_run start known lines (status_of ended)) journal
 
--- The last line's text was cut: out has gained the text of the lines before it, and a proper prefix of its own.
+-- The last line's text was cut: out has gained the text of the lines before it, and a proper prefix
+-- of its own.
 pub record PrintsPart (start : Beginning) (known : Option (ℕ → ℕ)) (before after : StageValue)
     (lines : List Line) : Type 0 where
   pub earlier : List Line
@@ -173,8 +179,8 @@ pub data PrintsUntil (start : Beginning) (known : Option (ℕ → ℕ)) (before 
       (printed_before_last start known lines OutOfMemory after.journal)
       → PrintsUntil start known before after lines
 
--- Out has gained the text of the lines. Where out failed, it has gained a part of it; where the clock failed, or memory
--- ran out, on a line, that of the lines before it.
+-- Out has gained the text of the lines. Where out failed, it has gained a part of it; where the
+-- clock failed, or memory ran out, on a line, that of the lines before it.
 abbrev pub Prints : Ended → Beginning → Option (ℕ → ℕ) → StageValue → StageValue → List Line
     → Type 0
 Prints OutFailed start known before after lines = PrintsPart start known before after lines
@@ -185,8 +191,9 @@ Prints OutOfMemory start known before after lines = PrintsUntil start known befo
 Prints ended start known before after lines =
     Gains before.out.content after.out.content (printed_by start known lines ended after.journal)
 
--- The outcome of a run over a whole volume: the journal is legal for one POSIX tree, the lines' text was printed, and
--- the volume left is whole and has the tree reached. Each block that the depot had is there, with its bytes.
+-- The outcome of a run over a whole volume: the journal is legal for one POSIX tree, the lines'
+-- text was printed, and the volume left is whole and has the tree reached. Each block that the
+-- depot had is there, with its bytes.
 pub record RunsWhole (start : Beginning) (known : Option (ℕ → ℕ)) (before after : StageValue)
     (ended : Ended) (lines : List Line) : Type 0
   where
@@ -196,9 +203,9 @@ pub record RunsWhole (start : Beginning) (known : Option (ℕ → ℕ)) (before 
     pub leaves : Leaves after.devices
         (at_end (session_run start known lines (status_of ended)) after.journal).state.tree
 
--- The lines that were run: those before the end and, where out or the clock failed, a row was Bad, or memory ran out on
--- a line, that line as the last one, which may be cut off then. Each is built. Whatever the rows are, `answers` is how
--- many entries answer that a device failed.
+-- The lines that were run: those before the end and, where out or the clock failed, a row was Bad,
+-- or memory ran out on a line, that line as the last one, which may be cut off then. Each is built.
+-- Whatever the rows are, `answers` is how many entries answer that a device failed.
 pub record RunsLines (answers : Device → ℕ) (before after : StageValue)
     (ended : Ended) : Type 0 where
   pub texts : List (List ℕ)

@@ -15,7 +15,8 @@ use Rattle.jv_shared.specs.Shared.{Shared}
 use Rattle.jv_client.specs.Shared.{shared}
 use Rattle.jv_cmd.specs.Worlds.{WorldValue, block_devices, world_value}
 
--- the session's limits, the streams, the keeper and the carrier with the yard, the clock, and the journal
+-- the session's limits, the streams, the keeper and the carrier with the yard, the clock, and the
+-- journal
 pub record StageValue : Type 0 where
   pub limits : Limits
   pub source : Stream

@@ -24,7 +24,8 @@ use Rattle.jv_cmd.specs.Stages.{StageValue}
 use Rattle.jv_cmd.specs.Run.{Beginning, IsKnownClock, IsBuilt, StartsWhole, session_run}
 use Rattle.jv_cmd.specs.Generating.{EndsScript}
 
--- a past after `done` lines of a run, with these lines to come: the schedule stands there, and this was printed
+-- a past after `done` lines of a run, with these lines to come: the schedule stands there, and this
+-- was printed
 pub record IsAt (p : Past) (run : Setup) (more : List Line) (done asks entries : ℕ)
     (printed : List ℕ) (s : ScheduleValue) (v : Shared) : Type 0 where
   pub line : p.line ≡ done
@@ -46,8 +47,8 @@ abbrev pub AreBetween : ℕ → ℕ → List Act → Type 0
 AreBetween low high [] = Unit {0}
 AreBetween low high (act ∷ acts) = (low ≤ act.line) × (act.line ≤ high) × AreBetween low high acts
 
--- The outcome of these lines, whatever lines are to come, where the run began on a whole volume, and how
--- often the clock was asked.
+-- The outcome of these lines, whatever lines are to come, where the run began on a whole volume,
+-- and how often the clock was asked.
 pub record DoneOn (start : Beginning) (before now : StageValue) (lines : List Line) (done asked : ℕ)
     (text : List ℕ) (s : ScheduleValue) : Type 0 where
   pub own : AreBetween 0 done now.journal
@@ -57,8 +58,8 @@ pub record DoneOn (start : Beginning) (before now : StageValue) (lines : List Li
       → Reaches (session_run start known (lines ++ more) status) more done asked text now.journal s
       now.devices
 
--- What was done with devices, whatever they hold: the clock was asked `asked` times, and each device failed as often as
--- `failed` says, and an operation was answered so each time.
+-- What was done with devices, whatever they hold: the clock was asked `asked` times, and each
+-- device failed as often as `failed` says, and an operation was answered so each time.
 pub record HasUsed (before now : StageValue) (asked : ℕ) (failed : Device → ℕ) : Type 0 where
   pub passes : Passes before.clock.answers now.clock.answers asked
   pub stays : StaysPut before.devices now.devices

@@ -8,8 +8,8 @@ is_feed byte = byte == 10
 abbrev pub has_feed : List ℕ → Bool
 has_feed = list_any is_feed
 
--- The texts of the lines of bytes. A line is ended by a line feed, which isn't part of its text and which the last line
--- may lack; nothing after the last line feed is no line.
+-- The texts of the lines of bytes. A line is ended by a line feed, which isn't part of its text and
+-- which the last line may lack; nothing after the last line feed is no line.
 abbrev pub texts_of : List ℕ → List (List ℕ)
 texts_of [] = []
 texts_of (byte ∷ bytes) =

@@ -115,7 +115,8 @@ abbrev pub read_by : Kinds → Option (Text × List Row) → Option Command
 read_by [] stop = command_at stop
 read_by (k ∷ ks) stop = None
 
--- The command that the words ask for. They are refused where there is none: by `clap`, or for a value out of its range.
+-- The command that the words ask for. They are refused where there is none: by `clap`, or for a
+-- value out of its range.
 unfoldable pub asked : List Text → Option Command
 asked words = read_by (fault_of program_app words) (subcommand_of program_app words)
 
@@ -161,7 +162,8 @@ abbrev pub SaysRefused : WordsFault → Type 0
 SaysRefused (Refused text) = string_bytes text ≡ refused_text
 SaysRefused Memory = Unit {0}
 
--- a setting that is to be written is one that rows may have, and the sizes of a session are in their ranges
+-- a setting that is to be written is one that rows may have, and the sizes of a session are in
+-- their ranges
 abbrev pub IsAllowedCommand : Command → Type 0
 IsAllowedCommand (Format place setting) = IsTrue (is_setting setting)
 IsAllowedCommand (Session place options) = AreAllowed options

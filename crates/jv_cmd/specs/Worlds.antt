@@ -9,7 +9,8 @@ use Rattle.jv_outside.specs.Store.{Store}
 use Rattle.jv_outside.specs.Stream.{Stream}
 use Rattle.jv_outside.specs.Ticks.{Ticks}
 
--- the devices for the blocks of files: the object store, the local disk, and what sends blocks to the store
+-- the devices for the blocks of files: the object store, the local disk, and what sends blocks to
+-- the store
 pub record BlockDevices : Type 0 where
   pub depot : Holding ObjectMap
   pub shelf : Holding StagedMap

@@ -43,10 +43,14 @@ const WORDS_REFUSED: u8 = 2;
 /// for a session, or one for `format`, or the row of its setting is of a later version, or a row that is read is
 /// malformed, or names one that isn't there, or is absent where each volume has one, 5 if a device failed, and 6 if the
 /// process is out of memory. A device that fails inside an operation of a script is answered `EIO`. Standard error has
-/// a text for each but the first, which ends with a line feed. Nothing after the end of the run is done, and everything
-/// before it is done, printed and in the journal. Where the clock fails or memory runs out on a line, the steps that
-/// the line made are in the journal, and it prints nothing. Apart from such answers, a device's count of faults rises
-/// only with status 5, by that device, and standard error's own faults are passed over.
+/// a text for each but the first, which ends with a line feed. Nothing after the end of the run is done. Everything
+/// before it is done and in the journal, and its text is printed, but for the last line's where `out` failed. Where the
+/// clock fails or memory runs out on a line, the steps that the line made are in the journal, and it prints nothing.
+/// Apart from such answers, a device's count of faults rises only with status 5, by that device, and standard error's
+/// own faults are passed over.
+///
+/// With `--generate N` the script is the one that the seed N gives, the source isn't read, and what is printed is one
+/// line of totals, once all lines were run.
 pub fn run<S: Source, O: Sink, E: Sink, K: Keeper, D: Depot, H: Shelf, C: Clock>(
     alloc: Global,
     words: &[String],

@@ -3,7 +3,6 @@
 ghost use Rattle.std.specs.Prelude.{◌≡◌, ◌≤◌, ◌++◌, ◌∷◌, [], codes, drop, IfOk, IsSome, IsSomeAnd, MatchOption, OnOk, Some};
 ghost use Rattle.jv_model.specs.declared.limits.TheConstants.{MAX_DATA};
 ghost use Rattle.jv_model.specs.script.Printed.{number_word};
-ghost use Rattle.jv_model.specs.script.ReplyText.{mode_digits};
 ghost use Rattle.jv_model.specs.client.OpForms.{is_read};
 ghost use Rattle.jv_generator.specs.Summary.{totals_of, with_reply};
 ghost use Rattle.jv_generator.specs.Script.{script};
@@ -19,7 +18,7 @@ use itoa::Buffer;
 use jv_generator::{Generator, Totals};
 use jv_model::{Bytes, Fault, Line, Op, Reply, Setting};
 use jv_outside::{Clock, Depot, Keeper, NeverSink, NeverSource, Shelf, Sink, Source, write_whole};
-use jv_script::{BadLine, hex_pair, octal_digit, push_number, read_data};
+use jv_script::{BadLine, hex_pair, mode_digits, push_number, read_data};
 use jv_yard::{Alone, YardDoor};
 use std::alloc::{AllocError, Global};
 
@@ -34,17 +33,6 @@ fn push_repeated(text: &mut Vec<u8>, bytes: &[u8]) -> Result<(), AllocError>
     text.extend_from_slice(&hex_pair(*byte))?;
     text.push(b'x')?;
     text.extend_from_slice(Buffer::new().format(bytes.len()).as_bytes())
-}
-
-fn mode_digits(mode: u16) -> [u8; 4]
-    ensures { result ≡ mode_digits mode }
-{
-    [
-        octal_digit(mode / 512),
-        octal_digit(mode / 64),
-        octal_digit(mode / 8),
-        octal_digit(mode),
-    ]
 }
 
 fn push_create(text: &mut Vec<u8>, path: &[u8], mode: u16) -> Result<(), AllocError>

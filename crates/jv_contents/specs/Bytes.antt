@@ -1,4 +1,5 @@
--- The bytes of files: what is known of each place of each slice. A transaction on rows sees none of them.
+-- The bytes of files: what is known of each place of each slice. A transaction on rows sees none of
+-- them.
 use Rattle.std.specs.Prelude.{ℕ}
 use Rattle.jv_model.specs.declared.slice.Spot.{Spot}
 use Rattle.jv_model.specs.declared.slice.Spot.TheVariants.{Zero, Slice}

@@ -1,4 +1,5 @@
--- How many records there are, and what a transaction on lists leaves of the slices that it doesn't make.
+-- How many records there are, and what a transaction on lists leaves of the slices that it doesn't
+-- make.
 use Rattle.std.specs.Prelude.{◌≡◌, ◌≢◌, ℕ, ◌+◌, ◌≤◌, ◌<◌, List, length, Some, None}
 use Rattle.jv_model.specs.declared.row.SliceRow.{SliceRow}
 use Rattle.jv_model.specs.declared.row.Dead.{Dead}
@@ -12,8 +13,8 @@ use Rattle.jv_volume.specs.Slices.{IsUnknown, listed, named_by, next_slice, reco
 unfoldable pub record_count : Rows → ℕ
 record_count rows = sum_over (λ key cell. length (listed key (Some cell))) rows
 
--- Lists have changed and counts not yet: to each slice's count the records that came are still to be added, and those that went to be
--- taken off.
+-- Lists have changed and counts not yet: to each slice's count the records that came are still to
+-- be added, and those that went to be taken off.
 pub record Behind (rows : Rows) (gone added : List Rec) : Type 0 where
   pub by : (id : ℕ) → 0 < id
       → slice_count rows id + records_naming id added ≡ named_by rows id + records_naming id gone
@@ -30,8 +31,9 @@ pub record HadSize (rows : Rows) (id size : ℕ) : Type 0 where
   pub is : slice_row_at rows id ≡ Some slice
   pub size_is : slice.size ≡ size
 
--- What a transaction on lists leaves of slices other than its own: the next number; an unknown slice stays unknown; no slice gets a
--- row that had none; one that loses its row is dead, with its size; dead ones stay dead. There are at most `more` records more.
+-- What a transaction on lists leaves of slices other than its own: the next number; an unknown
+-- slice stays unknown; no slice gets a row that had none; one that loses its row is dead, with its
+-- size; dead ones stay dead. There are at most `more` records more.
 pub record KeepsOthers (own more : ℕ) (rows after : Rows) : Type 0 where
   pub next : next_slice after ≡ next_slice rows
   pub unknown : (id : ℕ) → 0 < id → id ≢ own → IsUnknown rows id → IsUnknown after id

@@ -6,7 +6,8 @@ use Rattle.jv_model.specs.declared.slice.Spot.TheVariants.{Zero, Slice}
 use Rattle.jv_model.specs.declared.slice.Piece.{Piece}
 use Rattle.jv_model.specs.blocks.Slices.{IsRecord, shown}
 
--- Records that follow one another from a position of a window to another, and show these places there.
+-- Records that follow one another from a position of a window to another, and show these places
+-- there.
 abbrev pub Fills : (ℕ → Spot) → ℕ → ℕ → List Rec → Type 0
 Fills places from to [] = from ≡ to
 Fills places from to (r ∷ rs) = (r.pos ≡ from) × IsRecord r

@@ -1,4 +1,5 @@
--- Slices in flight: a client has taken a number, and puts the blocks of its bytes one by one until it commits them.
+-- Slices in flight: a client has taken a number, and puts the blocks of its bytes one by one until
+-- it commits them.
 use Rattle.std.specs.Prelude.{◌≡◌, ℕ, ◌*◌, ◌<◌, List, length, take, drop, Some}
 use Rattle.jv_model.specs.declared.slice.BlockId.{BlockId}
 use Rattle.jv_model.specs.blocks.Slices.{block_at, block_count}
@@ -19,7 +20,8 @@ flight_block block f index = block_at f.id (length f.bytes) block index
 abbrev pub flight_bytes : ℕ → Flight → ℕ → List ℕ
 flight_bytes block f index = take block (drop (index * block) f.bytes)
 
--- No row names the slice; its first blocks were put with its bytes, and no other block has its number.
+-- No row names the slice; its first blocks were put with its bytes, and no other block has its
+-- number.
 pub record InFlight (block : ℕ) (rows : Rows) (blocks : Blocks) (f : Flight) : Type 0 where
   pub some : 0 < f.id
   pub below : f.id < next_slice rows

@@ -1,4 +1,5 @@
--- The bytes of files: where they lie, what blocks have there, and what transactions on lists leave alone.
+-- The bytes of files: where they lie, what blocks have there, and what transactions on lists leave
+-- alone.
 pub mod Places
 pub mod Fills
 pub mod Bytes

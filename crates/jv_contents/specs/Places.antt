@@ -1,5 +1,6 @@
--- Where the bytes of a file lie: each position has a place, by the lists of the file's windows (JuiceFS, Internals: chunks, slices
--- and blocks). Laws on bytes are equations between functions from position to place.
+-- Where the bytes of a file lie: each position has a place, by the lists of the file's windows
+-- (JuiceFS, Internals: chunks, slices and blocks). Laws on bytes are equations between functions
+-- from position to place.
 use Rattle.std.specs.Prelude.{ℕ, ◌+◌, ◌-◌, ◌*◌, ◌==◌, nat_le, nat_lt, if◌then◌else◌, List, [], ◌∷◌, ◌++◌}
 use Rattle.jv_model.specs.declared.limits.TheConstants.{WINDOW}
 use Rattle.jv_model.specs.declared.slice.Rec.{Rec}
@@ -28,8 +29,9 @@ cut_at places len position = (if nat_lt position len then places position else Z
 abbrev pub zero_record : ℕ → Rec
 zero_record pos = record { pos = pos; id = 0; size = 0; off = 0; len = WINDOW - pos }
 
--- The list of a window once its file has a shorter length: none from there on, and where the length lies inside of the window, one
--- more record, which shows nothing. A window without a list stays so.
+-- The list of a window once its file has a shorter length: none from there on, and where the length
+-- lies inside of the window, one more record, which shows nothing. A window without a list stays
+-- so.
 abbrev pub cut_list : ℕ → ℕ → List Rec → List Rec
 cut_list len window [] = []
 cut_list len window (r ∷ rs) = (if nat_le len (window * WINDOW) then []

@@ -14,7 +14,7 @@ use Rattle.jv_model.specs.rows.RowGrammar.{is_node}
 use Rattle.jv_model.specs.rows.RowPlaces.{node_key}
 use Rattle.jv_model.specs.rows.RowKeys.{RowMap}
 use Rattle.jv_model.specs.tree.Attempt.{◌>>=◌, some_or}
-use Rattle.jv_model.specs.tree.Tree.{Tree, content_at, content_of as content_in}
+use Rattle.jv_model.specs.tree.Tree.{Tree, content_at, content_in}
 use Rattle.jv_model.specs.tree.FileBytes.{length_seen}
 use Rattle.jv_model.specs.tree.Changes.{content_of}
 use Rattle.jv_outside.specs.Store.{Store}

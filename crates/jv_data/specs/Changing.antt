@@ -1,4 +1,5 @@
--- What a transaction on the bytes of files does, by the tree that the rows have with the bytes that are known of slices.
+-- What a transaction on the bytes of files does, by the tree that the rows have with the bytes that
+-- are known of slices.
 use Rattle.std.specs.Prelude.{◌≡◌, ◌⊎◌, ℕ, ◌+◌, ◌<◌, Bool, false, ◌&&◌, ◌||◌, ◌==◌, Option, None, Some, Result, Ok, Err, IfErr, IfSome, OnOk, OnErr}
 use Rattle.jv_model.specs.declared.tables.TheConstants.{TABLE_OF_COUNTERS, TABLE_OF_SLICES, TABLE_OF_DEAD, TABLE_OF_LISTS, TABLE_OF_NODES}
 use Rattle.jv_model.specs.declared.fault.Fault.{Fault}
@@ -23,8 +24,8 @@ use Rattle.jv_volume.specs.Whole.{Whole}
 use Rattle.jv_contents.specs.Bytes.{KnownBytes, tree_with}
 use Rattle.jv_contents.specs.Counts.{KeepsOthers, record_count}
 
--- the slice that a transaction makes, if it makes one; how many records it adds at most; and when a slice may go that nothing names any
--- more, by the volume's setting
+-- the slice that a transaction makes, if it makes one; how many records it adds at most; and when a
+-- slice may go that nothing names any more, by the volume's setting
 pub record Makes : Type 0 where
   pub own : ℕ  -- 0 where it makes none
   pub size : ℕ
@@ -38,8 +39,8 @@ DieUntil due rows after = (setting : Setting) → setting_at rows ≡ Some setti
     → slice_row_at after id ≡ None
     → dead_at after id ≡ Some (record { size = slice.size; due = due setting })
 
--- A transaction that was made: the rows left are whole, their tree is the model's after it, other slices are kept, and those that nothing
--- names any more are dead.
+-- A transaction that was made: the rows left are whole, their tree is the model's after it, other
+-- slices are kept, and those that nothing names any more are dead.
 pub record Changed (makes : Makes) (known : RowMap) (after : Option RowMap)
     (known_bytes : KnownBytes) (reply : Reply) (act : Tree → Result Outcome Fault) : Type 0 where
   pub left : RowMap
@@ -52,7 +53,8 @@ pub record Changed (makes : Makes) (known : RowMap) (after : Option RowMap)
   pub model : act (tree_with known_bytes (typed known)) ≡ Ok
       (record { tree = tree_with known_bytes (typed left); reply = reply })
 
--- a slice can't be named more often, which the tree doesn't see, and the model's transaction is refused for no other reason
+-- a slice can't be named more often, which the tree doesn't see, and the model's transaction is
+-- refused for no other reason
 pub record IsFull (crowded : Rows → Type 0) (rows : Rows) (fault : Fault)
     (wanted : Result Outcome Fault) : Type 0 where
   pub fault_is : fault ≡ NoSpace
@@ -71,8 +73,8 @@ LandsChanged makes crowded known after known_bytes reply act (Err (OfRows (Bad a
 LandsChanged makes crowded known after known_bytes reply act (Err (OfRows Failed)) = Unit {0}
 LandsChanged makes crowded known after known_bytes reply act (Err (OfRows Memory)) = Unit {0}
 
--- A transaction on the bytes of files: after an error the rows are as before, and over whole rows that are ready for it, whatever is
--- known of slices, it does what the model's does to their tree.
+-- A transaction on the bytes of files: after an error the rows are as before, and over whole rows
+-- that are ready for it, whatever is known of slices, it does what the model's does to their tree.
 pub record Changes {A : Type 0} (makes : Makes) (ready : Rows → KnownBytes → Type 0)
     (crowded : Rows → Type 0) (before after : Store) (result : Result A TxFault)
     (reply : A → Reply) (act : Tree → Result Outcome Fault) : Type 0 where
@@ -84,14 +86,16 @@ pub record Changes {A : Type 0} (makes : Makes) (ready : Rows → KnownBytes →
       → LandsChanged makes crowded known after.rows known_bytes reply act result
   pub bad : IfErr result (λ fault. IfSome before.rows (λ known. BadFault (typed known) fault))
 
--- the rows that a transaction on a file's bytes may change: the counters, slices and dead slices, and the file's own row and lists
+-- the rows that a transaction on a file's bytes may change: the counters, slices and dead slices,
+-- and the file's own row and lists
 abbrev pub may_change : ℕ → RowKey → Bool
 may_change inode key = (key.tab == TABLE_OF_COUNTERS) || (key.tab == TABLE_OF_SLICES)
     || (key.tab == TABLE_OF_DEAD) || (((key.tab == TABLE_OF_LISTS) || (key.tab == TABLE_OF_NODES))
     && (key.a == inode))
 
--- Where a transaction on a file's bytes was made over whole rows, all rows that it may not change are as before: those of the setting, of
--- entries, sessions, sustained and dropped files, and other files' rows and lists.
+-- Where a transaction on a file's bytes was made over whole rows, all rows that it may not change
+-- are as before: those of the setting, of entries, sessions, sustained and dropped files, and other
+-- files' rows and lists.
 abbrev pub KeepsRest : {A : Type 0} → ℕ → Store → Store → Result A TxFault → Type 0
 KeepsRest inode before after result =
     OnOk result ((known left : RowMap) → before.rows ≡ Some known → Whole (typed known)

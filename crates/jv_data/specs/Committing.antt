@@ -23,7 +23,8 @@ abbrev pub length_in : Result Node TxFault → Result ℕ TxFault
 length_in (Ok node) = Ok node.length
 length_in (Err fault) = Err fault
 
--- A reading of a file's row: over whole rows it is the model's look, and the row, one that the grammar allows, stands there.
+-- A reading of a file's row: over whole rows it is the model's look, and the row, one that the
+-- grammar allows, stands there.
 pub record HasFile (sid inode : ℕ) (before after : Store)
     (result : Result Node TxFault) : Type 0 where
   pub looks : Looks before after (length_in result) (length_seen sid inode)
@@ -38,8 +39,9 @@ pub record Begun (rows after : Rows) (inode end now : ℕ) : Type 0 where
   pub file : was.kind ≡ 1
   pub sized : AreSized rows after inode was (max was.length end) now
 
--- The beginning of a commit of bytes that end at a position: over whole rows it is refused where the model's commit is, whatever
--- the bytes are. The changes leave lists and slices alone, and over whole rows they are that the file reaches there.
+-- The beginning of a commit of bytes that end at a position: over whole rows it is refused where
+-- the model's commit is, whatever the bytes are. The changes leave lists and slices alone, and over
+-- whole rows they are that the file reaches there.
 pub record BeginsCommit (sid now inode end started : ℕ) (before after : Store)
     (changes : List Change) (result : Result (Unit {0}) TxFault) : Type 0 where
   pub looks : (from : ℕ) (patch : List ℕ) → from + length patch ≡ end

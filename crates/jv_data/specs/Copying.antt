@@ -1,4 +1,5 @@
--- What a copy between files does: to lists of the target come records that show what the source shows.
+-- What a copy between files does: to lists of the target come records that show what the source
+-- shows.
 use Rattle.std.specs.Prelude.{◌≡◌, ℕ, ◌+◌, ◌-◌, ◌*◌, ◌/◌, ◌%◌, ◌<◌, min, max, List, [], ◌∷◌, ◌++◌, length, Some, Result, Ok, IfOk}
 use Rattle.std.specs.List.{AllByRecursion}
 use Rattle.jv_model.specs.declared.fault.TxFault.{TxFault}
@@ -28,8 +29,9 @@ abbrev pub pieces_len : List Piece → ℕ
 pieces_len [] = 0
 pieces_len (piece ∷ pieces) = piece.len + pieces_len pieces
 
--- Records that show, from a position of a window on, a range of a file that is no longer than a window: those of the pieces that a plan
--- has of the window in which the range begins, and behind them those of the next window's plan. They are as many as the pieces.
+-- Records that show, from a position of a window on, a range of a file that is no longer than a
+-- window: those of the pieces that a plan has of the window in which the range begins, and behind
+-- them those of the next window's plan. They are as many as the pieces.
 pub record ArePieces (lists : Lists) (from pos len : ℕ) (shown : List Rec) : Type 0 where
   pub first : List Piece
   pub next : List Piece
@@ -38,7 +40,8 @@ pub record ArePieces (lists : Lists) (from pos len : ℕ) (shown : List Rec) : T
   pub next_plan : IsPlan (lists (from / WINDOW + 1)) 0 (from % WINDOW + len - WINDOW) next
   pub is : shown ≡ records_of_plan pos (first ++ next)
 
--- records of slices with rows that show, from a position of a window on, a range of a file, as many as its plans have pieces
+-- records of slices with rows that show, from a position of a window on, a range of a file, as many
+-- as its plans have pieces
 pub record IsShown (rows : Rows) (inode from pos len : ℕ) (shown : List Rec) : Type 0 where
   pub fills : Fills (λ q. place_in (lists_of rows inode) (from + (q - pos))) pos (pos + len) shown
   pub slices : HaveSlices rows shown
@@ -82,7 +85,8 @@ pub record CopiesPart (c : CopyCourse) (done : ℕ) (before after : Store)
   pub added : IfOk result (λ shown. (known : RowMap) → before.rows ≡ Some known
       → drafted changed known ≡ rows_added (typed known) c done shown (drafted changes known))
 
--- parts that follow one another until `done` bytes are done, the latest first, each with how many were done before
+-- parts that follow one another until `done` bytes are done, the latest first, each with how many
+-- were done before
 abbrev pub AreParts : Rows → CopyCourse → List (ℕ × List Rec) → ℕ → Type 0
 AreParts rows c [] done = done ≡ 0
 AreParts rows c (part ∷ parts) done = (part.0 < c.len) × (done ≡ part.0 + part_len c part.0)
@@ -110,14 +114,16 @@ pub record CopiesLists (c : CopyCourse) (before after : Store) (changes changed 
 
 -- ---- a whole copy
 
--- how many bytes a copy to a position has before a window of the target, and how many of a number of them are in that window
+-- how many bytes a copy to a position has before a window of the target, and how many of a number
+-- of them are in that window
 abbrev pub bytes_before : (to window : ℕ) → ℕ
 bytes_before to window = window * WINDOW - to
 
 abbrev pub bytes_in : (to len window : ℕ) → ℕ
 bytes_in to len window = min (to + len) (window * WINDOW + WINDOW) - max to (window * WINDOW)
 
--- a window's list of the target: what it had, and behind it the records of the pieces of what is copied into this window
+-- a window's list of the target: what it had, and behind it the records of the pieces of what is
+-- copied into this window
 pub record GetsPieces (rows : Rows) (src from dst to len window : ℕ)
     (list : List Rec) : Type 0 where
   pub added : List Rec
@@ -125,8 +131,9 @@ pub record GetsPieces (rows : Rows) (src from dst to len window : ℕ)
       ((to + bytes_before to window) % WINDOW) (bytes_in to len window) added
   pub is : list ≡ lists_of rows dst window ++ added
 
--- Where a copy was made over whole rows, each list of the target gained the records of its part of the range, a plan for each window of
--- the source that the part touches, and is otherwise as it was.
+-- Where a copy was made over whole rows, each list of the target gained the records of its part of
+-- the range, a plan for each window of the source that the part touches, and is otherwise as it
+-- was.
 abbrev pub AddsPieces : (src from dst to : ℕ) → Store → Store → Result ℕ TxFault → Type 0
 AddsPieces src from dst to before after result =
     IfOk result (λ len. (known left : RowMap) → before.rows ≡ Some known → Whole (typed known)

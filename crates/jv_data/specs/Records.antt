@@ -35,8 +35,8 @@ abbrev pub IsWellFormed : RowKey → Option RowMap → Type 0
 IsWellFormed key rows =
     IfSome rows (λ known. (bytes : List ℕ) → get (typed known) key ≢ Some (Err bytes))
 
--- A reading of a window's records, none where there is no list: over whole rows it succeeds, as far as keeper and memory go. A
--- malformed row is an error.
+-- A reading of a window's records, none where there is no list: over whole rows it succeeds, as far
+-- as keeper and memory go. A malformed row is an error.
 pub record HasRecords (inode window : ℕ) (before after : Store)
     (result : Result (List Rec) TxFault) : Type 0 where
   pub looks : Looks before after (without_answer result) (λ t. Ok tt)
@@ -49,7 +49,8 @@ abbrev pub length_viewed : Result View TxFault → Result ℕ TxFault
 length_viewed (Ok view) = Ok view.length
 length_viewed (Err fault) = Err fault
 
--- A look at a window of a file: its length, and the window's records. A malformed row of the list is an error.
+-- A look at a window of a file: its length, and the window's records. A malformed row of the list
+-- is an error.
 pub record LooksAt (sid inode window : ℕ) (before after : Store)
     (result : Result View TxFault) : Type 0 where
   pub looks : Looks before after (length_viewed result) (length_seen sid inode)
@@ -116,7 +117,8 @@ committing sid inode from bytes started now t = do
   after ← commit_of sid inode from bytes started now t
   done after
 
--- a commit of a record of a new slice to a window of a file, by which no slice dies: each that did would be due at any moment
+-- a commit of a record of a new slice to a window of a file, by which no slice dies: each that did
+-- would be due at any moment
 abbrev pub CommitsRecord : (sid now inode window : ℕ) → Rec → (started : ℕ) → Store → Store
     → Result (Unit {0}) TxFault → Type 0
 CommitsRecord sid now inode window rec started before after result =

@@ -50,8 +50,9 @@ pub record AreSized (rows after : Rows) (inode : ℕ) (was : Node) (length now :
   pub is : after ≡ rows_sized rows inode was counters length now
   pub given : 0 < next_slice rows
 
--- A file gets another length, and both times: over whole rows, whatever bytes it then has, it is refused where the model's volume has no
--- room for them. The changes leave lists and slices alone, and over whole rows they are of the file's row and of the counters.
+-- A file gets another length, and both times: over whole rows, whatever bytes it then has, it is
+-- refused where the model's volume has no room for them. The changes leave lists and slices alone,
+-- and over whole rows they are of the file's row and of the counters.
 pub record ResizesFile (inode : ℕ) (was : Node) (length now : ℕ) (before after : Store)
     (changes : List Change) (result : Result (Unit {0}) TxFault) : Type 0 where
   pub looks : (content : Tree → Content) → ((t : Tree) → (content t).length ≡ length)

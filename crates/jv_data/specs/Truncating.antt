@@ -1,4 +1,5 @@
--- What a truncate does to a file's lists: the one that its length lies inside of reads zero from there on, and those behind it are dropped.
+-- What a truncate does to a file's lists: the one that its length lies inside of reads zero from
+-- there on, and those behind it are dropped.
 use Rattle.std.specs.Prelude.{◌≡◌, ◌≢◌, ℕ, ◌+◌, ◌*◌, ◌/◌, ◌%◌, ◌<◌, ◌≤◌, ◌^◌, true, ◌==◌, ◌||◌, nat_le, nat_lt, if◌then◌else◌, List, [], ◌∷◌, ◌++◌, Option, None, Some, Result, Ok, IfOk, OnOk, IsTrue}
 use Rattle.std.specs.List.{AllByRecursion}
 use Rattle.jv_model.specs.declared.tables.TheConstants.{TABLE_OF_SETTING}
@@ -34,7 +35,8 @@ pub record HasSlice (rows : Rows) (id : ℕ) : Type 0 where
 abbrev pub HaveSlices : Rows → List Rec → Type 0
 HaveSlices rows records = AllByRecursion (λ r. r.id ≢ 0 → HasSlice rows r.id) records
 
--- rows where a window's list, if it has one, reads zero from a position on; from its start on nothing is added
+-- rows where a window's list, if it has one, reads zero from a position on; from its start on
+-- nothing is added
 abbrev pub rows_ended : ℕ → ℕ → ℕ → List Rec → Rows → Rows
 rows_ended inode window pos [] rows = rows
 rows_ended inode window pos (r ∷ rs) rows =
@@ -90,14 +92,14 @@ pub record Dropped (inode : ℕ) (last : Option ℕ) (rows middle after : Rows)
 abbrev pub IsLastBefore : ℕ → Option ℕ → Type 0
 IsLastBefore len last = (window : ℕ) → is_past last window ≡ nat_le len (window * WINDOW)
 
--- that moment by the setting of rows
+-- the moment when slices that die at a moment are due, by the setting of rows
 pub record IsDue (now : ℕ) (rows : Rows) (due : ℕ) : Type 0 where
   pub setting : Setting
   pub set : setting_at rows ≡ Some setting
   pub is : due ≡ due_after now setting
 
--- The lists of a file are cut to a length, and counts of slices have followed: those that nothing names any more are dead, due the
--- trash's days after a moment.
+-- The lists of a file are cut to a length, and counts of slices have followed: those that nothing
+-- names any more are dead, due the trash's days after a moment.
 pub record ListsCut (inode len now : ℕ) (rows middle after : Rows) : Type 0 where
   pub last : Option ℕ
   pub last_is : IsLastBefore len last
@@ -150,7 +152,8 @@ pub record DropsLists (inode : ℕ) (last : Option ℕ) (before after : Store)
   pub dropped : IfOk result (λ gone. (known : RowMap) → before.rows ≡ Some known
       → Dropped inode last (typed known) (drafted changes known) (drafted changed known) gone)
 
--- The changes cut a file's lists to a length, over those that leave lists and slices as they are stored.
+-- The changes cut a file's lists to a length, over those that leave lists and slices as they are
+-- stored.
 pub record CutsLists (inode len now : ℕ) (before after : Store) (changes changed : List Change)
     (result : Result (Unit {0}) TxFault) : Type 0 where
   pub looks : Looks before after result (λ t. Ok tt)
@@ -173,8 +176,9 @@ pub record Shortens (inode was len now : ℕ) (before after : Store) (changes ch
 abbrev pub list_after : (was len window : ℕ) → List Rec → List Rec
 list_after was len window list = (if nat_lt len was then cut_list len window list else list)
 
--- Where a truncate was made over whole rows, each list of the file is cut to the length if that is less than its length was, and is as
--- before if not: a list from the length on is gone, and no list comes.
+-- Where a truncate was made over whole rows, each list of the file is cut to the length if that is
+-- less than its length was, and is as before if not: a list from the length on is gone, and no list
+-- comes.
 abbrev pub CutsFile : (inode len : ℕ) → Store → Store → Result (Unit {0}) TxFault → Type 0
 CutsFile inode len before after result =
     OnOk result ((known left : RowMap) → before.rows ≡ Some known → Whole (typed known)

@@ -57,7 +57,7 @@ fn begin_commit<K: Keeper>(
 ///
 /// # Errors
 ///
-/// Stale where the session is gone, or the inode isn't a file's; then TimedOut where the block is 3,600 seconds old or
+/// Stale where the session is gone, or the inode isn't a file's; then TimedOut where the block is [`jv_model::lifetimes::UPLOAD_LIFE`] seconds old or
 /// older; then NoSpace where the volume has no room. Bad for a malformed row, or without bytes where setting or
 /// counters are needed and absent. Failed if the keeper failed. Memory. On error no row has changed.
 pub fn commit<K: Keeper>(

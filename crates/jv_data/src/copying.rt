@@ -66,7 +66,7 @@ pub fn copy_range<K: Keeper>(
 {
     let source = file(alloc, k, who.sid, src)?;
     let target = file(alloc, k, who.sid, dst)?;
-    // A hostile row may have a length past 2^40, and so windows whose numbers don't fit.
+    // A hostile row may have a length past FILE_END, and so windows whose numbers don't fit.
     let len = len.min(source.length.min(FILE_END).saturating_sub(from));
     let course = CopyCourse {
         source: src,

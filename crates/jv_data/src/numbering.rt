@@ -11,7 +11,7 @@ use std::alloc::Global;
 ///
 /// # Errors
 ///
-/// Stale where the session is gone; then NoSpace where the number stands at 2^62. Bad for a malformed row, or without
+/// Stale where the session is gone; then NoSpace where the number stands at [`jv_model::FULL_COUNT`]. Bad for a malformed row, or without
 /// bytes where the counters are absent. Failed if the keeper failed. Memory. On error no row has changed.
 pub fn next_id<K: Keeper>(alloc: Global, k: &mut K, who: &Who) -> Result<u64, TxFault>
     ensures taken { TakesNumber who.entry.now.sid (K.seen k.old) (K.seen k.new) result }

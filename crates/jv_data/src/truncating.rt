@@ -26,9 +26,10 @@ use std::alloc::Global;
 ///
 /// # Errors
 ///
-/// Stale where the session is gone, or the inode isn't a file's; then FileTooLarge for a length past 2^40; then NoSpace
-/// where the volume has no room. Bad for a malformed row, or without bytes where a row is absent that has to be there.
-/// Failed if the keeper failed. Memory. On error no row has changed.
+/// Stale where the session is gone, or the inode isn't a file's; then FileTooLarge for a length past
+/// [`jv_model::FILE_END`]; then NoSpace where the volume has no room. Bad for a malformed row, for a list that goes and
+/// names a slice without a row, or without bytes where setting or counters are needed and absent. Failed if the keeper
+/// failed. Memory. On error no row has changed.
 pub fn truncate<K: Keeper>(
     alloc: Global,
     k: &mut K,

@@ -550,7 +550,7 @@ unfolding journals_compute replies_on_literals
 expired_cleaner_prints = refl
 
 -- The session of a client that collects is expired by another one: what was listed isn't judged.
-abbrev expired_collector_run : Setup
+abbrev pub expired_collector_run : Setup
 expired_collector_run = run_of (
     Do 0 (Mount false)
     ∷ Do 1 (Mount false)

@@ -4,6 +4,7 @@ pub mod CloseToOpenExamples
 pub mod CompactionExamples
 pub mod CrashExamples
 pub mod FileBytesExamples
+pub mod FreshRowsExamples
 pub mod HourNamesExamples
 pub mod JournalRuns
 pub mod LateCommitExamples

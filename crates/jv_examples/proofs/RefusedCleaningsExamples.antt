@@ -14,6 +14,7 @@ use Rattle.jv_model.specs.client.ModelClient.{ModelClient, Cleaning, Stage, Clea
 use Rattle.jv_model.specs.journal.State.{State, is_last}
 use Rattle.jv_model.specs.journal.Past.{Setup, at_start}
 use Rattle.jv_model.specs.journal.Legal.{AllAllowed}
+use Rattle.jv_examples.proofs.CleaningExamples.{expired_collector_run}
 use Rattle.jv_examples.proofs.RefusalLaws.{entry_is_allowed, own_step, fine_at_once, never, settled_is_told, is_compacting, is_cleans}
 use Rattle.jv_examples.proofs.JournalRuns.{run_of, entry, entry_at, journals_compute, ◌∴◌}
 
@@ -194,18 +195,6 @@ cleaning_counts_more more all =
     let step = own_step h.stands.may refl in let ends = cleaning_ends step in let no : 2 ≡ 1 = ap third_number ends.same in absurd (omega (arith, no))
 
 -- A client that collects, whose session is expired meanwhile.
-abbrev lost_session_run : Setup
-lost_session_run = run_of (
-    Do 0 (Mount false)
-    ∷ Do 1 (Mount false)
-    ∷ Begin 0 (Gc false)
-    ∷ Step 0
-    ∷ Tick 60
-    ∷ Do 1 Clean
-    ∷ Step 0
-    ∷ []
-    )
-
 abbrev lost_session_journal : List Act
 lost_session_journal =
     entry 1 0 (Mounted 1)
@@ -223,7 +212,7 @@ lost_session_journal =
     ∷ entry_at 1060 7 0 Quiet
     ∷ []
 
-lost_session_is_allowed : AllAllowed (at_start lost_session_run) lost_session_journal
+lost_session_is_allowed : AllAllowed (at_start expired_collector_run) lost_session_journal
 unfolding journals_compute
 lost_session_is_allowed =
     record { line = refl; complete = refl; moment = refl; stands = record { own = refl; may = record { doing = _; busy = refl; begins_is = refl; may = record { ready = refl; transacts = refl; same = refl } } } }
@@ -242,17 +231,17 @@ lost_session_is_allowed =
     ∴ tt
 
 -- a cleaning that passes by a session that is due
-cleaning_leaves_a_session : (more : List Act) → AllAllowed (at_start lost_session_run) (take 6 lost_session_journal ++ entry_at 1060 6 1 Quiet ∷ more) → ⊥
+cleaning_leaves_a_session : (more : List Act) → AllAllowed (at_start expired_collector_run) (take 6 lost_session_journal ++ entry_at 1060 6 1 Quiet ∷ more) → ⊥
 unfolding journals_compute
 cleaning_leaves_a_session more all =
-    let h = entry_is_allowed (at_start lost_session_run) (take 6 lost_session_journal) (entry_at 1060 6 1 Quiet) more all in
+    let h = entry_is_allowed (at_start expired_collector_run) (take 6 lost_session_journal) (entry_at 1060 6 1 Quiet) more all in
     let step = own_step h.stands.may refl in never step
 
 -- a collection that is done though its session was gone
-collection_without_session : (more : List Act) → AllAllowed (at_start lost_session_run) (lost_session_journal ++ entry_at 1060 7 0 (Answered (Fine 0 0 0 0)) ∷ more) → ⊥
+collection_without_session : (more : List Act) → AllAllowed (at_start expired_collector_run) (lost_session_journal ++ entry_at 1060 7 0 (Answered (Fine 0 0 0 0)) ∷ more) → ⊥
 unfolding journals_compute
 collection_without_session more all =
-    let h = entry_is_allowed (at_start lost_session_run) lost_session_journal (entry_at 1060 7 0 (Answered (Fine 0 0 0 0))) more all in
+    let h = entry_is_allowed (at_start expired_collector_run) lost_session_journal (entry_at 1060 7 0 (Answered (Fine 0 0 0 0))) more all in
     let step = own_step h.stands.may refl in let no = settled_is_told refl step in cc
 
 -- A collection that removes nothing lists a page and judges it, and lists another one.

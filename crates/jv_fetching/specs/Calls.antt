@@ -52,7 +52,8 @@ LacksBlock size found = (bytes : List ℕ) → found ≡ Some bytes → length b
 abbrev pub IsMissing : Cached → BlockId → Type 0
 IsMissing cache b = LacksBlock b.size (found_in cache (cache_key b))
 
--- before a need at most this many blocks were looked up; a block that is needed was looked up last, and isn't there
+-- before a need at most this many blocks were looked up; a block that is needed was looked up last,
+-- and isn't there
 abbrev pub Asks : Need → ℕ → Cached → Cached → Type 0
 Asks (Look window) most before after = LooksUpFew most before after
 Asks (Block b) most before after =

@@ -5,7 +5,8 @@ use Rattle.jv_model.specs.journal.Reading.{Asked}
 use Rattle.jv_fetching.specs.declared.begun.Begun.{Begun}
 use Rattle.jv_fetching.specs.declared.begun.Read.{Read}
 
--- The parts that aren't read yet, of which the first may have begun, and those that were read. Blocks have this length.
+-- The parts that aren't read yet, of which the first may have begun, and those that were read.
+-- Blocks have this length.
 pub record Fetching : Type 0 where
   pub block : ℕ
   pub parts : List Asked

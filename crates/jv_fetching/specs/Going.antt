@@ -12,7 +12,8 @@ use Rattle.jv_fetching.specs.declared.begun.Read.{Read}
 use Rattle.jv_fetching.specs.Fetching.{Fetching}
 use Rattle.jv_fetching.specs.Shows.{place_of, shown_bytes, shown_len}
 
--- a part has begun by a view of its window, with the positions that the file had; blocks of the view's records are left
+-- a part has begun by a view of its window, with the positions that the file had; blocks of the
+-- view's records are left
 pub record IsBegunBy (block : ℕ) (asked : Asked) (view : View) (begun : Begun) : Type 0 where
   pub entry : begun.entry ≡ view.entry
   pub full : begun.is_full ≡ nat_le asked.to view.length
@@ -39,7 +40,8 @@ pub record IsShown (blocks : Blocks) (views : SeenViews) (block : ℕ) (asked : 
   pub bytes : (later : Blocks) → Grows blocks later
       → read.bytes ≡ shown_bytes (known_by block later) view asked
 
--- parts were read from the first on, and others are left; after one that the file doesn't fill none is read
+-- parts were read from the first on, and others are left; after one that the file doesn't fill none
+-- is read
 abbrev pub HasRead : Blocks → SeenViews → ℕ → List Asked → List Read → List Asked → Type 0
 HasRead blocks views block all [] parts = parts ≡ all
 HasRead blocks views block [] (read ∷ reads) parts = ⊥

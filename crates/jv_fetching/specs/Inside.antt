@@ -57,8 +57,8 @@ pub record IsWithin (asked : Asked) : Type 0 where
   pub some : asked.from < asked.to
   pub high : asked.to ≤ window_start asked.window + WINDOW
 
--- at most two parts, each in its window; what has begun is one of those that are left, and the second is read after the
--- first
+-- at most two parts, each in its window; what has begun is one of those that are left, and the
+-- second is read after the first
 pub record IsSound (f : Inside) : Type 0 where
   pub wide : 0 < f.block
   pub in_order : f.course.value.first ≡ None → f.course.value.second ≡ None

@@ -21,8 +21,9 @@ use Rattle.jv_fetching.specs.Going.{CanFetch, IsFetching}
 use Rattle.jv_fetching.specs.Calls.{AreSizedBy, HasCached, IsCacheOf, IsOnly, Keeps, LooksUp, Wants, first_seen}
 use Rattle.jv_fetching.specs.Shows.{IsReadBy, window_needed}
 
--- A reading begins well, with this many requests at most, and stays so where blocks come and where a window is seen. A
--- cache keeps what it has while blocks are looked up, and while one is kept that is the only one of its name.
+-- A reading begins well, with this many requests at most, and stays so where blocks come and where
+-- a window is seen. A cache keeps what it has while blocks are looked up, and while one is kept
+-- that is the only one of its name.
 pub record FetchesGoOn : Type 0 where
   pub begin : (blocks : Blocks) (views : SeenViews) (block offset len : ℕ) → 0 < len
       → offset < FILE_END

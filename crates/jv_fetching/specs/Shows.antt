@@ -20,8 +20,8 @@ abbrev pub shown_bytes : KnownBytes → View → Asked → List ℕ
 shown_bytes known_bytes view asked =
     bytes_from (window_byte known_bytes view.list) (place_of asked) (shown_len view asked)
 
--- What is read of these parts: the entries of the views, and their bytes. The part after one that the file doesn't fill
--- isn't read, and cites none.
+-- What is read of these parts: the entries of the views, and their bytes. The part after one that
+-- the file doesn't fill isn't read, and cites none.
 pub data IsReadBy (known_bytes : KnownBytes) (views : SeenViews) (parts : List Asked)
     (read : ℕ × ℕ × List ℕ) : Type 0 where
   One : (asked : Asked) → (others : List Asked) → (view : View) → parts ≡ asked ∷ others
@@ -39,7 +39,8 @@ pub data IsReadBy (known_bytes : KnownBytes) (views : SeenViews) (parts : List A
       )
       → IsReadBy known_bytes views parts read
 
--- the first window without a view, where the views of all parts before it show all that is asked of them
+-- the first window without a view, where the views of all parts before it show all that is asked of
+-- them
 abbrev pub window_needed : SeenViews → List Asked → Option ℕ
 window_needed views [] = None
 window_needed views (asked ∷ others) = elim (view_at views asked.window) [

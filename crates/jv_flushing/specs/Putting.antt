@@ -1,4 +1,5 @@
--- Putting one block of a slice where the volume's objects are: the carrier sends it, and the depot publishes it.
+-- Putting one block of a slice where the volume's objects are: the carrier sends it, and the depot
+-- publishes it.
 use Rattle.std.specs.Prelude.{◌≡◌, ℕ, Result, Ok, Err}
 use Rattle.jv_model.specs.declared.fault.Device.TheVariants.{Carrier as OfCarrier, Depot as OfDepot}
 use Rattle.jv_model.specs.declared.fault.Down.{Down}

@@ -13,7 +13,7 @@ use Rattle.jv_generator.specs.Summary.{TotalsValue, read_bytes, totals_of}
 abbrev pub ScriptsHaveLines : Type 0
 ScriptsHaveLines = (seed : ℕ) → length (script seed) ≡ LINES
 
--- reads and writes at least one byte of one of the files, from a position in the first windows on
+-- reads and writes at least one byte of one of the files, from a position below POSITIONS on
 pub record IsAccess (handle position size : ℕ) : Type 0 where
   pub opened : 0 < handle
   pub file : handle ≤ FILES

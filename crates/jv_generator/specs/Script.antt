@@ -1,4 +1,5 @@
--- The script of a seed: client A mounts, makes its files, reads and writes at places that are drawn from the seed, and flushes.
+-- The script of a seed: client A mounts, makes its files, reads and writes at places that are drawn
+-- from the seed, and flushes.
 use Rattle.std.specs.Prelude.{ℕ, zero, suc, ◌+◌, ◌*◌, ◌/◌, ◌%◌, ◌^◌, ◌==◌, false, if◌then◌else◌, List, ◌∷◌, ◌++◌, map, replicate, codes, decimal}
 use Rattle.std.specs.List.{range_with_len}
 use Rattle.jv_model.specs.declared.op.Op.{Op}
@@ -24,13 +25,15 @@ state seed (suc steps) = next_state (state seed steps)
 abbrev pub create : ℕ → Op
 create i = Create (codes "/g" ++ decimal i) MODE
 
--- the access with a number, given its state: the handle, the position, how many bytes, and for a write of which value
+-- the access with a number, given its state: the handle, the position, how many bytes, and for a
+-- write of which value
 abbrev pub access : ℕ → ℕ → Op
 access number x =
     let handle = x / 2 ^ 60 + 1 in
     let position = x / 2 ^ 20 % POSITIONS in
     let size = 1 + x / 2 ^ 8 % MAX_LENGTH in
-    if number % READ_EVERY == 0 then Read handle position size else Write handle position (replicate size (x % 256))
+    if number % READ_EVERY == 0 then Read handle position size
+    else Write handle position (replicate size (x % 256))
 
 -- the operations of a script with some files and some accesses
 unfoldable pub operations : ℕ → ℕ → ℕ → List Op

@@ -6,7 +6,8 @@ use Rattle.jv_model.specs.Counts.{counted, saturated}
 use Rattle.jv_model.specs.journal.State.{is_refused}
 use Rattle.jv_model.specs.script.Printed.{number_word}
 
--- the lines, those of them that were answered `ok` and `err`, and the bytes that reads returned with the sum of their values
+-- the lines, those of them that were answered `ok` and `err`, and the bytes that reads returned
+-- with the sum of their values
 pub record TotalsValue : Type 0 where
   pub lines : ℕ
   pub ok : ℕ
@@ -41,5 +42,6 @@ totals_of replies = fold with_reply no_totals replies
 
 -- `lines L ok K err R bytes T sum S` and a line feed
 abbrev pub summary_line : TotalsValue → List ℕ
-summary_line t = codes "lines" ++ number_word t.lines ++ codes " ok" ++ number_word t.ok ++ codes " err" ++ number_word t.err
+summary_line t = codes "lines" ++ number_word t.lines ++ codes " ok" ++ number_word t.ok
+    ++ codes " err" ++ number_word t.err
     ++ codes " bytes" ++ number_word t.bytes ++ codes " sum" ++ number_word t.values ++ 10 ∷ []

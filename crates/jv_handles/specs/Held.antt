@@ -14,7 +14,8 @@ SamePlace P None (Some y) = ⊥
 SamePlace P (Some x) None = ⊥
 SamePlace P (Some x) (Some y) = P x y
 
--- two tables, whose places are numbered from a number on, have the same places in use, and what stands there is related
+-- two tables, whose places are numbered from a number on, have the same places in use, and what
+-- stands there is related
 abbrev pub SameTable : {X Y : Type 0} → (ℕ → X → Y → Type 0) → ℕ → List (Option X) → List (Option Y)
     → Type 0
 SameTable P number [] [] = Unit {0}
@@ -27,7 +28,8 @@ pub record IsSeen (g : Known) (v : Shared) (window : ℕ) (m : ModelView) (view 
   pub entry : m.entry ≡ view.entry
   pub shows : IsView g v window view.length view.list m.content
 
--- an open file of the model is the one of a handle, opened by now, with the fresh views of its windows
+-- an open file of the model is the one of a handle, opened by now, with the fresh views of its
+-- windows
 pub record IsHandle (g : Known) (v : Shared) (views : List ModelView) (count : ℕ) (number : ℕ)
     (file : OpenFile)
     (handle : Handle) : Type 0 where

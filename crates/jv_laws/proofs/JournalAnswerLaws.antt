@@ -19,7 +19,7 @@ use Rattle.jv_model.specs.journal.Steps.{Start, transacts, Transaction, LooksAt,
 use Rattle.jv_model.specs.journal.Past.{Past, Due, NoMore, Refusal, MayLack, ToAnswer, OneStep, StepMade, CrashEntry, TickEntry, DrainEntries, at_start, begun_by, begun_to, is_over, requested, lined, is_workers, after, advance, past, reached, line_reply, reply_of, refusal_reply}
 use Rattle.jv_model.specs.journal.Legal.{Allowed, AllAllowed, Refuses as RefusesSubmission, LacksMemory as RefusalLacks, OfClient, OfLine, OfWorker}
 use Rattle.jv_laws.specs.Laws.{AnswersModel, AnswersAsTree, is_transaction}
-use Rattle.jv_laws.proofs.JournalGrowthLaws.{AllAllowed-parts, past-append, own_client, others_kept, turned_begin_next, begun_to-begun}
+use Rattle.jv_laws.proofs.JournalGrowthLaws.{AllAllowed-parts, past-append, own_client, others_kept, after_line_begin_next, begun_to-begun}
 use Rattle.jv_laws.proofs.JournalStateLaws.{of_kind}
 use Rattle.jv_laws.proofs.JournalDoingLaws.{doing_given}
 use Rattle.jv_laws.proofs.JournalLineLaws.{due_at_worker, due_at_own}
@@ -125,8 +125,8 @@ not_over p client d r due (Answering e) busy = ap (λ x. is_over (record p { due
 not_over p client d r due (Stepping e) busy = ap (λ x. is_over (record p { due = x })) e ∙ not_over_if p client d r (p.state.clients client).doing busy
 
 incomplete_by : (n : ℕ) (p : Past) → is_over p ≡ false → (begun_by (suc n) p).complete ≡ false
-incomplete_by zero p e = (turned_begin_next p).complete ∙ and_right p.complete (is_over p) e
-incomplete_by (suc n) p e = (turned_begin_next (begun_by (suc n) p)).complete ∙ and_left (begun_by (suc n) p).complete (is_over (begun_by (suc n) p)) (incomplete_by n p e)
+incomplete_by zero p e = (after_line_begin_next p).complete ∙ and_right p.complete (is_over p) e
+incomplete_by (suc n) p e = (after_line_begin_next (begun_by (suc n) p)).complete ∙ and_left (begun_by (suc n) p).complete (is_over (begun_by (suc n) p)) (incomplete_by n p e)
 
 incomplete_next : (k : ℕ) (p : Past) → 0 < k → is_over p ≡ false → (begun_by k p).complete ≡ false
 incomplete_next zero p h e = absurd (omega arith)

@@ -14,7 +14,7 @@ use Rattle.jv_model.specs.declared.op.Line.TheVariants.{Empty, Do, Begin, Step, 
 use Rattle.jv_model.specs.client.ModelClient.{Doing}
 use Rattle.jv_model.specs.client.Submission.{submission}
 use Rattle.jv_model.specs.journal.State.{State, after_step, of_doing, changed, effect}
-use Rattle.jv_model.specs.journal.Past.{Past, Due, at_start, begun, begun_by, begun_by_due, begun_to, begin_from, begin_next, turned, is_busy, is_workers, lined, asks_clock, after, advance, past, reached, is_over}
+use Rattle.jv_model.specs.journal.Past.{Past, Due, at_start, begun, begun_by, begun_by_due, begun_to, begin_from, begin_next, after_line, is_busy, is_workers, lined, asks_clock, after, advance, past, reached, is_over}
 use Rattle.jv_model.specs.journal.Legal.{Allowed, AllAllowed, IsMoment, clock_moment, tick_of}
 use Rattle.jv_laws.specs.Laws.{JournalsGrow, EarlierTextStays, FollowsClock, Follows, OthersStay, EntriesAreCounted, text_to}
 pub use Rattle.jv_model.proofs.ClientsLaws.{own_client, other_client}
@@ -48,7 +48,7 @@ frame_begun p (Crash client) = record { run = refl; line = refl; printed = refl;
 frame_begun p (Drain client) = record { run = refl; line = refl; printed = refl; complete = refl; lines = refl; at = refl; count = refl }
 frame_begun p (Tick by) = record { run = refl; line = refl; printed = refl; complete = refl; lines = refl; at = refl; count = refl }
 
-pub record Turned (p q : Past) : Type 0 where
+pub record AfterLine (p q : Past) : Type 0 where
   pub run : q.run ≡ p.run
   pub line : q.line ≡ p.line + 1
   pub printed : q.printed ≡ p.printed ++ p.said
@@ -56,19 +56,19 @@ pub record Turned (p q : Past) : Type 0 where
   pub at : q.at ≡ p.at
   pub count : q.state.count ≡ p.state.count
 
-turned_begin_from : (rest : List Line) (p : Past) → Turned p (begin_from rest p)
-turned_begin_from [] p = record { run = refl; line = refl; printed = refl; complete = refl; at = refl; count = refl }
-turned_begin_from (line ∷ rest) p = let f = frame_begun (turned p rest) line in record { run = f.run; line = f.line; printed = f.printed; complete = f.complete; at = f.at; count = f.count }
+after_line_begin_from : (rest : List Line) (p : Past) → AfterLine p (begin_from rest p)
+after_line_begin_from [] p = record { run = refl; line = refl; printed = refl; complete = refl; at = refl; count = refl }
+after_line_begin_from (line ∷ rest) p = let f = frame_begun (after_line p rest) line in record { run = f.run; line = f.line; printed = f.printed; complete = f.complete; at = f.at; count = f.count }
 
-pub turned_begin_next : (p : Past) → Turned p (begin_next p)
+pub after_line_begin_next : (p : Past) → AfterLine p (begin_next p)
 unfolding begin_next
-turned_begin_next p = turned_begin_from p.rest p
+after_line_begin_next p = after_line_begin_from p.rest p
 
 -- lines
 
 line-begun_by : (n : ℕ) (p : Past) → (begun_by n p).line ≡ p.line + n
 line-begun_by zero p = omega arith
-line-begun_by (suc n) p = let e = line-begun_by n p in let f = (turned_begin_next (begun_by n p)).line in omega (arith, e, f)
+line-begun_by (suc n) p = let e = line-begun_by n p in let f = (after_line_begin_next (begun_by n p)).line in omega (arith, e, f)
 
 pub line-begun_to : (n : ℕ) (p : Past) → p.line ≤ n → (begun_to n p).line ≡ n
 unfolding begun_to
@@ -193,15 +193,15 @@ told p = p.printed ++ p.said
 
 printed_by : (n : ℕ) (p : Past) → IsPrefix p.printed (begun_by n p).printed
 printed_by zero p = prefix_self p.printed
-printed_by (suc n) p = prefix_then (printed_by n p) (prefix_then (prefix_append (begun_by n p).printed (begun_by n p).said) (prefix_same (turned_begin_next (begun_by n p)).printed))
+printed_by (suc n) p = prefix_then (printed_by n p) (prefix_then (prefix_append (begun_by n p).printed (begun_by n p).said) (prefix_same (after_line_begin_next (begun_by n p)).printed))
 
 printed_to : (n : ℕ) (p : Past) → IsPrefix p.printed (begun_to n p).printed
 unfolding begun_to
 printed_to n p = printed_by (n - p.line) p
 
 told_by : (n : ℕ) (p : Past) → IsPrefix (told p) (begun_by (suc n) p).printed
-told_by zero p = prefix_same (turned_begin_next p).printed
-told_by (suc n) p = prefix_then (told_by n p) (prefix_then (prefix_append (begun_by (suc n) p).printed (begun_by (suc n) p).said) (prefix_same (turned_begin_next (begun_by (suc n) p)).printed))
+told_by zero p = prefix_same (after_line_begin_next p).printed
+told_by (suc n) p = prefix_then (told_by n p) (prefix_then (prefix_append (begun_by (suc n) p).printed (begun_by (suc n) p).said) (prefix_same (after_line_begin_next (begun_by (suc n) p)).printed))
 
 told_next : (k : ℕ) (p : Past) → 0 < k → IsPrefix (told p) (begun_by k p).printed
 told_next zero p h = absurd (omega arith)
@@ -275,7 +275,7 @@ pub record Begun (p q : Past) : Type 0 where
 
 begun_frame_by : (n : ℕ) (p : Past) → Begun p (begun_by n p)
 begun_frame_by zero p = record { run = refl; at = refl; count = refl }
-begun_frame_by (suc n) p = let b = begun_frame_by n p in let t = turned_begin_next (begun_by n p) in record { run = t.run ∙ b.run; at = t.at ∙ b.at; count = t.count ∙ b.count }
+begun_frame_by (suc n) p = let b = begun_frame_by n p in let t = after_line_begin_next (begun_by n p) in record { run = t.run ∙ b.run; at = t.at ∙ b.at; count = t.count ∙ b.count }
 
 pub begun_frame : (n : ℕ) (p : Past) → Begun p (begun_to n p)
 unfolding begun_to

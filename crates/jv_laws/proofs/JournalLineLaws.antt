@@ -20,7 +20,7 @@ use Rattle.jv_model.specs.client.ModelClient.{ModelClient, Doing}
 use Rattle.jv_model.specs.client.Submission.{submission}
 use Rattle.jv_model.specs.journal.State.{State}
 use Rattle.jv_model.specs.journal.Steps.{Start, MayStep, begins_step}
-use Rattle.jv_model.specs.journal.Past.{Setup, Past, Due, NoMore, Refusal, MayLack, ToAnswer, OneStep, StepMade, CrashEntry, TickEntry, DrainEntries, at_start, at_end, begun, begun_by, begun_by_due, begun_to, begin_from, begin_next, turned, is_busy, is_over, is_workers, lined, requested, after, advance, past, reached}
+use Rattle.jv_model.specs.journal.Past.{Setup, Past, Due, NoMore, Refusal, MayLack, ToAnswer, OneStep, StepMade, CrashEntry, TickEntry, DrainEntries, at_start, at_end, begun, begun_by, begun_by_due, begun_to, begin_from, begin_next, after_line, is_busy, is_over, is_workers, lined, requested, after, advance, past, reached}
 use Rattle.jv_model.specs.journal.Legal.{IsRefusal, Allowed, AllAllowed, Refuses, LacksMemory, IsPublish, Drains, Sends, Ends, Fails, OfClient, OfLine, OfWorker, may_be_cut, may_stop}
 use Rattle.jv_model.specs.journal.Stepping.{is_answer}
 use Rattle.jv_model.specs.Lists.{numbered}
@@ -362,7 +362,7 @@ module _ (run : Setup) where
       }
   lined_from pre p (line ∷ lines) e h =
       let r = rest_some p.line run.script line lines (sym h.lines ∙ e) in
-      let q = turned p lines in
+      let q = after_line p lines in
       let f = frame_begun q line in
       let at = f.line in
       record {

@@ -26,7 +26,7 @@ use Rattle.jv_model.specs.client.Submission.{by_limits, is_flushed}
 use Rattle.jv_model.specs.journal.State.{State, or_empty, answer_then, reply_of_answer, is_cleaning, is_compaction}
 use Rattle.jv_model.specs.journal.Reading.{Asked, asked_parts, bytes_between, is_fresh, cited_view, part_read, is_full, joined, read_on, reading}
 use Rattle.jv_model.specs.journal.Steps.{Start, MayStep, MayAnswer, Fails, Settles, AtOnce, CountsCache, ReadsViews, CleanedUp, HasCompacted, HasCollected, HasUploaded, Refuses, TooShort, HasReplaced, Sent, FoundNone, asked_of, file_in_use, may_read_on, is_ready, ReadsFresh, told_of, may_end_after, has_judged}
-use Rattle.jv_model.specs.journal.Past.{Setup, Past, at_start, begun_to, reached, reply_of, settled_reply, told_reply}
+use Rattle.jv_model.specs.journal.Past.{Setup, Past, at_start, begun_to, reached, reply_of, decided_reply, told_reply}
 use Rattle.jv_model.specs.journal.Legal.{Refuses as RefusesSubmission, LacksMemory as RefusalLacks}
 use Rattle.jv_model.specs.journal.Looks.{IsFreshLook}
 use Rattle.jv_model.specs.Optional.{provided}
@@ -138,7 +138,7 @@ module _ (run : Setup) (journal : List Act) (limits : Limits) (start : Start) (a
   abbrev Returned : Type 0
   Returned = Returns run journal client c d handle offset len first second count
 
-  reply_by : (o : Option Reply) → settled_reply d.stage ≡ o → reply_of c d told ≡ (elim o as (λ _. Reply) [ None ↦ told_reply c d told | Some r ↦ r ])
+  reply_by : (o : Option Reply) → decided_reply d.stage ≡ o → reply_of c d told ≡ (elim o as (λ _. Reply) [ None ↦ told_reply c d told | Some r ↦ r ])
   reply_by o e = ap (λ x. elim x as (λ _. Reply) [ None ↦ told_reply c d told | Some r ↦ r ]) e
 
   returns_nothing : asked_parts offset len ≡ [] → told ≡ Looks 0 0 0 → reply_of c d told ≡ reply.Data [] → Returned
@@ -154,18 +154,18 @@ module _ (run : Setup) (journal : List Act) (limits : Limits) (start : Start) (a
   settled_read r (ReadsNothing none does) e st (IsDoneReply f fine) =
       let same : reply_of_answer answer.NoData ≡ Some r = subst (λ x. IsFineReply x r) does fine in
       let data_none : r ≡ reply.Data [] = cc in
-      returns_nothing none (e ∙ ap told_of data_none) (reply_by (Some r) (ap settled_reply st) ∙ data_none)
+      returns_nothing none (e ∙ ap told_of data_none) (reply_by (Some r) (ap decided_reply st) ∙ data_none)
 
   read_in_none : (opened : Option OpenFile) (does : Does) → does ≡ Answers answer.NoData → (elim opened as (λ _. List ℕ) [ None ↦ [] | Some file ↦ unwrap_or (reading c.views (handle_of d.op) file (asked_of does) 0 0) [] ]) ≡ []
   read_in_none None does e = refl
   read_in_none (Some file) does e = ap (λ x. unwrap_or (reading c.views (handle_of d.op) file (asked_of x) 0 0) []) e
 
   -- a working or reading operation has no answer yet
-  unsettled : (stage : Stage) → IsTrue (may_read_on c (record d { stage = stage })) → settled_reply stage ≡ None
+  unsettled : (stage : Stage) → IsTrue (may_read_on c (record d { stage = stage })) → decided_reply stage ≡ None
   unsettled (Replying r) m = absurd (cc)
   unsettled _ m = refl
 
-  unsettled_ready : (stage : Stage) → IsTrue (is_ready c (record d { stage = stage })) → settled_reply stage ≡ None
+  unsettled_ready : (stage : Stage) → IsTrue (is_ready c (record d { stage = stage })) → decided_reply stage ≡ None
   unsettled_ready (Replying r) m = absurd (cc)
   unsettled_ready _ m = refl
 

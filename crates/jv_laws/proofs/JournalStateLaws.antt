@@ -18,10 +18,10 @@ use Rattle.jv_model.specs.client.ModelClient.{Doing}
 use Rattle.jv_model.specs.client.Submission.{submission, submitted}
 use Rattle.jv_model.specs.journal.State.{State, state_at_start, set_client, effect}
 use Rattle.jv_model.specs.journal.Steps.{MayStep, IsEntry}
-use Rattle.jv_model.specs.journal.Past.{Setup, Past, Due, NoMore, Refusal, MayLack, ToAnswer, OneStep, StepMade, CrashEntry, TickEntry, DrainEntries, at_start, begun, begun_by, begun_by_due, begun_to, begin_from, begin_next, turned, is_busy, is_workers, advance, past, reached}
+use Rattle.jv_model.specs.journal.Past.{Setup, Past, Due, NoMore, Refusal, MayLack, ToAnswer, OneStep, StepMade, CrashEntry, TickEntry, DrainEntries, at_start, begun, begun_by, begun_by_due, begun_to, begin_from, begin_next, after_line, is_busy, is_workers, advance, past, reached}
 use Rattle.jv_model.specs.journal.Legal.{Allowed, AllAllowed, IsRefusal, IsPublish, IsPublishOf, Drains, OfClient, OfLine, OfWorker}
 use Rattle.jv_model.specs.journal.Looks.{entry_at}
-use Rattle.jv_laws.proofs.JournalGrowthLaws.{past-append, advanced, begun_frame, turned_begin_next}
+use Rattle.jv_laws.proofs.JournalGrowthLaws.{past-append, advanced, begun_frame, after_line_begin_next}
 
 -- entries by their numbers
 
@@ -158,7 +158,7 @@ module _ (run : Setup) (P : List Act → State → Type 0)
 
   keeps_begin_from : (pre : List Act) (rest : List Line) (p : Past) → p.run ≡ run → P pre p.state → P pre (begin_from rest p).state
   keeps_begin_from pre [] p e h = h
-  keeps_begin_from pre (line ∷ rest) p e h = keeps_begun pre (turned p rest) line e h
+  keeps_begin_from pre (line ∷ rest) p e h = keeps_begun pre (after_line p rest) line e h
 
   keeps_begin_next : (pre : List Act) (p : Past) → p.run ≡ run → P pre p.state → P pre (begin_next p).state
   unfolding begin_next
@@ -166,7 +166,7 @@ module _ (run : Setup) (P : List Act → State → Type 0)
 
   run_by : (n : ℕ) (p : Past) → (begun_by n p).run ≡ p.run
   run_by zero p = refl
-  run_by (suc n) p = (turned_begin_next (begun_by n p)).run ∙ run_by n p
+  run_by (suc n) p = (after_line_begin_next (begun_by n p)).run ∙ run_by n p
 
   keeps_begun_by : (pre : List Act) (n : ℕ) (p : Past) → p.run ≡ run → P pre p.state → P pre (begun_by n p).state
   keeps_begun_by pre zero p e h = h

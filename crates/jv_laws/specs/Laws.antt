@@ -38,7 +38,8 @@ use Rattle.jv_model.specs.Lists.{numbered}
 -- a longer journal is legal so far if and only if its first part is, and the rest may follow it
 abbrev pub JournalsGrow : Type 0
 JournalsGrow = (run : Setup) (journal more : List Act)
-    → AllAllowed (at_start run) (journal ++ more) ↔ (AllAllowed (at_start run) journal × AllAllowed (reached run journal) more)
+    → AllAllowed (at_start run) (journal ++ more) ↔
+    (AllAllowed (at_start run) journal × AllAllowed (reached run journal) more)
 
 -- what the lines up to this number print, by a journal so far
 abbrev pub text_to : ℕ → Past → List ℕ
@@ -47,8 +48,10 @@ text_to line p = (begun_to line p).printed ++ (begun_to line p).said
 -- entries of later lines change nothing of what the lines up to a number print
 abbrev pub EarlierTextStays : Type 0
 EarlierTextStays = (run : Setup) (journal more : List Act) (line last : ℕ)
-    → AllByRecursion (λ act. act.line ≤ line) journal → AllByRecursion (λ act. line < act.line) more → line ≤ last
-    → (rest : List ℕ) × (text_to line (reached run journal) ++ rest ≡ text_to last (reached run (journal ++ more)))
+    → AllByRecursion (λ act. act.line ≤ line) journal → AllByRecursion (λ act. line < act.line) more
+    → line ≤ last
+    → (rest : List ℕ) × (text_to line (reached run journal)
+    ++ rest ≡ text_to last (reached run (journal ++ more)))
 
 -- from an entry on, lines and moments don't fall, and no moment is past the last one
 pub record Follows (earlier later : Act) : Type 0 where
@@ -59,25 +62,33 @@ pub record Follows (earlier later : Act) : Type 0 where
 -- lines and moments never fall
 abbrev pub FollowsClock : Type 0
 FollowsClock = (run : Setup) (journal : List Act) → AllAllowed (at_start run) journal
-    → (earlier later : ℕ) → earlier ≤ later → IfSome (entry_at journal earlier) (λ a. IfSome (entry_at journal later) (λ b. Follows a b))
+    → (earlier later : ℕ) → earlier ≤ later
+    → IfSome (entry_at journal earlier) (λ a. IfSome (entry_at journal later) (λ b. Follows a b))
 
--- An entry that asks the clock has the moment of the clock's next answer, and another one that of the entry before it.
+-- An entry that asks the clock has the moment of the clock's next answer, and another one that of
+-- the entry before it.
 pub record HasMoment (answers : ℕ → ℕ) (p : Past) (act : Act) : Type 0 where
-  pub asked : IsTrue (asks_clock p act) → act.at ≡ clock_moment p (p.ticks + tick_of act.kind) answers
+  pub asked : IsTrue (asks_clock p act)
+      → act.at ≡ clock_moment p (p.ticks + tick_of act.kind) answers
   pub unasked : asks_clock p act ≡ false → act.at ≡ p.at
 
--- Where the clock's answers are known, they and the ticks determine the moments. Entries of uploading threads are left out.
+-- Where the clock's answers are known, they and the ticks determine the moments. Entries of
+-- uploading threads are left out.
 abbrev pub MomentsAreTheClocks : Type 0
-MomentsAreTheClocks = (run : Setup) (journal : List Act) (act : Act) → AllAllowed (at_start run) (journal ++ act ∷ []) → run.by_worker (1 + length journal) ≡ false
-    → (answers : ℕ → ℕ) → run.clock ≡ Some answers → HasMoment answers (begun_to act.line (reached run journal)) act
+MomentsAreTheClocks = (run : Setup) (journal : List Act) (act : Act)
+    → AllAllowed (at_start run) (journal ++ act ∷ []) → run.by_worker (1 + length journal) ≡ false
+    → (answers : ℕ → ℕ) → run.clock ≡ Some answers
+    → HasMoment answers (begun_to act.line (reached run journal)) act
 
 -- an entry of one client changes nothing of another
 abbrev pub OthersStay : Type 0
-OthersStay = (s : State) (act : Act) (client : ℕ) → (client ≡ act.client → ⊥) → (effect s act).clients client ≡ s.clients client
+OthersStay = (s : State) (act : Act) (client : ℕ) → (client ≡ act.client → ⊥)
+    → (effect s act).clients client ≡ s.clients client
 
 -- entries are counted
 abbrev pub EntriesAreCounted : Type 0
-EntriesAreCounted = (run : Setup) (journal : List Act) → (reached run journal).state.count ≡ length journal
+EntriesAreCounted =
+    (run : Setup) (journal : List Act) → (reached run journal).state.count ≡ length journal
 
 -- owed commits
 
@@ -91,56 +102,73 @@ abbrev pub settles : ℕ → ActKind → Bool
 settles commit (Settled settled) = settled == commit
 settles commit _ = false
 
--- A client owes a commit at the end of a journal: it left blocks staged, and nothing settled it since.
+-- A client owes a commit at the end of a journal: it left blocks staged, and nothing settled it
+-- since.
 pub record IsOwed (journal : List Act) (client commit : ℕ) : Type 0 where
-  pub made : IsSomeAnd (entry_at journal commit) (λ act. (act.client ≡ client) × IsTrue (leaves_staged act.kind))
-  pub unsettled : (later : ℕ) → commit < later → IfSome (entry_at journal later) (λ act. settles commit act.kind ≡ false)
+  pub made : IsSomeAnd (entry_at journal commit)
+      (λ act. (act.client ≡ client) × IsTrue (leaves_staged act.kind))
+  pub unsettled : (later : ℕ) → commit < later
+      → IfSome (entry_at journal later) (λ act. settles commit act.kind ≡ false)
 
 -- what counts as owed is what the entries say
 abbrev pub OwedCommits : Type 0
 OwedCommits = (run : Setup) (journal : List Act) → AllAllowed (at_start run) journal
-    → (client commit : ℕ) → IsTrue (is_owed_by (reached run journal).state client commit) ↔ IsOwed journal client commit
+    → (client commit : ℕ)
+    → IsTrue (is_owed_by (reached run journal).state client commit) ↔ IsOwed journal client commit
 
 -- a commit that some client owes
 pub record IsOwedBySome (journal : List Act) (commit : ℕ) : Type 0 where
   pub client : ℕ
   pub owed : IsOwed journal client commit
 
--- A settled commit is owed by some client: by the one whose upload settles it, or whose line of the script waits for that.
+-- A settled commit is owed by some client: by the one whose upload settles it, or whose line of the
+-- script waits for that.
 pub record SettlesOf (run : Setup) (journal : List Act) (act : Act) (commit : ℕ) : Type 0 where
   pub by_some : IsOwedBySome journal commit
   pub by_own : (act.client ≡ NO_CLIENT → ⊥) → IsOwed journal act.client commit
-  pub by_line : (client : ℕ) → (begun_to act.line (reached run journal)).due ≡ DrainEntries client → run.by_worker (1 + length journal) ≡ false → IsOwed journal client commit
+  pub by_line : (client : ℕ) → (begun_to act.line (reached run journal)).due ≡ DrainEntries client
+      → run.by_worker (1 + length journal) ≡ false → IsOwed journal client commit
 
 -- only what is owed is settled, and so at most once
 abbrev pub SettlesOwed : Type 0
-SettlesOwed = (run : Setup) (journal : List Act) (act : Act) → AllAllowed (at_start run) (journal ++ act ∷ [])
+SettlesOwed =
+    (run : Setup) (journal : List Act) (act : Act) → AllAllowed (at_start run) (journal ++ act ∷ [])
     → (commit : ℕ) → act.kind ≡ Settled commit → SettlesOf run journal act commit
 
 -- a `drain` is done only where the client owes no commit
 abbrev pub DrainsSettleAll : Type 0
-DrainsSettleAll = (run : Setup) (journal : List Act) (act : Act) → AllAllowed (at_start run) (journal ++ act ∷ [])
-    → (client : ℕ) → (begun_to act.line (reached run journal)).due ≡ DrainEntries client → (a b c d : ℕ) → act.kind ≡ Answered (Fine a b c d)
+DrainsSettleAll =
+    (run : Setup) (journal : List Act) (act : Act) → AllAllowed (at_start run) (journal ++ act ∷ [])
+    → (client : ℕ) → (begun_to act.line (reached run journal)).due ≡ DrainEntries client
+    → (a b c d : ℕ) → act.kind ≡ Answered (Fine a b c d)
     → (commit : ℕ) → IsOwed journal client commit → ⊥
 
 -- where no threads upload, an `upload` finds no block only where its client owes no commit
 abbrev pub UploadsFindAll : Type 0
-UploadsFindAll = (run : Setup) (journal : List Act) (act : Act) → AllAllowed (at_start run) (journal ++ act ∷ []) → run.uploads ≡ 0 → (act.client ≡ NO_CLIENT → ⊥)
-    → (d : Doing) → ((begun_to act.line (reached run journal)).state.clients act.client).doing ≡ Some d → d.op ≡ op.Upload → act.kind ≡ Answered (Fine 0 0 0 0)
+UploadsFindAll = (run : Setup) (journal : List Act) (act : Act)
+    → AllAllowed (at_start run) (journal ++ act ∷ []) → run.uploads ≡ 0
+    → (act.client ≡ NO_CLIENT → ⊥)
+    → (d : Doing)
+    → ((begun_to act.line (reached run journal)).state.clients act.client).doing ≡ Some d
+    → d.op ≡ op.Upload → act.kind ≡ Answered (Fine 0 0 0 0)
     → (commit : ℕ) → IsOwed journal act.client commit → ⊥
 
 -- fresh looks
 
 -- A view was taken by a fresh look, and has the file's bytes as they were just after it.
-pub record HasSeen (run : Setup) (journal : List Act) (client : ℕ) (file : OpenFile) (window : ℕ) (view : View) : Type 0 where
+pub record HasSeen (run : Setup) (journal : List Act) (client : ℕ) (file : OpenFile) (window : ℕ)
+    (view : View) : Type 0 where
   pub fresh : IsFreshLook journal client file window view.entry
-  pub bytes : view.content ≡ or_empty (content_at (reached run (take view.entry journal)).state.tree file.inode)
+  pub bytes : view.content ≡ or_empty (content_at (reached run
+      (take view.entry journal)).state.tree file.inode)
 
 -- the views that count as fresh, on any later line too, are those of fresh looks
 abbrev pub FreshViewsAreFreshLooks : Type 0
 FreshViewsAreFreshLooks = (run : Setup) (journal : List Act) → AllAllowed (at_start run) journal
     → (line client handle : ℕ) (file : OpenFile) (window : ℕ) (view : View)
-    → fresh_view ((begun_to line (reached run journal)).state.clients client).views handle file window ≡ Some view → HasSeen run journal client file window view
+    → fresh_view ((begun_to line
+    (reached run journal)).state.clients client).views handle file window ≡ Some view
+    → HasSeen run journal client file window view
 
 -- pending bytes
 
@@ -162,14 +190,18 @@ flushed_handles _ = []
 
 -- Nothing that an operation has to commit is pending.
 pub record HasCommitted (c : ModelClient) (o : Op) : Type 0 where
-  pub files : AllByRecursion (λ handle. pending_of (inode_at c handle) c.pending ≡ []) (flushed_handles o)
+  pub files : AllByRecursion (λ handle. pending_of (inode_at c handle) c.pending ≡ [])
+      (flushed_handles o)
   pub all : o ≡ op.Umount → c.pending ≡ []
 
 -- An operation is done only where nothing that it has to commit is pending.
 abbrev pub NothingPending : Type 0
-NothingPending = (run : Setup) (journal : List Act) (act : Act) → AllAllowed (at_start run) (journal ++ act ∷ [])
-    → (act.client ≡ NO_CLIENT → ⊥) → (d : Doing) → ((begun_to act.line (reached run journal)).state.clients act.client).doing ≡ Some d
-    → IsTrue (is_fine_answer act.kind) → HasCommitted ((begun_to act.line (reached run journal)).state.clients act.client) d.op
+NothingPending =
+    (run : Setup) (journal : List Act) (act : Act) → AllAllowed (at_start run) (journal ++ act ∷ [])
+    → (act.client ≡ NO_CLIENT → ⊥) → (d : Doing)
+    → ((begun_to act.line (reached run journal)).state.clients act.client).doing ≡ Some d
+    → IsTrue (is_fine_answer act.kind)
+    → HasCommitted ((begun_to act.line (reached run journal)).state.clients act.client) d.op
 
 -- close-to-open
 
@@ -194,7 +226,8 @@ pub record AnswersClose (p : Past) (act : Act) (handle : ℕ) : Type 0 where
   pub done : IsTrue (is_fine_answer act.kind)
 
 abbrev pub commits_position : ℕ → ℕ → ActKind → Bool
-commits_position inode position (Commit file from len staged) = (file == inode) && nat_le from position && nat_lt position (from + len)
+commits_position inode position (Commit file from len staged) =
+    (file == inode) && nat_le from position && nat_lt position (from + len)
 commits_position inode position _ = false
 
 -- A client crashes, or is answered that its session or the file is gone.
@@ -207,16 +240,21 @@ loses_pending inode _ = false
 -- the client's commit to a position of a file, or what loses its pending bytes of the file
 pub record ResolvesWrite (client inode position : ℕ) (act : Act) : Type 0 where
   pub own : act.client ≡ client
-  pub resolves : IsTrue (commits_position inode position act.kind) ⊎ IsTrue (loses_pending inode act.kind)
+  pub resolves : IsTrue (commits_position inode position act.kind)
+      ⊎ IsTrue (loses_pending inode act.kind)
 
--- Between a write that is done and a close of the file that is done, by one client, stands its commit to each position
--- that was written, unless the client crashed meanwhile, or was answered that its session or the file is gone.
+-- Between a write that is done and a close of the file that is done, by one client, stands its
+-- commit to each position that was written, unless the client crashed meanwhile, or was answered
+-- that its session or the file is gone.
 abbrev pub ClosesCommitWrites : Type 0
 ClosesCommitWrites = (run : Setup) (before between : List Act) (write close : Act)
-    → AllAllowed (at_start run) ((before ++ write ∷ between) ++ close ∷ []) → close.client ≡ write.client → (write.client ≡ NO_CLIENT → ⊥)
-    → (handle inode position : ℕ) → AnswersWrite (begun_to write.line (reached run before)) write inode position
+    → AllAllowed (at_start run) ((before ++ write ∷ between) ++ close ∷ [])
+    → close.client ≡ write.client → (write.client ≡ NO_CLIENT → ⊥)
+    → (handle inode position : ℕ)
+    → AnswersWrite (begun_to write.line (reached run before)) write inode position
     → AnswersClose (begun_to close.line (reached run (before ++ write ∷ between))) close handle
-    → inode_at ((begun_to close.line (reached run (before ++ write ∷ between))).state.clients close.client) handle ≡ inode
+    → inode_at ((begun_to close.line (reached run (before
+    ++ write ∷ between))).state.clients close.client) handle ≡ inode
     → (number : ℕ) × IsSomeAnd (entry_at between number) (ResolvesWrite write.client inode position)
 
 -- answers
@@ -233,44 +271,64 @@ pub record AnswersAsTree (p : Past) (act : Act) (tree_reply : Reply) : Type 0 wh
   pub kind : act.kind ≡ Answered (told_of tree_reply)
   pub reply : line_reply p (told_of tree_reply) ≡ tree_reply
 
--- The next entry of the client after its operation's transaction answers it, with the tree's reply to the operation on
--- the state before the transaction.
+-- The next entry of the client after its operation's transaction answers it, with the tree's reply
+-- to the operation on the state before the transaction.
 abbrev pub AnswersModel : Type 0
-AnswersModel = (run : Setup) (before between : List Act) (act answer : Act) → AllAllowed (at_start run) ((before ++ act ∷ between) ++ answer ∷ [])
-    → (act.client ≡ NO_CLIENT → ⊥) → IsTrue (is_transaction act.kind) → AllByRecursion (λ e. e.client ≡ act.client → ⊥) between → answer.client ≡ act.client
-    → (d : Doing) → ((begun_to act.line (reached run before)).state.clients act.client).doing ≡ Some d
-    → AnswersAsTree (begun_to answer.line (reached run (before ++ act ∷ between))) answer (transacted (begun_to act.line (reached run before)).state act.client act.at d.op).reply
+AnswersModel = (run : Setup) (before between : List Act) (act answer : Act)
+    → AllAllowed (at_start run) ((before ++ act ∷ between) ++ answer ∷ [])
+    → (act.client ≡ NO_CLIENT → ⊥) → IsTrue (is_transaction act.kind)
+    → AllByRecursion (λ e. e.client ≡ act.client → ⊥) between → answer.client ≡ act.client
+    → (d : Doing)
+    → ((begun_to act.line (reached run before)).state.clients act.client).doing ≡ Some d
+    → AnswersAsTree (begun_to answer.line (reached run (before ++ act ∷ between))) answer
+    (transacted (begun_to act.line (reached run before)).state act.client act.at d.op).reply
 
 -- reads
 
 -- bytes of a part of a file are those that it had just after a fresh look at its window
-pub record AreSeen (run : Setup) (journal : List Act) (client : ℕ) (file : OpenFile) (look : ℕ) (asked : Asked) (bytes : List ℕ) : Type 0 where
+pub record AreSeen (run : Setup) (journal : List Act) (client : ℕ) (file : OpenFile) (look : ℕ)
+    (asked : Asked) (bytes : List ℕ) : Type 0 where
   pub fresh : IsFreshLook journal client file asked.window look
-  pub same : bytes ≡ bytes_between (or_empty (content_at (reached run (take look journal)).state.tree file.inode)) asked.from asked.to
+  pub same : bytes ≡ bytes_between (or_empty (content_at (reached run
+      (take look journal)).state.tree file.inode)) asked.from asked.to
 
--- Bytes of the parts of a range, one part for each window, by the looks cited for them, 0 for a window that wasn't read:
--- the second window is read where the first one gave all that was asked of it.
-pub data AreRead (run : Setup) (journal : List Act) (client : ℕ) (opened : Option OpenFile) (parts : List Asked) (first second : ℕ) (bytes : List ℕ) : Type 0 where
-  NoPart : parts ≡ [] → first ≡ 0 → second ≡ 0 → bytes ≡ [] → AreRead run journal client opened parts first second bytes
-  OnePart : (file : OpenFile) (asked : Asked) (others : List Asked) → opened ≡ Some file → parts ≡ asked ∷ others → AreSeen run journal client file first asked bytes → second ≡ 0
-      → (others ≡ []) ⊎ (is_full asked bytes ≡ false) → AreRead run journal client opened parts first second bytes
-  TwoParts : (file : OpenFile) (asked other : Asked) (others : List Asked) (some more : List ℕ) → opened ≡ Some file → parts ≡ asked ∷ other ∷ others
-      → AreSeen run journal client file first asked some → length some ≡ asked.to - asked.from → AreSeen run journal client file second other more → bytes ≡ some ++ more
+-- Bytes of the parts of a range, one part for each window, by the looks cited for them, 0 for a
+-- window that wasn't read: the second window is read where the first one gave all that was asked of
+-- it.
+pub data AreRead (run : Setup) (journal : List Act) (client : ℕ) (opened : Option OpenFile)
+    (parts : List Asked) (first second : ℕ) (bytes : List ℕ) : Type 0 where
+  NoPart : parts ≡ [] → first ≡ 0 → second ≡ 0 → bytes ≡ []
+      → AreRead run journal client opened parts first second bytes
+  OnePart : (file : OpenFile) (asked : Asked) (others : List Asked) → opened ≡ Some file
+      → parts ≡ asked ∷ others → AreSeen run journal client file first asked bytes → second ≡ 0
+      → (others ≡ []) ⊎ (is_full asked bytes ≡ false)
+      → AreRead run journal client opened parts first second bytes
+  TwoParts : (file : OpenFile) (asked other : Asked) (others : List Asked) (some more : List ℕ)
+      → opened ≡ Some file → parts ≡ asked ∷ other ∷ others
+      → AreSeen run journal client file first asked some → length some ≡ asked.to - asked.from
+      → AreSeen run journal client file second other more → bytes ≡ some ++ more
       → AreRead run journal client opened parts first second bytes
 
--- a read that is answered with two looks and a number returns that many bytes, which are those of the looks
-pub record Returns (run : Setup) (journal : List Act) (client : ℕ) (c : ModelClient) (d : Doing) (handle offset len first second number : ℕ) : Type 0 where
+-- a read that is answered with two looks and a number returns that many bytes, which are those of
+-- the looks
+pub record Returns (run : Setup) (journal : List Act) (client : ℕ) (c : ModelClient) (d : Doing)
+    (handle offset len first second number : ℕ) : Type 0 where
   pub bytes : List ℕ
   pub reply : reply_of c d (Looks first second number) ≡ Data bytes
   pub count : number ≡ length bytes
-  pub read : AreRead run journal client (file_of c.handles handle) (asked_parts offset len) first second bytes
+  pub read : AreRead run journal client (file_of c.handles handle)
+      (asked_parts offset len) first second bytes
 
 -- a read returns the file's bytes as they were just after the fresh looks that it cites
 abbrev pub ReadsAreOfFreshLooks : Type 0
-ReadsAreOfFreshLooks = (run : Setup) (journal : List Act) (act : Act) → AllAllowed (at_start run) (journal ++ act ∷ []) → (act.client ≡ NO_CLIENT → ⊥)
-    → (d : Doing) → ((begun_to act.line (reached run journal)).state.clients act.client).doing ≡ Some d
-    → (handle offset len : ℕ) → d.op ≡ op.Read handle offset len → (first second number : ℕ) → act.kind ≡ Answered (Looks first second number)
-    → Returns run journal act.client ((begun_to act.line (reached run journal)).state.clients act.client) d handle offset len first second number
+ReadsAreOfFreshLooks = (run : Setup) (journal : List Act) (act : Act)
+    → AllAllowed (at_start run) (journal ++ act ∷ []) → (act.client ≡ NO_CLIENT → ⊥)
+    → (d : Doing)
+    → ((begun_to act.line (reached run journal)).state.clients act.client).doing ≡ Some d
+    → (handle offset len : ℕ) → d.op ≡ op.Read handle offset len → (first second number : ℕ)
+    → act.kind ≡ Answered (Looks first second number)
+    → Returns run journal act.client ((begun_to act.line
+    (reached run journal)).state.clients act.client) d handle offset len first second number
 
 -- an entry answers with two looks and a number
 pub record CitesLooks (answer : ActKind) : Type 0 where
@@ -281,16 +339,23 @@ pub record CitesLooks (answer : ActKind) : Type 0 where
 
 -- a read that is done is answered with its looks
 abbrev pub ReadsCiteLooks : Type 0
-ReadsCiteLooks = (run : Setup) (journal : List Act) (act : Act) → AllAllowed (at_start run) (journal ++ act ∷ []) → (act.client ≡ NO_CLIENT → ⊥)
-    → (d : Doing) → ((begun_to act.line (reached run journal)).state.clients act.client).doing ≡ Some d
-    → (handle offset len : ℕ) → d.op ≡ op.Read handle offset len → IsTrue (is_fine_answer act.kind) → CitesLooks act.kind
+ReadsCiteLooks = (run : Setup) (journal : List Act) (act : Act)
+    → AllAllowed (at_start run) (journal ++ act ∷ []) → (act.client ≡ NO_CLIENT → ⊥)
+    → (d : Doing)
+    → ((begun_to act.line (reached run journal)).state.clients act.client).doing ≡ Some d
+    → (handle offset len : ℕ) → d.op ≡ op.Read handle offset len → IsTrue (is_fine_answer act.kind)
+    → CitesLooks act.kind
 
 -- lines
 
--- what the entries of a line do, but for those of uploading threads, in a journal whose first entry has this number
+-- what the entries of a line do, but for those of uploading threads, in a journal whose first entry
+-- has this number
 abbrev pub kinds_on : (ℕ → Bool) → ℕ → ℕ → List Act → List ActKind
 kinds_on by_worker line number [] = []
-kinds_on by_worker line number (act ∷ acts) = (if (act.line == line) && not (by_worker number) then act.kind ∷ kinds_on by_worker line (number + 1) acts else kinds_on by_worker line (number + 1) acts)
+kinds_on by_worker line number (act ∷ acts) =
+    (if (act.line == line) && not (by_worker number)
+    then act.kind ∷ kinds_on by_worker line (number + 1) acts
+    else kinds_on by_worker line (number + 1) acts)
 
 -- the last one answers, and no other
 pub record EndsAnswered (kinds : List ActKind) : Type 0 where
@@ -309,7 +374,8 @@ pub data IsOneStep (kinds : List ActKind) : Type 0 where
   OneEntry : (kind : ActKind) → kinds ≡ kind ∷ [] → IsOneStep kinds
   AndAnswer : (kind : ActKind) (told : Told) → kinds ≡ kind ∷ Answered told ∷ [] → IsOneStep kinds
 
--- The entries that a line has: a refused operation has its answer alone, and one that was begun none.
+-- The entries that a line has: a refused operation has its answer alone, and one that was begun
+-- none.
 abbrev pub FitsLine : Line → List ActKind → Type 0
 FitsLine Empty kinds = kinds ≡ []
 FitsLine (Do client o) kinds = EndsAnswered kinds
@@ -322,26 +388,35 @@ FitsLine (Tick by) kinds = kinds ≡ Ticked by ∷ []
 
 -- where an entry stands on a later line, each line before has its entries
 abbrev pub LinesHaveEntries : Type 0
-LinesHaveEntries = (run : Setup) (journal : List Act) (act : Act) → AllAllowed (at_start run) (journal ++ act ∷ [])
-    → (line : ℕ) → line < act.line → IfSome (numbered run.script line) (λ l. FitsLine l (kinds_on run.by_worker line 1 journal))
+LinesHaveEntries =
+    (run : Setup) (journal : List Act) (act : Act) → AllAllowed (at_start run) (journal ++ act ∷ [])
+    → (line : ℕ) → line < act.line → IfSome (numbered run.script line) (λ l.
+    FitsLine l (kinds_on run.by_worker line 1 journal))
 
 -- where no line may be cut off, each line has its entries at the end
 abbrev pub EndedLinesHaveEntries : Type 0
-EndedLinesHaveEntries = (run : Setup) (journal : List Act) → Legal run journal → may_be_cut run.status ≡ false
-    → (line : ℕ) → IfSome (numbered run.script line) (λ l. FitsLine l (kinds_on run.by_worker line 1 journal))
+EndedLinesHaveEntries =
+    (run : Setup) (journal : List Act) → Legal run journal → may_be_cut run.status ≡ false
+    → (line : ℕ) → IfSome (numbered run.script line) (λ l.
+    FitsLine l (kinds_on run.by_worker line 1 journal))
 
 -- an entry refuses an operation's submission, and a later one is on a later line
 pub record RefusesAlone (client : ℕ) (fault : Fault) (act later : Act) : Type 0 where
   pub own : act.client ≡ client
-  pub refused : (act.kind ≡ Answered (ToldRefused fault)) ⊎ (act.kind ≡ Answered (ToldRefused NoMemory))
+  pub refused : (act.kind ≡ Answered (ToldRefused fault))
+      ⊎ (act.kind ≡ Answered (ToldRefused NoMemory))
   pub alone : act.line < later.line
 
--- Where the line of an entry submits an operation that is refused, the entry says so, and no other follows on the line.
--- Entries of uploading threads are left out.
+-- Where the line of an entry submits an operation that is refused, the entry says so, and no other
+-- follows on the line. Entries of uploading threads are left out.
 abbrev pub RefusedLinesHaveOneEntry : Type 0
-RefusedLinesHaveOneEntry = (run : Setup) (before between : List Act) (act later : Act) → AllAllowed (at_start run) ((before ++ act ∷ between) ++ later ∷ [])
-    → (client : ℕ) (fault : Fault) → (begun_to act.line (reached run before)).due ≡ Refusal client fault
-    → run.by_worker (1 + length before) ≡ false → run.by_worker (1 + length (before ++ act ∷ between)) ≡ false → RefusesAlone client fault act later
+RefusedLinesHaveOneEntry = (run : Setup) (before between : List Act) (act later : Act)
+    → AllAllowed (at_start run) ((before ++ act ∷ between) ++ later ∷ [])
+    → (client : ℕ) (fault : Fault)
+    → (begun_to act.line (reached run before)).due ≡ Refusal client fault
+    → run.by_worker (1 + length before) ≡ false
+    → run.by_worker (1 + length (before ++ act ∷ between)) ≡ false
+    → RefusesAlone client fault act later
 
 -- cleaning
 
@@ -352,18 +427,23 @@ pub record IsExpired (t : Tree) (cleaner now sid : ℕ) : Type 0 where
 
 -- a cleaning ends only sessions whose time has come, and not its own
 abbrev pub ExpiresOnlyGone : Type 0
-ExpiresOnlyGone = (run : Setup) (journal : List Act) (act : Act) → AllAllowed (at_start run) (journal ++ act ∷ []) → (sid : ℕ) → act.kind ≡ Expired sid
-    → IsExpired (begun_to act.line (reached run journal)).state.tree (session_of ((begun_to act.line (reached run journal)).state.clients act.client)) act.at sid
+ExpiresOnlyGone = (run : Setup) (journal : List Act) (act : Act)
+    → AllAllowed (at_start run) (journal ++ act ∷ []) → (sid : ℕ) → act.kind ≡ Expired sid
+    → IsExpired (begun_to act.line (reached run journal)).state.tree
+    (session_of ((begun_to act.line (reached run journal)).state.clients act.client)) act.at sid
 
 -- an inode that was given, is no node any more, and whose rows weren't cleaned before
 pub record IsGone (journal : List Act) (t : Tree) (inode : ℕ) : Type 0 where
   pub was : inode < t.next_inode
   pub gone : node_at t inode ≡ None
-  pub once : (number : ℕ) → IfSome (entry_at journal number) (λ act. act.kind ≡ Cleaned TABLE_OF_DROPPED inode → ⊥)
+  pub once : (number : ℕ) → IfSome (entry_at journal number) (λ act.
+      act.kind ≡ Cleaned TABLE_OF_DROPPED inode → ⊥)
 
 -- a cleaning drops only rows of removed files, those of each once
 abbrev pub DropsOnlyGone : Type 0
-DropsOnlyGone = (run : Setup) (journal : List Act) (act : Act) → AllAllowed (at_start run) (journal ++ act ∷ []) → (inode : ℕ) → act.kind ≡ Cleaned TABLE_OF_DROPPED inode
+DropsOnlyGone = (run : Setup) (journal : List Act) (act : Act)
+    → AllAllowed (at_start run) (journal ++ act ∷ []) → (inode : ℕ)
+    → act.kind ≡ Cleaned TABLE_OF_DROPPED inode
     → IsGone journal (begun_to act.line (reached run journal)).state.tree inode
 
 -- whether an entry is a cleaning's
@@ -375,25 +455,32 @@ cleans _ = false
 
 -- only a cleaning cleans
 abbrev pub CleansOnlyInClean : Type 0
-CleansOnlyInClean = (run : Setup) (journal : List Act) (act : Act) → AllAllowed (at_start run) (journal ++ act ∷ []) → (act.client ≡ NO_CLIENT → ⊥) → IsTrue (cleans act.kind)
-    → (d : Doing) → ((begun_to act.line (reached run journal)).state.clients act.client).doing ≡ Some d → d.op ≡ op.Clean
+CleansOnlyInClean = (run : Setup) (journal : List Act) (act : Act)
+    → AllAllowed (at_start run) (journal ++ act ∷ []) → (act.client ≡ NO_CLIENT → ⊥)
+    → IsTrue (cleans act.kind)
+    → (d : Doing)
+    → ((begun_to act.line (reached run journal)).state.clients act.client).doing ≡ Some d
+    → d.op ≡ op.Clean
 
--- whether an entry ends its client's operation: a crash and an answer do, but for the refusal of another operation meanwhile
+-- whether an entry ends its client's operation: a crash and an answer do, but for the refusal of
+-- another operation meanwhile
 abbrev pub ends_operation : ActKind → Bool
 ends_operation Crashed = true
 ends_operation (Answered (ToldRefused InProgress)) = false
 ends_operation (Answered told) = true
 ends_operation _ = false
 
--- A request of the client's operation in progress changed nothing, and this held in the state before it, at its moment. So
--- many entries stand before it.
-pub record FoundNothing (run : Setup) (journal : List Act) (client before : ℕ) (Holds : State → ℕ → Type 0) : Type 0 where
+-- A request of the client's operation in progress changed nothing, and this held in the state
+-- before it, at its moment. So many entries stand before it.
+pub record FoundNothing (run : Setup) (journal : List Act) (client before : ℕ)
+    (Holds : State → ℕ → Type 0) : Type 0 where
   pub act : Act
   pub there : entry_at journal (suc before) ≡ Some act
   pub own : act.client ≡ client
   pub quiet : act.kind ≡ Quiet
   pub held : Holds (begun_to act.line (reached run (take before journal))).state act.at
-  pub goes_on : (later : ℕ) → suc before < later → IfSome (entry_at journal later) (λ e. e.client ≡ client → ends_operation e.kind ≡ false)
+  pub goes_on : (later : ℕ) → suc before < later
+      → IfSome (entry_at journal later) (λ e. e.client ≡ client → ends_operation e.kind ≡ false)
 
 -- no session but the client's own is due for expiry
 abbrev pub NoSessionDue : ℕ → State → ℕ → Type 0
@@ -403,7 +490,8 @@ NoSessionDue client s now = due_session s.tree (session_of (s.clients client)) n
 abbrev pub NoHourDue : State → ℕ → Type 0
 NoHourDue s now = due_purge s.tree now ≡ None
 
--- The operation in progress found no session that was due, and later no directory of an hour that was.
+-- The operation in progress found no session that was due, and later no directory of an hour that
+-- was.
 pub record FoundNoneDue (run : Setup) (journal : List Act) (client : ℕ) : Type 0 where
   pub first : ℕ
   pub second : ℕ
@@ -412,12 +500,19 @@ pub record FoundNoneDue (run : Setup) (journal : List Act) (client : ℕ) : Type
   pub hours : FoundNothing run journal client second NoHourDue
 
 -- a cleaning had as many items as one may have, or found none due
-pub data MayEndCleaning (run : Setup) (journal : List Act) (client : ℕ) (stage : Stage) : Type 0 where
-  HadMost : (k : Cleaning) → stage ≡ Cleans k → items k ≡ MAX_ITEMS → MayEndCleaning run journal client stage
+pub data MayEndCleaning (run : Setup) (journal : List Act) (client : ℕ)
+    (stage : Stage) : Type 0 where
+  HadMost : (k : Cleaning) → stage ≡ Cleans k → items k ≡ MAX_ITEMS
+      → MayEndCleaning run journal client stage
   HadFewer : FoundNoneDue run journal client → MayEndCleaning run journal client stage
 
--- a `clean` that is done had as many items as one may have, or found no session and then no hour that was due
+-- a `clean` that is done had as many items as one may have, or found no session and then no hour
+-- that was due
 abbrev pub CleansWhatIsDue : Type 0
-CleansWhatIsDue = (run : Setup) (journal : List Act) (act : Act) → AllAllowed (at_start run) (journal ++ act ∷ []) → (act.client ≡ NO_CLIENT → ⊥)
-    → (d : Doing) → ((begun_to act.line (reached run journal)).state.clients act.client).doing ≡ Some d → d.op ≡ op.Clean
-    → (sessions trash files slices : ℕ) → act.kind ≡ Answered (Fine sessions trash files slices) → MayEndCleaning run journal act.client d.stage
+CleansWhatIsDue = (run : Setup) (journal : List Act) (act : Act)
+    → AllAllowed (at_start run) (journal ++ act ∷ []) → (act.client ≡ NO_CLIENT → ⊥)
+    → (d : Doing)
+    → ((begun_to act.line (reached run journal)).state.clients act.client).doing ≡ Some d
+    → d.op ≡ op.Clean
+    → (sessions trash files slices : ℕ) → act.kind ≡ Answered (Fine sessions trash files slices)
+    → MayEndCleaning run journal act.client d.stage

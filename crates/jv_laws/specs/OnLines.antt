@@ -11,7 +11,9 @@ IsAlone q = (n : ℕ) → q.run.by_worker n ≡ false
 
 -- the moment of an entry that asks the clock, where lines have let `ticks` seconds pass
 abbrev pub IsNow : Past → ℕ → ℕ → Type 0
-IsNow q ticks now = MatchOption q.run.clock ((q.at ≤ now) × (now ≤ LAST_MOMENT)) (λ answers. now ≡ clock_moment q ticks answers)
+IsNow q ticks now =
+    MatchOption q.run.clock ((q.at ≤ now) × (now ≤ LAST_MOMENT))
+    (λ answers. now ≡ clock_moment q ticks answers)
 
 -- entries are allowed from one past on, and lead to another
 pub record Leads (q : Past) (acts : List Act) (r : Past) : Type 0 where

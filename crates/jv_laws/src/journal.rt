@@ -113,7 +113,7 @@ pub fn refused_lines_have_one_entry()
     ensures { RefusedLinesHaveOneEntry }
 {}
 
-/// Only a `clean` ends sessions, purges and drops rows.
+/// Only a `clean` expires sessions, purges and drops rows.
 pub fn cleans_only_in_clean()
     ensures { CleansOnlyInClean }
 {}

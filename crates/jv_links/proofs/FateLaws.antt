@@ -1,7 +1,7 @@
 -- What becomes of what loses an entry, by the rows of its node and of the setting.
 use Rattle.std.proofs.Common.{◌≡◌, ℕ, ◌+◌, Bool, true, false, not, ◌&&◌, ◌==◌, List, None, Some, is_some, Result, Ok, Err, refl, sym, ap, ◌∙◌, arith}
 use Rattle.std.specs.Prelude.{nat_lt, nat_le, if◌then◌else◌}
-use Rattle.std.specs.List.{list_any}
+use Rattle.jv_model.specs.Lists.{is_among}
 use Rattle.std.proofs.lemmas.Bool.{false≢true, false_from_ne_true, leb-true, leb-false, ltb-true, lt-ltb}
 use Rattle.jv_model.specs.declared.limits.TheConstants.{TRASH_ROOT}
 use Rattle.jv_model.specs.declared.fault.Fault.{Fault}
@@ -95,7 +95,7 @@ module _ (caller : Caller) (place : EntryKey) (inode : ℕ) (draft : List Change
     pub says-linked : nat_lt 1 row.nlink ≡ true → SaysFate caller place inode draft before (Ok Linked)
     says-linked several known is bytes t m r =
         sym (ap (λ b. fate_in (fate_by b (nat_lt 0 t.setting.trash_days && not (in_trash place.dir))
-        (list_any (λ held. held == inode) caller.held)))
+        (is_among inode caller.held)))
         (several_is true several known is bytes t m r))
 
     module _ (after : Store) where
@@ -129,7 +129,7 @@ module _ (caller : Caller) (place : EntryKey) (inode : ℕ) (draft : List Change
         module _ (dir : ℕ) (in_dir : place.dir ≡ dir) (held : List ℕ) (held_is : caller.held ≡ held)
             (few : nat_lt 1 row.nlink ≡ false) where
           told : (days used : Bool) → (nat_lt 0 setting.trash_days && nat_lt dir TRASH_ROOT) ≡ days
-              → list_any (λ h. h == inode) held ≡ used → (fate : Fate)
+              → is_among inode held ≡ used → (fate : Fate)
               → fate ≡ fate_in (fate_by false days used) → SaysFate caller place inode draft before (Ok fate)
           told days used days_are used_is fate fate_is known is bytes t m r =
               let day_test : (nat_lt 0 t.setting.trash_days && not (in_trash place.dir)) ≡ days =
@@ -139,24 +139,24 @@ module _ (caller : Caller) (place : EntryKey) (inode : ℕ) (draft : List Change
               in_dir) ∙ days_are in
               fate_is ∙ sym (ap (λ b. fate_in
               (fate_by b (nat_lt 0 t.setting.trash_days && not (in_trash place.dir))
-              (list_any (λ h. h == inode) caller.held)))
+              (is_among inode caller.held)))
               (several_is false few known is bytes t m r)
-              ∙ ap (λ b. fate_in (fate_by false b (list_any (λ h. h == inode) caller.held))) day_test
-              ∙ ap (λ b. fate_in (fate_by false days b)) (ap (list_any (λ h. h == inode)) held_is ∙ used_is))
+              ∙ ap (λ b. fate_in (fate_by false b (is_among inode caller.held))) day_test
+              ∙ ap (λ b. fate_in (fate_by false days b)) (ap (is_among inode) held_is ∙ used_is))
 
           -- it goes to the trash
           pub says-trashed : (nat_lt 0 setting.trash_days && nat_lt dir TRASH_ROOT) ≡ true
               → SaysFate caller place inode draft before (Ok Trashed)
-          says-trashed days = told true (list_any (λ h. h == inode) held) days refl Trashed refl
+          says-trashed days = told true (is_among inode held) days refl Trashed refl
 
           -- the session keeps it
           pub says-sustained : (nat_lt 0 setting.trash_days && nat_lt dir TRASH_ROOT) ≡ false
-              → list_any (λ h. h == inode) held ≡ true
+              → is_among inode held ≡ true
               → SaysFate caller place inode draft before (Ok Sustained)
           says-sustained days used = told false true days used Sustained refl
 
           -- it is gone
           pub says-dropped : (nat_lt 0 setting.trash_days && nat_lt dir TRASH_ROOT) ≡ false
-              → list_any (λ h. h == inode) held ≡ false
+              → is_among inode held ≡ false
               → SaysFate caller place inode draft before (Ok Dropped)
           says-dropped days used = told false false days used Dropped refl

@@ -1,7 +1,7 @@
 -- How a file or a symlink loses an entry, by its fate: each exit.
 use Rattle.std.proofs.Common.{◌≡◌, ℕ, ◌≤◌, Bool, true, false, not, ◌&&◌, ◌==◌, List, Some, is_some, Result, Ok, Err, refl, sym, ap, subst, ◌∙◌}
 use Rattle.std.specs.Prelude.{IsTrue, IsErrAnd, nat_lt, if◌then◌else◌}
-use Rattle.std.specs.List.{list_any}
+use Rattle.jv_model.specs.Lists.{is_among}
 use Rattle.std.specs.Option.{option_map}
 use Rattle.std.proofs.lemmas.Bool.{and_parts, not-true}
 use Rattle.jv_model.specs.declared.basics.Who.{Who}
@@ -164,7 +164,7 @@ module _ (who : Who) (caller : Caller) (is_for : IsFor who caller) (place : Entr
           result s
           (λ known is bytes t m r. leaf_goes t place inode r.whole r.is who.now r.leaf (one_entry t place inode r.is
           (few_dropped (nat_lt 1 (entry_count t inode)) (nat_lt 0 t.setting.trash_days && not (in_trash place.dir))
-          (list_any (λ h. h == inode) caller.held) (fate_is model.Dropped same known is bytes t m r))))
+          (is_among inode caller.held) (fate_is model.Dropped same known is bytes t m r))))
           (λ t. ap (λ (n : ℕ). (let left : Result Tree Fault = Ok (drop_node (take_entry t n place) inode) in left))
           now_is)
 
@@ -182,7 +182,7 @@ module _ (who : Who) (caller : Caller) (is_for : IsFor who caller) (place : Entr
           (λ t. Ok (trashed t who.now place inode)) result s
           (λ known is bytes t m r.
           let parts = few_trashed (nat_lt 1 (entry_count t inode))
-          (nat_lt 0 t.setting.trash_days && not (in_trash place.dir)) (list_any (λ h. h == inode) caller.held)
+          (nat_lt 0 t.setting.trash_days && not (in_trash place.dir)) (is_among inode caller.held)
           (fate_is model.Trashed same known is bytes t m r) in
           record {
             before = t;

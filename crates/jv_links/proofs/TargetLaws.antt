@@ -1,7 +1,7 @@
 -- What a removal leaves of links, and that an entry may move to the place that it makes free.
 use Rattle.std.proofs.Common.{◌≡◌, ◌≢◌, ℕ, ◌≤◌, Bool, true, false, not, ◌&&◌, ◌==◌, Option, None, Some, is_some, refl, sym, ap, ◌∙◌, arith}
 use Rattle.std.specs.Prelude.{IsTrue, nat_lt}
-use Rattle.std.specs.List.{list_any}
+use Rattle.jv_model.specs.Lists.{is_among}
 use Rattle.std.proofs.lemmas.Bool.{false≢true, cond_both, and_parts, not-true, le-leb, leb-true}
 use Rattle.std.proofs.lemmas.Option.{same_Some}
 use Rattle.jv_model.specs.declared.limits.TheConstants.{MAX_LINKS, READ_ONLY_MODE, TRASH_ROOT}
@@ -117,7 +117,7 @@ module _ (t : Tree) (who : Caller) (place : EntryKey) (inode : ℕ) (may : MayLo
   kept_links = cond_both (nat_lt 1 (entry_count t inode)) _ _ Keeps (λ several. keeps_linked) (λ few.
       cond_both (nat_lt 0 t.setting.trash_days && not (in_trash place.dir)) _ _ Keeps
       (keeps_trashed (one_entry t place inode may.is few)) (λ keeps_none.
-      cond_both (list_any (λ held. held == inode) who.held) _ _ Keeps (λ used. keeps_sustained)
+      cond_both (is_among inode who.held) _ _ Keeps (λ used. keeps_sustained)
       (λ closed. keeps_dropped (one_entry t place inode may.is few))))
 
   -- other inodes have the links that they had, but the trash
@@ -158,8 +158,7 @@ module _ (t : Tree) (who : Caller) (from : EntryKey) (source : ℕ) (to : EntryK
         leaf = leaf;
         session = may.session;
         held = may.held;
-        clock =
-            may.clock;
+        clock = may.clock;
       }) name j aside off here in
       omega (arith, all)
 

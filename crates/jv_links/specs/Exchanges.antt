@@ -1,4 +1,5 @@
--- What a tree has to be for two of its entries to change places, and the changes that this is made of.
+-- What a tree has to be for two of its entries to change places, and the changes that this is made
+-- of.
 use Rattle.std.specs.Prelude.{◌≡◌, ◌≢◌, ℕ, true, false, ◌&&◌, Some, Result, Ok, IsTrue}
 use Rattle.jv_model.specs.declared.fault.Fault.{Fault}
 use Rattle.jv_model.specs.declared.fault.Fault.TheVariants.{NoSpace}
@@ -24,7 +25,8 @@ pub record MayExchange (t : Tree) (from : EntryKey) (source : ℕ) (to : EntryKe
   pub links_source : links_fit t source ≡ true
   pub links_other : links_fit t other ≡ true
 
--- an inode moved in from elsewhere, where the link counts of its new directory and its own can be stored
+-- an inode moved in from elsewhere, where the link counts of its new directory and its own can be
+-- stored
 abbrev pub entry_moved : ℕ → EntryKey → ℕ → Tree → Result Tree Fault
 entry_moved now place inode t = do
   _ ← require (links_fit (put_entry t now place inode) place.dir

@@ -7,7 +7,8 @@ use Rattle.jv_model.specs.tree.Tree.{Tree, EntryKey, in_trash, is_directory, ent
 use Rattle.jv_volume.specs.Shape.{WholeShape, shape_of}
 use Rattle.jv_volume.specs.TypedRows.{is_entry_name}
 
--- a tree without the last entry of a file or a symlink, which stood outside the trash of a whole tree
+-- a tree without the last entry of a file or a symlink, which stood outside the trash of a whole
+-- tree
 pub record IsToTrash (t : Tree) (now : ℕ) (place : EntryKey) (inode : ℕ) : Type 0 where
   pub before : Tree
   pub is : t ≡ take_entry before now place

@@ -49,9 +49,8 @@ move_asked t sid path to how = do
   source ← some_or (get t.entries from) NotFound
   Ok (record { from = from; source = source; to = target })
 
--- The row of a node that an entry names was read, and stands at its inode. Its links can be stored. It is neither the
--- root nor
--- the trash, which no entry of a whole volume names.
+-- The row of a node that an entry names was read, and stands at its inode. Its links can be stored.
+-- It is neither the root nor the trash, which no entry of a whole volume names.
 pub record Stands (store : Store) (place : Place) : Type 0 where
   pub row : HasNodeRow store place.inode place.node
   pub allowed : IsTrue (is_node place.node)
@@ -68,7 +67,8 @@ pub record EndsStand (store : Store) (ends : Ends) : Type 0 where
   pub to : StandsDirectory store ends.to.dir
   pub source : Stands store ends.source
 
--- the ends of a rename: over whole rows they are the model's, and the rows of their nodes stand there
+-- the ends of a rename: over whole rows they are the model's, and the rows of their nodes stand
+-- there
 pub record FindsEnds (before after : Store) (result : Result Ends TxFault)
     (finds : Tree → Result Move Fault) : Type 0
   where
@@ -125,13 +125,15 @@ abbrev pub StandsIf : Store → Option Place → Type 0
 StandsIf store None = Unit {0}
 StandsIf store (Some place) = Stands store place
 
--- what an entry names, if it is there: over whole rows it is the tree's, and the row of its node stands there
+-- what an entry names, if it is there: over whole rows it is the tree's, and the row of its node
+-- stands there
 pub record FindsEntry (before after : Store) (result : Result (Option Place) TxFault)
     (place : EntryKey) : Type 0 where
   pub looks : Looks before after (inode_of result) (λ t. Ok (get t.entries place))
   pub stand : IfOk result (StandsIf after)
 
--- An entry of a whole tree that may move to a free place. The links of all that it is about can be stored.
+-- An entry of a whole tree that may move to a free place. The links of all that it is about can be
+-- stored.
 pub record MayMove (t : Tree) (from : EntryKey) (source : ℕ) (to : EntryKey) : Type 0 where
   pub whole : WholeShape (shape_of t)
   pub is : get t.entries from ≡ Some source

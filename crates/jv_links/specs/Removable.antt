@@ -31,9 +31,8 @@ abbrev pub removable_in : Result Removable TxFault → Result (EntryKey × ℕ) 
 removable_in (Ok entry) = Ok (place_of entry, entry.node.inode)
 removable_in (Err fault) = Err fault
 
--- Readings that reach an entry and its node: over whole rows they are the model's, and the node's row, one that the
--- grammar
--- allows, stands there.
+-- Readings that reach an entry and its node: over whole rows they are the model's, and the node's
+-- row, one that the grammar allows, stands there.
 pub record ComesToRemovable (before after : Store) (result : Result Removable TxFault) (finds : Tree
     → Result (EntryKey × ℕ) Fault) : Type 0 where
   pub looks : Looks before after (removable_in result) finds

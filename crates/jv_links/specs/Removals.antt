@@ -1,6 +1,6 @@
 -- What becomes of inodes that lose an entry.
 use Rattle.std.specs.Prelude.{◌≡◌, ℕ, ◌≤◌, Bool, false, ◌&&◌, not, ◌==◌, List, is_some, Option, None, Some, Result, Ok, Err, IfSome, IfOk, IsTrue}
-use Rattle.std.specs.List.{list_any}
+use Rattle.jv_model.specs.Lists.{is_among}
 use Rattle.jv_model.specs.declared.fault.Fault.{Fault}
 use Rattle.jv_model.specs.declared.fault.TxFault.{TxFault}
 use Rattle.jv_model.specs.declared.limits.TheConstants.{LAST_MOMENT}
@@ -23,12 +23,12 @@ pub use Rattle.jv_model.specs.Lists.{has_no_zero}
 
 -- what a caller has open of a tree's inodes are files
 abbrev pub HoldsFiles : List ℕ → Tree → Type 0
-HoldsFiles held t = (inode : ℕ) → IsTrue (list_any (λ h. h == inode) held)
+HoldsFiles held t = (inode : ℕ) → IsTrue (is_among inode held)
     → IsTrue (is_there ((shape_of t).form inode))
     → (shape_of t).form inode ≡ Regular
 
--- an entry of a file or a symlink of a whole tree, which a caller whose session is there removes at a moment of the
--- clock
+-- an entry of a file or a symlink of a whole tree, which a caller whose session is there removes at
+-- a moment of the clock
 pub record MayLose (t : Tree) (who : Caller) (place : EntryKey) (inode : ℕ) : Type 0 where
   pub whole : WholeShape (shape_of t)
   pub is : get t.entries place ≡ Some inode
@@ -75,7 +75,8 @@ abbrev pub renamed_in : Result (Option Removed) TxFault → Option (Option Remov
 renamed_in (Ok removed) = Some removed
 renamed_in (Err fault) = None
 
--- Over whole rows, whose tree is ready, what was removed says which file the session keeps from then on.
+-- Over whole rows, whose tree is ready, what was removed says which file the session keeps from
+-- then on.
 abbrev pub SaysSustained : ℕ → (Tree → Type 0) → Store → Option (Option Removed)
     → (Tree → Result Outcome Fault)
     → Type 0
@@ -83,6 +84,7 @@ SaysSustained sid ready before result act =
     IfSome result (λ removed. (known : RowMap) → before.rows ≡ Some known
     → Whole (typed known) → (bytes : ℕ → ℕ → ℕ)
     → ready (tree_of bytes (typed known)) → (inode : ℕ)
-    → (is_sustained (outcome (tree_of bytes (typed known)) (act (tree_of bytes (typed known)))).tree sid
+    → (is_sustained (outcome (tree_of bytes (typed known)) (act (tree_of bytes
+    (typed known)))).tree sid
     inode && not (is_sustained (tree_of bytes (typed known)) sid inode))
     ≡ is_inode (kept_of removed) inode)

@@ -38,7 +38,8 @@ pub record MayClear (t : Tree) (who : Caller) (place : EntryKey) (inode : ℕ)
   pub held : HoldsFiles who.held t
   pub clock : who.now ≤ LAST_MOMENT
 
--- What was removed says which file the session keeps from then on, for each tree that the rows in mind are those of.
+-- What was removed says which file the session keeps from then on, for each tree that the rows in
+-- mind are those of.
 abbrev pub SaysCleared : Caller → EntryKey → ℕ → Bool → List Change → Store
     → Result (Option Removed) TxFault → Type 0
 SaysCleared who place inode directory was before result = IfOk result (λ removed. (known : RowMap)

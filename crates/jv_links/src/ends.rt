@@ -32,7 +32,7 @@ fn is_trash(entry: &EntryPlace) -> bool
 }
 
 // Whether an entry may go: neither `.trash` nor one of its hours.
-fn may_go(entry: &EntryPlace) -> bool
+pub(crate) fn may_go(entry: &EntryPlace) -> bool
     ensures { result ≡ model_removing.may_go (place_of entry.now) }
 {
     entry.dir.inode != TRASH_ROOT && !is_trash(entry)
@@ -83,8 +83,9 @@ fn entered<K: Keeper>(alloc: Global, k: &mut K, entry: &EntryPlace) -> Result<Pl
 ///
 /// # Errors
 ///
-/// Stale where the session is gone, then as of [`walk_to_entry`] for the one path and the other, NotPermitted for an entry of
-/// the trash, and as of [`child`]. Invalid for an entry that names the root or the trash.
+/// Stale where the session is gone, then as of [`walk_to_entry`] for the one path and the other, NotPermitted for `.trash`
+/// and its hours, for a target in the trash or in the place of `.trash`, and for an exchange with an entry of the trash. Then
+/// as of [`child`] for the entry that goes, and Invalid where that names the root or the trash.
 pub(crate) fn find_ends<K: Keeper>(
     alloc: Global,
     k: &mut K,

@@ -57,8 +57,8 @@ fn exchange_entries<K: Keeper>(
 ///
 /// # Errors
 ///
-/// Invalid where a directory would move into itself. NoSpace where the link count of a directory is at its greatest
-/// number. Bad for a malformed row of a directory or a node, Failed if the keeper failed. Memory.
+/// Invalid where a directory would move into itself, NoSpace where the link count of a directory is at its greatest
+/// number, and as of [`is_inside`], [`take_entry`], [`put_entry`] and [`move_under`].
 pub(crate) fn exchange<K: Keeper>(
     alloc: Global,
     k: &mut K,

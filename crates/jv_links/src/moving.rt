@@ -42,7 +42,7 @@ pub(crate) fn move_entry<K: Keeper>(
 ///
 /// # Errors
 ///
-/// Invalid where a directory would move into itself, and as of [`move_entry`].
+/// Invalid where a directory would move into itself, and as of [`is_inside`] and [`move_entry`].
 pub(crate) fn move_to_free<K: Keeper>(
     alloc: Global,
     k: &mut K,

@@ -8,9 +8,10 @@ ghost use Rattle.jv_model.specs.tree.Removing as model;
 ghost use Rattle.jv_rows.specs.Transactions.{IsFor, Transacts, Always};
 
 use crate::emptiness::has_entries;
+use crate::ends::may_go;
 use crate::fates::{Removed, remove_entry};
 use jv_changes::{drop_node, take_entry};
-use jv_model::{Fault, Name, Path, ROOT, RowFault, TRASH_ROOT, TxFault, Who};
+use jv_model::{Fault, Name, Path, RowFault, TxFault, Who};
 use jv_outside::Keeper;
 use jv_rows::{Draft, Place, child, in_session, walk_to_entry};
 use std::alloc::Global;
@@ -21,13 +22,6 @@ pub(crate) struct Removable {
     pub(crate) dir: u64,
     pub(crate) name: Name,
     pub(crate) node: Place,
-}
-
-// Whether an entry may be removed: it is neither `.trash` nor one of its hours.
-fn may_go(dir: u64, name: &[u8]) -> bool
-    ensures { result ≡ model.may_go (record { dir = dir; name = name.now }) }
-{
-    !(dir == TRASH_ROOT || (dir == ROOT && name == b".trash".as_slice()))
 }
 
 // The entry that a path names, where it is there and may be removed.
@@ -42,7 +36,7 @@ fn find_removable<K: Keeper>(
 {
     in_session(alloc, k, sid)?;
     let place = walk_to_entry(alloc, k, path)?;
-    if !may_go(place.dir.inode, place.name.as_slice()) {
+    if !may_go(&place) {
         return Err(TxFault::Refused(Fault::NotPermitted));
     }
     let node = child(alloc, k, place.dir.inode, &place.name)?;

@@ -81,7 +81,8 @@ fn remove_target<K: Keeper>(
 /// # Errors
 ///
 /// Invalid where a directory would move into itself, NotADirectory for a directory over a file, IsADirectory for a file over a
-/// directory, DirectoryNotEmpty where that has entries, and as of [`remove_entry`] and [`move_entry`].
+/// directory, DirectoryNotEmpty where that has entries, and as of [`is_inside`], [`has_entries`], [`drop_node`],
+/// [`remove_entry`] and [`move_entry`].
 pub(crate) fn replace<K: Keeper>(
     alloc: Global,
     k: &mut K,

@@ -1,5 +1,5 @@
-//! Transactions on sessions: mount, beat, close and release, each one commit or none (JuiceFS, "Sessions" of its
-//! internals).
+//! Transactions on sessions: mount, beat, close and release, each one commit or none (JuiceFS,
+//! Architecture: sessions).
 //!
 //! A refusal, a keeper that failed, and running out of memory leave the rows as they were.
 #![tactic(auto)]

@@ -1,4 +1,5 @@
--- The operations that are one transaction on metadata, what the model's transaction of each is, and what is answered of it.
+-- The operations that are one transaction on metadata, what the model's transaction of each is, and
+-- what is answered of it.
 use Rattle.std.specs.Prelude.{◌≡◌, ℕ, Bool, true, false, ◌&&◌, not, Option, None, Some, Result, Ok, Err, IfOk, MatchBool}
 use Rattle.jv_model.specs.declared.fault.Fault.{Fault}
 use Rattle.jv_model.specs.declared.fault.TxFault.{TxFault}
@@ -78,7 +79,8 @@ pub record Asks (caller : Caller) (handle inode : ℕ) : Type 0 where
   pub gets : caller.free_handle ≡ handle
   pub names : caller.inode ≡ inode
 
--- the file that the session keeps from then on, by whole rows whose caller has files open, is the one that is answered
+-- the file that the session keeps from then on, by whole rows whose caller has files open, is the
+-- one that is answered
 abbrev pub KeepsOne : Caller → Op → Store → Option ℕ → Type 0
 KeepsOne who o before kept = (known : RowMap) → before.rows ≡ Some known → Whole (typed known)
     → (bytes : ℕ → ℕ → ℕ) → HoldsFiles who.held (tree_of bytes (typed known))

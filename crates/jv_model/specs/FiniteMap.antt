@@ -23,7 +23,12 @@ abbrev pub number_key : KeyOrder ℕ
 number_key = record { cmp = nat_cmp; total = nat_cmp_total; same = nat_cmp-IsAntisymmetric }
 
 abbrev pub text_key : KeyOrder (List ℕ)
-text_key = record { cmp = slice_cmp nat_cmp; total = nat_list_cmp_total; same = slice_cmp-IsAntisymmetric nat_cmp-IsAntisymmetric }
+text_key =
+    record {
+      cmp = slice_cmp nat_cmp;
+      total = nat_list_cmp_total;
+      same = slice_cmp-IsAntisymmetric nat_cmp-IsAntisymmetric;
+    }
 
 pub record Map {K : Type 0} (order : KeyOrder K) (X : Type 0) : Type 0 where
   pub list : List (K × X)
@@ -50,7 +55,11 @@ module _ {K X : Type 0} {order : KeyOrder K} where
 
   -- with this value at the key
   unfoldable pub insert : Map order X → K → X → Map order X
-  insert m k v = record { list = put order.cmp k v m.list; sorted = is_sorted-put order.cmp order.total k v m.list m.sorted }
+  insert m k v =
+      record {
+        list = put order.cmp k v m.list;
+        sorted = is_sorted-put order.cmp order.total k v m.list m.sorted;
+      }
 
   -- without an entry at the key
   unfoldable pub remove : Map order X → K → Map order X
@@ -91,7 +100,8 @@ module _ {K X : Type 0} {order : KeyOrder K} where
   -- maps with the same entries are the same
   pub maps_of_entries : (m n : Map order X) → m.list ≡ n.list → m ≡ n
   maps_of_entries m n e =
-      let pairs : ◌≡◌ {A = (es : List (K × X)) × T (is_sorted order.cmp es)} (m.list, m.sorted) (n.list, n.sorted) =
+      let pairs : ◌≡◌ {A = (es : List (K × X)) × T (is_sorted order.cmp es)} (m.list, m.sorted)
+      (n.list, n.sorted) =
       Σ_prop_path (λ es. T_prop _) e in
       λ i. record { list = (pairs i).0; sorted = (pairs i).1 }
 

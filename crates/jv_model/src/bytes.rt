@@ -7,10 +7,10 @@ use std::alloc::{AllocError, Global};
 /// Bytes of a file, a value or a printed line.
 pub type Bytes = Sequence<u8>;
 
-/// A file's name (1 to 255 bytes, none of them `/` or 0), or an object's.
+/// A file's name (1 to [`crate::MAX_NAME`] bytes, none of them `/` or 0), or an object's.
 pub type Name = Sequence<u8>;
 
-/// A path as its bytes, at most 4,096 of them where it is walked.
+/// A path as its bytes, at most [`crate::MAX_PATH`] of them where it is walked.
 pub type Path = Sequence<u8>;
 
 /// Text in UTF-8, as a volume's name, a bucket or a place.

@@ -45,25 +45,25 @@ pub enum Fault {
     DirectoryNotEmpty,
     /// EINVAL: a path, a kind of node or a range that the operation doesn't take.
     Invalid,
-    /// ENAMETOOLONG: a name of over 255 bytes, or a path or target of over 4,096.
+    /// ENAMETOOLONG: a name of over [`crate::MAX_NAME`] bytes, or a path or target of over [`crate::MAX_PATH`].
     NameTooLong,
     /// EBADF: the handle isn't open.
     BadHandle,
     /// ENOSPC: a limit of the volume, or a stored count at its greatest number.
     NoSpace,
-    /// EFBIG: a position past 2^40.
+    /// EFBIG: a write, a length or a copy would end past [`crate::FILE_END`].
     FileTooLarge,
-    /// ELOOP: over 40 symlinks in one walk.
+    /// ELOOP: over [`crate::MAX_SYMLINKS`] symlinks in one walk.
     SymlinkLoop,
     /// EPERM: an operation that isn't done on directories, or in the trash.
     NotPermitted,
-    /// EMFILE: 1,024 handles are open.
+    /// EMFILE: [`crate::MAX_HANDLES`] handles are open.
     TooManyHandles,
     /// EAGAIN: bytes of that Commit (0: from before the run) are still staged at another client.
     TryAgain { commit: u64 },
     /// ESTALE: the session or the inode is gone.
     Stale(Gone),
-    /// ETIMEDOUT: an upload's commit came 3,600 seconds after its start, or later.
+    /// ETIMEDOUT: an upload's commit came [`crate::lifetimes::UPLOAD_LIFE`] seconds after its start, or later.
     /// Both moments are in seconds.
     TimedOut { started: u64, now: u64 },
     /// EBUSY: the operation gave way to others.

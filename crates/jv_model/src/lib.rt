@@ -1,5 +1,5 @@
 //! The words that all crates of `juicevol` share: plain types, the journal, and in `specs/` the definitions
-//! that every contract cites.
+//! that the contracts of all crates share.
 #![tactic(auto)]
 
 mod act;

@@ -140,7 +140,7 @@ pub enum Op {
         path: Path,
         window: u32,
     },
-    /// Removes what is due: stale sessions, files of the trash, dead slices.
+    /// Removes what is due: stale sessions, entries of the trash, the rows of files that are gone, dead slices.
     Clean,
     /// Lists objects that nothing names, and removes them if `delete` says so (JuiceFS, Command Reference: `gc`).
     Gc {

@@ -6,7 +6,7 @@ pub const MAX_NUMBER: u64 = 18_446_744_073_709_551_615;
 /// The greatest number of a script where a row has 32 bits for it: a window, a user or a group.
 pub const MAX_SHORT_NUMBER: u32 = 4_294_967_295;
 
-/// The most digits of a number among the words of a command.
+/// The most digits of a number among the words of a command, but for a seed.
 pub const MAX_DIGITS: usize = 19;
 
 /// The largest cache of a client, in MiB.

@@ -1,6 +1,6 @@
 //! What a client has to know of an operation before its first step.
 ghost use Rattle.std.specs.Prelude.{◌≡◌};
-ghost use Rattle.jv_model.specs.client.Profile.{profile, mounted, unmounted, flushing_all, opening, on_file, on_files, read_does, write_profile};
+ghost use Rattle.jv_model.specs.client.Profile.{profile, of_mounted, of_any_client, flushing_all, opening, on_file, on_files, read_does, write_profile};
 
 use crate::limits::FILE_END;
 use crate::op::Op;
@@ -67,7 +67,8 @@ pub struct Profile {
     pub handles: Handles,
     /// Whether it opens a handle.
     pub opens: bool,
-    /// The position behind the last byte that it writes, 0 where it writes none.
+    /// Of a write its offset and its number of bytes together, which is the position behind its last byte if it has one; 0 of
+    /// every other operation.
     pub end: u128,
     pub flushes: Flushes,
     pub does: Does,
@@ -89,7 +90,7 @@ impl Op {
         ensures { result ≡ profile self.now }
     {
         match self {
-            Op::Mount { writeback } => unmounted(Does::Mounts(*writeback)),
+            Op::Mount { writeback } => of_any_client(Does::Mounts(*writeback)),
             Op::Umount => flushing_all(),
             Op::Fstat { handle } => on_file(*handle, Does::Transacts),
             Op::Create { .. } | Op::Open { .. } => opening(),
@@ -107,11 +108,11 @@ impl Op {
             } => write_profile(*handle, *offset, bytes.len() as u64),
             Op::Truncate { handle, .. } => on_file(*handle, Does::Truncates),
             Op::Copy { source, target, .. } => on_files(*source, *target),
-            Op::Compact { .. } => mounted(Does::Compacts),
-            Op::Clean => mounted(Does::Cleans),
-            Op::Gc { delete } => mounted(Does::Collects(*delete)),
-            Op::Upload => unmounted(Does::Uploads),
-            Op::Stats => mounted(Does::Answers(Answer::CacheStats)),
+            Op::Compact { .. } => of_mounted(Does::Compacts),
+            Op::Clean => of_mounted(Does::Cleans),
+            Op::Gc { delete } => of_mounted(Does::Collects(*delete)),
+            Op::Upload => of_any_client(Does::Uploads),
+            Op::Stats => of_mounted(Does::Answers(Answer::CacheStats)),
             Op::Beat
             | Op::Lookup { .. }
             | Op::Stat { .. }
@@ -133,8 +134,8 @@ impl Op {
 }
 
 /// An operation of a mounted client.
-fn mounted(does: Does) -> Profile
-    ensures { result ≡ mounted does }
+fn of_mounted(does: Does) -> Profile
+    ensures { result ≡ of_mounted does }
 {
     Profile {
         does,
@@ -143,8 +144,8 @@ fn mounted(does: Does) -> Profile
 }
 
 /// An operation of any client, mounted or not.
-fn unmounted(does: Does) -> Profile
-    ensures { result ≡ unmounted does }
+fn of_any_client(does: Does) -> Profile
+    ensures { result ≡ of_any_client does }
 {
     Profile {
         needs_mount: false,

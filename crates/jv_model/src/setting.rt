@@ -8,19 +8,20 @@ use std::alloc::{AllocError, Global};
 pub struct Setting {
     /// The version of the rows.
     pub version: u32,
-    /// The length of a block in bytes, a power of two from 65,536 to 16,777,216.
+    /// The length of a block in bytes, a power of two from [`crate::MIN_BLOCK`] to
+    /// [`crate::MAX_BLOCK`].
     pub block: u32,
     /// Days that a removed file stays in the trash; 0 turns the trash off.
     pub trash_days: u32,
-    /// The greatest used space in GiB; 0 stands for 2^62 bytes.
+    /// The greatest used space in GiB; 0 stands for [`crate::FULL_COUNT`] bytes.
     pub capacity: u64,
-    /// The greatest number of used inodes; 0 stands for 2^62.
+    /// The greatest number of used inodes; 0 stands for [`crate::FULL_COUNT`].
     pub inodes: u64,
     /// 1 where object names have the hash prefix, else 0.
     pub hash: u8,
     /// The volume's name, [`crate::MIN_VOLUME_NAME`] to [`crate::MAX_VOLUME_NAME`] bytes.
     pub name: Text,
-    /// Where the objects lie, 1 to 1,024 bytes.
+    /// Where the objects lie, 1 to [`crate::MAX_BUCKET`] bytes.
     pub bucket: Text,
 }
 

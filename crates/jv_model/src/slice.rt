@@ -1,4 +1,4 @@
-//! Records of a chunk's list, the pieces that a reader sees, and blocks.
+//! Records of a window's list, the pieces that a reader sees, and blocks.
 use crate::basics::Moment;
 use crate::bytes::Name;
 use crate::sequence::Sequence;

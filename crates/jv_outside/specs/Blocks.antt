@@ -17,7 +17,9 @@ abbrev pub staged_cmp : ℕ × List ℕ → ℕ × List ℕ → Ordering
 staged_cmp x y = ordering_then (nat_cmp x.0 y.0) (slice_cmp nat_cmp x.1 y.1)
 
 pub staged_cmp_total : IsTotalOrder staged_cmp
-staged_cmp_total = then_total (on_total (λ (k : ℕ × List ℕ). k.0) nat_cmp_total) (on_total (λ (k : ℕ × List ℕ). k.1) nat_list_cmp_total)
+staged_cmp_total =
+    then_total (on_total (λ (k : ℕ × List ℕ). k.0) nat_cmp_total)
+    (on_total (λ (k : ℕ × List ℕ). k.1) nat_list_cmp_total)
 
 -- only equal keys tie
 pub staged_cmp_same : (x y : ℕ × List ℕ) → staged_cmp x y ≡ Equal → x ≡ y
@@ -30,7 +32,8 @@ staged_cmp_same x y h =
 abbrev pub staged_key : KeyOrder (ℕ × List ℕ)
 staged_key = record { cmp = staged_cmp; total = staged_cmp_total; same = staged_cmp_same }
 
--- staged blocks: the bytes at each client and name, in the order of the clients, and then of the names' bytes
+-- staged blocks: the bytes at each client and name, in the order of the clients, and then of the
+-- names' bytes
 abbrev pub StagedMap : Type 0
 StagedMap = Map staged_key (List ℕ)
 
@@ -60,7 +63,9 @@ staging client name bytes blocks = insert blocks (client, name) bytes
 abbrev pub unstaged : ℕ → List ℕ → StagedMap → StagedMap
 unstaged client name blocks = remove blocks (client, name)
 
--- the names of a client's first `count` blocks after a name, or from its first on, in the order of their names
+-- the names of a client's first `count` blocks after a name, or from its first on, in the order of
+-- their names
 abbrev pub names_after : ℕ → Option (List ℕ) → ℕ → StagedMap → List (List ℕ)
 names_after client last count blocks =
-    take count (map (λ block. block.0.1) (filter (λ block. (block.0.0 == client) && is_later last block.0.1) blocks.list))
+    take count (map (λ block. block.0.1) (filter (λ block. (block.0.0 == client)
+    && is_later last block.0.1) blocks.list))

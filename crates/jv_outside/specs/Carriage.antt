@@ -27,5 +27,6 @@ Moves before after (Err down) place = FailsToCarry before after down
 
 -- sending bytes under a name, at a moment, by the result
 abbrev pub Sends : Carriage → Carriage → Result Parcel Down → List ℕ → List ℕ → ℕ → Type 0
-Sends before after (Ok parcel) name bytes now = IsAt before after before.opened × StandsFor parcel name bytes now
+Sends before after (Ok parcel) name bytes now =
+    IsAt before after before.opened × StandsFor parcel name bytes now
 Sends before after (Err down) name bytes now = FailsToCarry before after down

@@ -4,14 +4,16 @@ use Rattle.std.specs.Option.{option_map}
 use Rattle.jv_model.specs.declared.fault.Down.{Down}
 use Rattle.jv_outside.specs.Causes.{IsCaused}
 
--- the content, where it is known; the place where the device was opened last, if it was; and how many calls failed
+-- the content, where it is known; the place where the device was opened last, if it was; and how
+-- many calls failed
 pub record Holding (M : Type 0) : Type 0 where
   pub content : Option M
   pub opened : Option (List ℕ)
   pub faults : ℕ
 
 -- these are the content and the place, and no call failed since
-pub record Becomes {M : Type 0} (before after : Holding M) (content : Option M) (opened : Option (List ℕ)) : Type 0 where
+pub record Becomes {M : Type 0} (before after : Holding M) (content : Option M)
+    (opened : Option (List ℕ)) : Type 0 where
   pub content_is : after.content ≡ content
   pub opened_at : after.opened ≡ opened
   pub calm : after.faults ≡ before.faults
@@ -23,17 +25,21 @@ pub record FailsToHold {M : Type 0} (before after : Holding M) (down : Down) : T
   pub cause : IsCaused before.faults after.faults down
 
 -- opening the device at a place, by the result
-abbrev pub Attaches : {M : Type 0} → Holding M → Holding M → Result (Unit {0}) Down → List ℕ → Type 0
+abbrev pub Attaches : {M : Type 0} → Holding M → Holding M → Result (Unit {0}) Down → List ℕ
+    → Type 0
 Attaches before after (Ok unit) place = Becomes before after before.content (Some place)
 Attaches before after (Err down) place = FailsToHold before after down
 
 -- asking what the content has, by the result
 abbrev pub Answers : {M X : Type 0} → Holding M → Holding M → Result X Down → (M → X) → Type 0
 Answers before after (Ok value) asked =
-    Becomes before after before.content before.opened × IfSome before.content (λ content. value ≡ asked content)
+    Becomes before after before.content before.opened
+    × IfSome before.content (λ content. value ≡ asked content)
 Answers before after (Err down) asked = FailsToHold before after down
 
 -- changing the content, by the result
-abbrev pub Changes : {M : Type 0} → Holding M → Holding M → Result (Unit {0}) Down → (M → M) → Type 0
-Changes before after (Ok unit) change = Becomes before after (option_map change before.content) before.opened
+abbrev pub Changes : {M : Type 0} → Holding M → Holding M → Result (Unit {0}) Down → (M → M)
+    → Type 0
+Changes before after (Ok unit) change =
+    Becomes before after (option_map change before.content) before.opened
 Changes before after (Err down) change = FailsToHold before after down

@@ -74,19 +74,23 @@ abbrev pub ticks_at : ℕ → ℕ → Ticks
 ticks_at at faults = record { answers = Some (λ _. at); faults = faults }
 
 abbrev pub store_of : KeeperValue → Store
-store_of keeper = record { rows = Some keeper.rows; opened = keeper.opened; faults = keeper.calls.faults }
+store_of keeper =
+    record { rows = Some keeper.rows; opened = keeper.opened; faults = keeper.calls.faults }
 
 abbrev pub never_failing_store : OpenedRows → Store
 never_failing_store keeper = record { rows = Some keeper.rows; opened = keeper.opened; faults = 0 }
 
 abbrev pub holding_of : {M : Type 0} → DeviceValue M → Holding M
-holding_of device = record { content = Some device.content; opened = device.opened; faults = device.calls.faults }
+holding_of device =
+    record { content = Some device.content; opened = device.opened; faults = device.calls.faults }
 
 abbrev pub faulted_holding : {M : Type 0} → FaultedContent M → Holding M
-faulted_holding device = record { content = Some device.content; opened = device.opened; faults = device.faults }
+faulted_holding device =
+    record { content = Some device.content; opened = device.opened; faults = device.faults }
 
 abbrev pub never_failing_holding : {M : Type 0} → OpenedContent M → Holding M
-never_failing_holding device = record { content = Some device.content; opened = device.opened; faults = 0 }
+never_failing_holding device =
+    record { content = Some device.content; opened = device.opened; faults = 0 }
 
 abbrev pub carriage_of : CarrierValue → Carriage
 carriage_of carrier = record { opened = carrier.opened; faults = carrier.calls.faults }
@@ -103,19 +107,23 @@ At-numbers (At numbers) = refl
 -- calls are stored as their counts and the numbers of those that are to fail
 abbrev pub calls_code : Coded CallsValue
 calls_code =
-    code_by ((ℕ × ℕ) × List ℕ) (coded× (coded× coded_ℕ coded_ℕ) (coded_list coded_ℕ)) (λ c. ((c.made, c.faults), numbers_of c.fails))
-    (λ p. record { made = p.0.0; fails = At p.1; faults = p.0.1 }) (λ c i. record c { fails = At-numbers c.fails i })
+    code_by ((ℕ × ℕ) × List ℕ) (coded× (coded× coded_ℕ coded_ℕ) (coded_list coded_ℕ))
+    (λ c. ((c.made, c.faults), numbers_of c.fails))
+    (λ p. record { made = p.0.0; fails = At p.1; faults = p.0.1 })
+    (λ c i. record c { fails = At-numbers c.fails i })
 
 abbrev pub opened_code : Coded (RowMap × Option (List ℕ))
 opened_code = coded× row_map_code (coded_option (coded_list coded_ℕ))
 
 abbrev pub opened_rows_code : Coded OpenedRows
 opened_rows_code =
-    code_by (RowMap × Option (List ℕ)) opened_code (λ k. (k.rows, k.opened)) (λ p. record { rows = p.0; opened = p.1 }) (λ _. refl)
+    code_by (RowMap × Option (List ℕ)) opened_code (λ k. (k.rows, k.opened))
+    (λ p. record { rows = p.0; opened = p.1 }) (λ _. refl)
 
 abbrev pub keeper_code : Coded KeeperValue
 keeper_code =
-    code_by ((RowMap × Option (List ℕ)) × CallsValue) (coded× opened_code calls_code) (λ k. ((k.rows, k.opened), k.calls))
+    code_by ((RowMap × Option (List ℕ)) × CallsValue) (coded× opened_code calls_code)
+    (λ k. ((k.rows, k.opened), k.calls))
     (λ p. record { rows = p.0.0; opened = p.0.1; calls = p.1 }) (λ _. refl)
 
 abbrev pub place_code : Coded (Option (List ℕ))
@@ -123,18 +131,22 @@ place_code = coded_option (coded_list coded_ℕ)
 
 abbrev pub device_code : {M : Type 0} → Coded M → Coded (DeviceValue M)
 device_code {M} content =
-    code_by ((M × Option (List ℕ)) × CallsValue) (coded× (coded× content place_code) calls_code) (λ d. ((d.content, d.opened), d.calls))
+    code_by ((M × Option (List ℕ)) × CallsValue) (coded× (coded× content place_code) calls_code)
+    (λ d. ((d.content, d.opened), d.calls))
     (λ p. record { content = p.0.0; opened = p.0.1; calls = p.1 }) (λ _. refl)
 
 abbrev pub faulted_content_code : {M : Type 0} → Coded M → Coded (FaultedContent M)
 faulted_content_code {M} content =
-    code_by ((M × Option (List ℕ)) × ℕ) (coded× (coded× content place_code) coded_ℕ) (λ d. ((d.content, d.opened), d.faults))
+    code_by ((M × Option (List ℕ)) × ℕ) (coded× (coded× content place_code) coded_ℕ)
+    (λ d. ((d.content, d.opened), d.faults))
     (λ p. record { content = p.0.0; opened = p.0.1; faults = p.1 }) (λ _. refl)
 
 abbrev pub opened_content_code : {M : Type 0} → Coded M → Coded (OpenedContent M)
 opened_content_code {M} content =
-    code_by (M × Option (List ℕ)) (coded× content place_code) (λ d. (d.content, d.opened)) (λ p. record { content = p.0; opened = p.1 }) (λ _. refl)
+    code_by (M × Option (List ℕ)) (coded× content place_code) (λ d. (d.content, d.opened))
+    (λ p. record { content = p.0; opened = p.1 }) (λ _. refl)
 
 abbrev pub carrier_code : Coded CarrierValue
 carrier_code =
-    code_by (Option (List ℕ) × CallsValue) (coded× place_code calls_code) (λ c. (c.opened, c.calls)) (λ p. record { opened = p.0; calls = p.1 }) (λ _. refl)
+    code_by (Option (List ℕ) × CallsValue) (coded× place_code calls_code) (λ c. (c.opened, c.calls))
+    (λ p. record { opened = p.0; calls = p.1 }) (λ _. refl)

@@ -12,8 +12,11 @@ module _ {K V : Type 0} where
 
   -- with this value at a key, or with none there, and at other keys as before
   abbrev pub Alters : (K → K → Ordering) → K → Option V → List (K × V) → List (K × V) → Type 0
-  Alters cmp key value before after = (other : K) → lookup (is_at (cmp other)) after ≡ cond (is_at (cmp key) other) value (lookup (is_at (cmp other)) before)
+  Alters cmp key value before after = (other : K)
+      → lookup (is_at (cmp other)) after ≡ cond (is_at (cmp key) other) value
+      (lookup (is_at (cmp other)) before)
 
   -- at each key as before
   abbrev pub IsLike : (K → K → Ordering) → List (K × V) → List (K × V) → Type 0
-  IsLike cmp before after = (key : K) → lookup (is_at (cmp key)) after ≡ lookup (is_at (cmp key)) before
+  IsLike cmp before after =
+      (key : K) → lookup (is_at (cmp key)) after ≡ lookup (is_at (cmp key)) before

@@ -53,16 +53,20 @@ as_seen object = record { name = object.0; size = length object.1.0; at = object
 
 -- the first `count` objects after a name, or from the first on, in the order of their names
 abbrev pub seen_after : Option (List ℕ) → ℕ → ObjectMap → List Seen
-seen_after last count objects = take count (map as_seen (filter (λ object. is_later last object.0) objects.list))
+seen_after last count objects =
+    take count (map as_seen (filter (λ object. is_later last object.0) objects.list))
 
--- The parcel's bytes and moment are at its name, and no call failed since. A depot whose objects are known knows the
--- bytes, so it publishes no parcel that may stand for any.
+-- The parcel's bytes and moment are at its name, and no call failed since. A depot whose objects
+-- are known knows the bytes, so it publishes no parcel that may stand for any.
 pub record IsPublished (before after : Holding ObjectMap) (parcel : Parcel) : Type 0 where
-  pub content_is : (bytes : List ℕ) → Carries parcel.load bytes → after.content ≡ option_map (with_object parcel.name bytes parcel.at) before.content
+  pub content_is : (bytes : List ℕ) → Carries parcel.load bytes
+      → after.content ≡ option_map (with_object parcel.name bytes parcel.at) before.content
   pub opened_at : after.opened ≡ before.opened
   pub calm : after.faults ≡ before.faults
 
 -- publishing a parcel, by the result
-abbrev pub Publishes : Holding ObjectMap → Holding ObjectMap → Result (Unit {0}) (Parcel × Down) → Parcel → Type 0
+abbrev pub Publishes : Holding ObjectMap → Holding ObjectMap → Result (Unit {0}) (Parcel × Down)
+    → Parcel → Type 0
 Publishes before after (Ok unit) parcel = IsPublished before after parcel
-Publishes before after (Err refused) parcel = (refused.0 ≡ parcel) × FailsToHold before after refused.1
+Publishes before after (Err refused) parcel =
+    (refused.0 ≡ parcel) × FailsToHold before after refused.1

@@ -5,7 +5,8 @@ use Rattle.jv_outside.specs.declared.parcel.Load.{Load}
 use Rattle.jv_outside.specs.declared.parcel.Load.TheVariants.{Held, Placed}
 use Rattle.jv_outside.specs.declared.parcel.Parcel.{Parcel}
 
--- A load that holds bytes carries those alone. What a file has isn't known: a load that names one may carry any.
+-- A load that holds bytes carries those alone. What a file has isn't known: a load that names one
+-- may carry any.
 abbrev pub Carries : Load → List ℕ → Type 0
 Carries (Held held) bytes = held ≡ bytes
 Carries (Placed place) bytes = Unit {0}

@@ -22,6 +22,7 @@ abbrev pub is_after : ℕ → Option RowKey → RowKey → Bool
 is_after tab None key = key.tab == tab
 is_after tab (Some last) key = key.tab == tab && is_lt (row_cmp last key)
 
--- the first `count` rows of a table after a key, or from the table's first on, in the order of their keys
+-- the first `count` rows of a table after a key, or from the table's first on, in the order of
+-- their keys
 abbrev pub rows_after : RowMap → ℕ → Option RowKey → ℕ → List (RowKey × List ℕ)
 rows_after rows tab last count = take count (filter (λ row. is_after tab last row.0) rows.list)

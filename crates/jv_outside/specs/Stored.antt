@@ -9,7 +9,8 @@ use Rattle.jv_outside.specs.declared.store.RowStore.{RowStore}
 use Rattle.jv_outside.specs.LazyTrees.{entries_in}
 use Rattle.jv_outside.specs.Rows.{applied}
 
--- the rows: those in the tree, before them those that aren't there yet, and on both the changes that wait
+-- the rows: those in the tree, before them those that aren't there yet, and on both the changes
+-- that wait
 abbrev pub stored : RowStore → RowMap
 stored store = applied store.waiting.items (row_map (store.listed.items ++ entries_in store.tree))
 
@@ -21,4 +22,5 @@ pub record IsSettled (store : RowStore) : Type 0 where
 -- where a scan of a table begins: at its least key, or after a key that isn't before that
 abbrev pub scan_start : RowKey → Option RowKey → Bound RowKey
 scan_start first None = Included first
-scan_start first (Some last) = (if is_le (row_cmp first last) then Excluded last else Included first)
+scan_start first (Some last) =
+    (if is_le (row_cmp first last) then Excluded last else Included first)

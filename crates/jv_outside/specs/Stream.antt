@@ -5,8 +5,8 @@ use Rattle.jv_model.specs.declared.fault.Down.{Down}
 use Rattle.jv_model.specs.declared.fault.Down.TheVariants.{Failed}
 use Rattle.jv_outside.specs.Causes.{Rose, HasFailed}
 
--- The bytes left of a source, or taken by a sink, where they are known; and how many calls failed. A sink's bytes may
--- become unknown, and then stay so.
+-- The bytes left of a source, or taken by a sink, where they are known; and how many calls failed.
+-- A sink's bytes may become unknown, and then stay so.
 pub record Stream : Type 0 where
   pub content : Option (List ℕ)
   pub faults : ℕ
@@ -15,7 +15,8 @@ pub record Stream : Type 0 where
 pub record Gains (before after : Option (List ℕ)) (gained : List ℕ) : Type 0 where
   pub known : IfSome after (λ new. IsSomeAnd before (λ old. new ≡ old ++ gained))
 
--- `count` bytes were read from the first of those left, and none only at the end or where there was no room
+-- `count` bytes were read from the first of those left, and none only at the end or where there was
+-- no room
 pub record HasRead (before after : Stream) (count : ℕ) (into : List ℕ) : Type 0 where
   pub within : count ≤ length into
   pub bytes : Consumes before.content after.content (take count into)

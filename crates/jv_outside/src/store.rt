@@ -10,6 +10,7 @@ ghost use Rattle.jv_outside.specs.Stored.{stored, IsSettled, scan_start};
 
 use crate::batch::{Batch, Change};
 use crate::lazy_tree::LazyTree;
+use jv_model::tables::RECORD_LENGTH;
 use jv_model::{Bytes, RowKey, Rows, Sequence, copied, push_in_room};
 use std::alloc::{AllocError, Global};
 use std::collections::VecDeque;
@@ -47,7 +48,7 @@ impl RowStore {
     {
         self.settle()?;
         match self.tree.get(key) {
-            Some(bytes) => Ok(Some(copied(self.alloc, bytes.as_slice())?)),
+            Some(bytes) => Ok(Some(copied_with_room(self.alloc, bytes.as_slice())?)),
             None => Ok(None),
         }
     }
@@ -199,4 +200,13 @@ fn copied_change(alloc: Global, change: &Change) -> Result<Change, AllocError>
         }
         Change::Del(key) => Change::Del(key.copied(alloc)?),
     })
+}
+
+/// A copy of a row's bytes with room for a record more: what a list gets behind it needs no other place.
+fn copied_with_room(alloc: Global, bytes: &[u8]) -> Result<Bytes, AllocError>
+    ensures { IfOk result (λ copy. copy ≡ bytes.now) }
+{
+    let mut copy = Vec::with_capacity(alloc, bytes.len().saturating_add(RECORD_LENGTH))?;
+    copy.extend_from_slice(bytes)?;
+    Ok(Sequence::from_vec(copy))
 }

@@ -31,7 +31,8 @@ bytes_at s = lookup (is_at (start_cmp s))
 -- bytes in a row from a position on
 abbrev pub placed : ℕ → ℕ → List ℕ → List PendingByte
 placed inode from [] = []
-placed inode from (b ∷ bs) = record { inode = inode; position = from; byte = b } ∷ placed inode (from + 1) bs
+placed inode from (b ∷ bs) =
+    record { inode = inode; position = from; byte = b } ∷ placed inode (from + 1) bs
 
 -- the bytes of runs
 abbrev pub pending_bytes : List Run → List PendingByte
@@ -93,7 +94,8 @@ first_place n (r ∷ rs) = start_place r
 
 -- these runs in the place of those that begin from their first one on and before a place
 abbrev pub with_runs : List Run → ℕ → List Run → List Run
-with_runs fresh high runs = runs_before (first_place high fresh) runs ++ (fresh ++ runs_from high runs)
+with_runs fresh high runs =
+    runs_before (first_place high fresh) runs ++ (fresh ++ runs_from high runs)
 
 -- the others than the run at a start
 abbrev pub without_run : RunStart → List Run → List Run
@@ -110,7 +112,8 @@ pub record IsCut (inode from : ℕ) (bytes : List ℕ) (runs : List Run) : Type 
   pub order : InOrder (place inode from - gap from) runs
   pub ends : end_after (place inode from) runs ≡ place inode (from + length bytes)
 
--- what a write from a position on leaves of the runs that it overlaps or touches: the bytes before it
+-- what a write from a position on leaves of the runs that it overlaps or touches: the bytes before
+-- it
 abbrev pub head_of : ℕ → List Run → List ℕ
 head_of from [] = []
 head_of from (r ∷ rs) = take (from - r.0.from) r.1
@@ -144,13 +147,16 @@ abbrev pub Reaches : ℕ → List Run → Type 0
 Reaches from [] = Unit {0}
 Reaches from (r ∷ rs) = from + 1 ≤ end_of_run r + gap from
 
--- the run at `first` overlaps or touches what begins at a position, or `first` is its start, and no run before it does
+-- the run at `first` overlaps or touches what begins at a position, or `first` is its start, and no
+-- run before it does
 pub record IsFirst (inode from : ℕ) (runs : List Run) (first : RunStart) : Type 0 where
   pub inode_is : first.inode ≡ inode
   pub from_is : first.from ≤ from
   pub before : EndBy (place inode from - gap from) (runs_before (place_of first) runs)
-  pub reached : IfSome (first_item (runs_from (place_of first) runs)) (λ r. r.0.inode ≡ inode → from + 1 ≤ end_of_run r + gap from)
-  pub begins : (first.from < from → IsSomeAnd (first_item (runs_from (place_of first) runs)) (λ r. r.0 ≡ first))
+  pub reached : IfSome (first_item (runs_from (place_of first) runs))
+      (λ r. r.0.inode ≡ inode → from + 1 ≤ end_of_run r + gap from)
+  pub begins : (first.from < from
+      → IsSomeAnd (first_item (runs_from (place_of first) runs)) (λ r. r.0 ≡ first))
 
 -- the runs from `first` on and before `end` are those that a write overlaps or touches in a window
 pub record IsTouched (inode from to : ℕ) (runs : List Run) (first end : RunStart) : Type 0 where
@@ -170,37 +176,45 @@ joined_behind at run bytes more = take at run ++ (bytes ++ (drop (at + length by
 
 -- a run that was taken out of its place, back in it, or the place gone where it was new
 abbrev pub given_back : RunStart → Bool → List ℕ → List Run → List Run
-given_back s is_new bytes runs = if is_new then without_run s runs else with_runs ((s, bytes) ∷ []) (place_of s + 1) runs
+given_back s is_new bytes runs =
+    if is_new then without_run s runs else with_runs ((s, bytes) ∷ []) (place_of s + 1) runs
 
--- the last run before `end` begins behind `first`, and more than `count` of its bytes lie behind a position
-pub record IsLonger (first end : RunStart) (to count : ℕ) (runs : List Run) (last : RunStart) : Type 0 where
+-- the last run before `end` begins behind `first`, and more than `count` of its bytes lie behind a
+-- position
+pub record IsLonger (first end : RunStart) (to count : ℕ) (runs : List Run)
+    (last : RunStart) : Type 0 where
   pub bytes : List ℕ
   pub is_last : Some (last, bytes) ≡ last_item (runs_before (place_of end) runs)
   pub behind : place_of first < place_of last
   pub from : last.from ≤ to
   pub longer : count + (to - last.from) < length bytes
 
--- the run at `first` overlaps or touches what begins at a position, or `first` is its start, and the runs from there on are
--- in order
+-- the run at `first` overlaps or touches what begins at a position, or `first` is its start, and
+-- the runs from there on are in order
 pub record Starts (from : ℕ) (runs : List Run) (first : RunStart) : Type 0 where
   pub order : InOrder (place_of first - gap first.from) (runs_from (place_of first) runs)
   pub touches : IsFirst first.inode from (runs_from (place_of first) runs) first
 
--- the run at `first` is the only one that a write of `count` bytes overlaps or touches, and the write stays in one window
+-- the run at `first` is the only one that a write of `count` bytes overlaps or touches, and the
+-- write stays in one window
 pub record IsOnly (from count : ℕ) (runs : List Run) (first : RunStart) : Type 0 where
   pub is_first : IsFirst first.inode from runs first
   pub there : IsSome (bytes_at first runs)
-  pub alone : runs_within (place_of first + 1) (place first.inode (from + count + gap (from + count))) runs ≡ []
+  pub alone : runs_within (place_of first + 1)
+      (place first.inode (from + count + gap (from + count))) runs ≡ []
   pub in_window : from % WINDOW + count ≤ WINDOW
 
 -- the runs from `first` on are those with the bytes written, and the runs before it stay
 pub record Writes (from : ℕ) (bytes : List ℕ) (first : RunStart) (old new : List Run) : Type 0 where
   pub before : runs_before (place_of first) new ≡ runs_before (place_of first) old
   pub order : InOrder (place_of first - gap first.from) (runs_from (place_of first) new)
-  pub same : pending_bytes (runs_from (place_of first) new) ≡ written first.inode from bytes (pending_bytes (runs_from (place_of first) old))
+  pub same : pending_bytes (runs_from (place_of first) new) ≡ written first.inode from bytes
+      (pending_bytes (runs_from (place_of first) old))
 
 -- the touched runs give way to the bytes of the write joined with theirs
-pub record Rewrites (inode from : ℕ) (bytes : List ℕ) (first end : RunStart) (old new : List Run) : Type 0 where
+pub record Rewrites (inode from : ℕ) (bytes : List ℕ) (first end : RunStart)
+    (old new : List Run) : Type 0 where
   pub fresh : List Run
-  pub cut : IsCut inode (joined_from from (runs_within (place_of first) (place_of end) old)) (joined from bytes (runs_within (place_of first) (place_of end) old)) fresh
+  pub cut : IsCut inode (joined_from from (runs_within (place_of first) (place_of end) old))
+      (joined from bytes (runs_within (place_of first) (place_of end) old)) fresh
   pub same : new ≡ runs_before (place_of first) old ++ (fresh ++ runs_from (place_of end) old)

@@ -6,7 +6,7 @@
 ghost use Rattle.std.specs.Prelude.{◌≡◌, ℕ, ◌+◌, ◌*◌, ◌<◌, ◌≤◌, ◌↔◌, [], length, Some, OnOk, OnErr, IfSome, IsErrOf, IsOk, IsOkUnless, IsTrue};
 ghost use Rattle.std.specs.Option.{option_map};
 ghost use Rattle.jv_model.specs.declared.limits.TheConstants.{FILE_END, WINDOW};
-ghost use Rattle.jv_model.specs.client.Pending.{written, next_segment, bytes_in_range, without_range, pending_of, pending_of_others, end_of, is_rising};
+ghost use Rattle.jv_model.specs.client.Pending.{written, first_segment_of, bytes_in_range, without_range, pending_of, pending_of_others, end_of, is_rising};
 ghost use Rattle.jv_pending.specs.At.{segment_at};
 
 use crate::run::{RunStart, Runs, find_end, find_first};
@@ -110,9 +110,9 @@ impl Pending {
 
     /// The least segment by inode and position, of that inode alone where one is given.
     pub fn first(&self, inode: Option<u64>) -> Option<SegmentAt>
-        ensures least { option_map segment_at result ≡ next_segment inode self.now.bytes }
+        ensures least { option_map segment_at result ≡ first_segment_of inode self.now.bytes }
         ensures own { IfSome result (λ at.
-            next_segment (Some at.inode) self.now.bytes ≡ Some (segment_at at)) }
+            first_segment_of (Some at.inode) self.now.bytes ≡ Some (segment_at at)) }
         ensures some { IfSome result (λ at. 0 < at.len) }
         ensures inside { IfSome result (λ at. at.pos + at.len ≤ WINDOW) }
         ensures ends { IfSome result (λ at.
@@ -124,7 +124,7 @@ impl Pending {
 
     /// The bytes of a segment that is the first one of its inode.
     pub fn segment(&self, at: SegmentAt) -> &[u8]
-        requires { next_segment (Some at.inode) self.now.bytes ≡ Some (segment_at at) }
+        requires { first_segment_of (Some at.inode) self.now.bytes ≡ Some (segment_at at) }
         ensures bytes { result.now
             ≡ bytes_in_range at.inode (segment_at at).from at.len self.now.bytes }
         ensures len { length result.now ≡ at.len }
@@ -135,7 +135,7 @@ impl Pending {
 
     /// Takes out a segment that is the first one of its inode, and returns its bytes. Takes no memory.
     pub fn take(&mut self, at: SegmentAt) -> Bytes
-        requires { next_segment (Some at.inode) self.old.bytes ≡ Some (segment_at at) }
+        requires { first_segment_of (Some at.inode) self.old.bytes ≡ Some (segment_at at) }
         ensures bytes { result
             ≡ bytes_in_range at.inode (segment_at at).from at.len self.old.bytes }
         ensures rest { self.new ≡ record self.old {
@@ -150,7 +150,7 @@ impl Pending {
 
     /// Takes out a segment that is the first one of its inode. Takes no memory.
     pub fn remove(&mut self, at: SegmentAt)
-        requires { next_segment (Some at.inode) self.old.bytes ≡ Some (segment_at at) }
+        requires { first_segment_of (Some at.inode) self.old.bytes ≡ Some (segment_at at) }
         ensures rest { self.new ≡ record self.old {
           bytes = without_range at.inode (segment_at at).from at.len self.old.bytes;
         } }

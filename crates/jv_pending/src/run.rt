@@ -1,7 +1,7 @@
 //! Runs of pending bytes, and where to find them.
 ghost use Rattle.std.specs.Prelude.{◌≡◌, ℕ, ◌+◌, ◌*◌, ◌<◌, ◌≤◌, ◌^◌, ◌↔◌, length, Option, Some, None, IfSome, IsTrue};
 ghost use Rattle.std.specs.Option.{option_map};
-ghost use Rattle.jv_model.specs.client.Pending.{next_segment, end_of};
+ghost use Rattle.jv_model.specs.client.Pending.{first_segment_of, end_of};
 ghost use Rattle.jv_model.specs.Lists.{first_item, last_item};
 ghost use Rattle.jv_pending.specs.At.{segment_at};
 ghost use Rattle.jv_pending.specs.Runs.{place_of, end_of_run, segment_of_run, IsRun, InOrder, Rise, pending_bytes, runs_before, runs_from, runs_within};
@@ -114,9 +114,9 @@ pub(crate) fn count_bytes(runs: &Runs, first: RunStart, end: RunStart) -> u64
 pub(crate) fn find_first(runs: &Runs, inode: Option<u64>) -> Option<SegmentAt>
     requires { InOrder 0 runs.now.entries }
     ensures least { option_map segment_at result
-        ≡ next_segment inode (pending_bytes runs.now.entries) }
+        ≡ first_segment_of inode (pending_bytes runs.now.entries) }
     ensures own { IfSome result (λ at.
-        next_segment (Some at.inode) (pending_bytes runs.now.entries) ≡ Some (segment_at at)) }
+        first_segment_of (Some at.inode) (pending_bytes runs.now.entries) ≡ Some (segment_at at)) }
     ensures some { IfSome result (λ at. 0 < at.len) }
     ensures inside { IfSome result (λ at. at.pos + at.len ≤ WINDOW) }
     ensures file { IfSome result (λ at. at.window * WINDOW < FILE_END) }

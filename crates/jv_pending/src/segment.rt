@@ -4,11 +4,11 @@ use thiserror::Error;
 #[derive(Clone, Copy, Debug, PartialEq, Eq)]
 pub struct SegmentAt {
     pub inode: u64,
-    /// The window: the position divided by 67,108,864.
+    /// The window: the position divided by [`jv_model::WINDOW`].
     pub window: u32,
     /// The first position, in the window.
     pub pos: u32,
-    /// The number of positions, at most 67,108,864.
+    /// The number of positions, at most [`jv_model::WINDOW`].
     pub len: u32,
 }
 

@@ -1,4 +1,5 @@
--- Where the bytes of blocks are shown in a part of a window. Positions are counted from the part's first.
+-- Where the bytes of blocks are shown in a part of a window. Positions are counted from the part's
+-- first.
 use Rattle.std.specs.Prelude.{◌≡◌, ℕ, ◌+◌, ◌/◌, ◌%◌, ◌<◌, ◌≤◌, Bool, true, List, [], ◌∷◌, ◌++◌, if◌then◌else◌, Option, None, Some, All}
 use Rattle.std.specs.List.{filter_map, list_any}
 use Rattle.std.specs.Global.{Vec}
@@ -25,7 +26,8 @@ or_none (Some overlaps) = overlaps.items
 abbrev pub shown_of : BlockId → Shown → Option Overlap
 shown_of b shown = (if is_same_block shown.block b then Some shown.overlap else None)
 
--- the overlaps of a block: by a few, in their order, by many under their keys, by a table, and by a function
+-- the overlaps of a block: by a few, in their order, by many under their keys, by a table, and by a
+-- function
 abbrev pub overlaps_in : List Shown → BlockId → List Overlap
 overlaps_in few b = filter_map (shown_of b) few
 

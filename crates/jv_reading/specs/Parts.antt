@@ -7,7 +7,8 @@ use Rattle.jv_model.specs.declared.slice.Spot.TheVariants.{Zero, Slice}
 use Rattle.jv_model.specs.blocks.Slices.{block_at, block_count, stored_place}
 use Rattle.jv_contents.specs.Bytes.{KnownBytes, spot_byte}
 
--- the positions of a window from one to another, by its list; the length of blocks; the blocks that are left; the bytes so far
+-- the positions of a window from one to another, by its list; the length of blocks; the blocks that
+-- are left; the bytes so far
 pub record Part : Type 0 where
   pub list : List Rec
   pub from : ℕ

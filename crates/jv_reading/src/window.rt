@@ -40,7 +40,7 @@ impl Model for WindowRead {
 }
 
 impl WindowRead {
-    /// The positions of a window from `from` up to `to`, at most 67,108,864, by the window's list, over slices in
+    /// The positions of a window from `from` up to `to`, at most [`jv_model::WINDOW`], by the window's list, over slices in
     /// blocks of `block` bytes, at least 1. No block is filled in yet, and each byte is 0. Takes n log n time for n
     /// records and blocks. The only error is out of memory.
     pub fn new(

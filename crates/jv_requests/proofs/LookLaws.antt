@@ -21,7 +21,7 @@ use Rattle.jv_model.specs.FiniteMap.{get}
 use Rattle.jv_model.specs.rows.RowFaults.{row_fault}
 use Rattle.jv_model.specs.tree.Attempt.{◌>>=◌, require, some_or}
 use Rattle.jv_model.specs.tree.Tree.{Tree, Content, File, Directory, Symlink, Node as TreeNode, content_at}
-use Rattle.jv_model.specs.tree.Tree.{content_of, node_at}
+use Rattle.jv_model.specs.tree.Tree.{content_in, node_at}
 use Rattle.jv_model.specs.client.ModelClient.{ModelClient, OpenFile, Doing, Reading, session_of}
 use Rattle.jv_model.specs.client.Profile.{handle_of}
 use Rattle.jv_model.specs.journal.Reading.{asked_parts, reading}
@@ -89,19 +89,19 @@ module _ (sid inode : ℕ) (t : Tree) where
       by_both true (Some content) e f h = absurd (cc)
 
 -- a file that has bytes is there
-pub content-there : (o : Option TreeNode) (content : Content) → content_of o ≡ Some content → is_some o ≡ true
+pub content-there : (o : Option TreeNode) (content : Content) → content_in o ≡ Some content → is_some o ≡ true
 content-there None content e = absurd (cc)
 content-there (Some node) content e = refl
 
 -- a node that can only be a file, and has no bytes, is gone
-pub file-gone : (o : Option TreeNode) → (IsTrue (is_there (form_of o)) → form_of o ≡ Regular) → content_of o ≡ None
+pub file-gone : (o : Option TreeNode) → (IsTrue (is_there (form_of o)) → form_of o ≡ Regular) → content_in o ≡ None
     → o ≡ None
 file-gone None file none = refl
 file-gone (Some node) file none =
     elim node.kind as (λ kind.
     (IsTrue (is_there (form_of (Some (record node { kind = kind }))))
     → form_of (Some (record node { kind = kind })) ≡ Regular)
-    → content_of (Some (record node { kind = kind })) ≡ None → Some node ≡ None) [
+    → content_in (Some (record node { kind = kind })) ≡ None → Some node ≡ None) [
       | File content ↦ λ file none. absurd (cc none)
       | Directory parent ↦ λ file none. absurd (let is = file refl in cc is)
       | Symlink target ↦ λ file none. absurd (let is = file refl in cc is)

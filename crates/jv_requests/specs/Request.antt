@@ -22,15 +22,16 @@ pub record IsWithin (start : Start) (s : State) (rows : Rows) : Type 0 where
   pub numbers : next_slice rows ≤ start.next_slice + s.count
   pub records : record_count rows ≤ start.records + s.count + s.copied
 
--- A slice in flight is another one's, whose number isn't `mine`; it is neither the step's own nor the client's own
--- afterwards.
+-- A slice in flight is another one's, whose number isn't `mine`; it is neither the step's own nor
+-- the client's own afterwards.
 pub record IsApart (g : Known) (v : Shared) (mine own after : ℕ) : Type 0 where
   pub own_apart : (f : Flight) → Flies g v f → f.id ≢ mine → f.id ≢ own
   pub new_apart : (f : Flight) → Flies g v f → f.id ≢ mine → f.id ≢ after
 
--- The model allows these entries as a step, and they lead to this client, to this tree, to `copied` bytes copied in all,
--- and to devices that stand for the tree. Of what is known, of numbers, and of what other clients hold nothing is lost.
--- `mine` is the number of the client's slice in flight before the step, `after` that after it, and 0 stands for none.
+-- The model allows these entries as a step, and they lead to this client, to this tree, to `copied`
+-- bytes copied in all, and to devices that stand for the tree. Of what is known, of numbers, and of
+-- what other clients hold nothing is lost. `mine` is the number of the client's slice in flight
+-- before the step, `after` that after it, and 0 stands for none.
 pub record Request (s : State) (g learned : Known) (before v : Shared) (client now mine after : ℕ)
     (kinds : List ActKind) (step : Step) (t : Tree) (c : ModelClient) (copied : ℕ) : Type 0 where
   pub own : ℕ

@@ -1,12 +1,15 @@
 -- Reading records one after the other, as a loop does.
-use Rattle.std.proofs.Common.{◌≡◌, ℕ, suc, ◌-◌, ◌+◌, ◌≤◌, ◌<◌, List, [], ◌∷◌, ◌++◌, Option, Some, None, refl, sym, ap, ◌∙◌, append_assoc, arith}
-use Rattle.std.proofs.lemmas.List.{append-nil}
+use Rattle.std.proofs.Common.{◌≡◌, ℕ, suc, ◌-◌, ◌+◌, ◌≤◌, ◌<◌, List, [], ◌∷◌, ◌++◌, length, Option, Some, None, refl, sym, ap, subst, ◌∙◌, append_assoc, arith}
+use Rattle.std.specs.Int.{Width, w32, w64, byte_len}
+use Rattle.std.proofs.lemmas.List.{append-nil, length-drop}
 use Rattle.jv_model.specs.declared.slice.Rec.{Rec}
-use Rattle.jv_model.specs.rows.RowFields.{◌>>=◌}
+use Rattle.jv_model.specs.declared.tables.TheConstants.{RECORD_LENGTH}
+use Rattle.jv_model.specs.rows.RowFields.{◌>>=◌, number_at}
 use Rattle.jv_model.specs.rows.RowGrammar.{record_at, records_at}
 use Rattle.jv_rows.specs.declared.misread.Misread.{Misread}
 use Rattle.jv_rows.specs.declared.misread.Misread.TheVariants.{Malformed, Memory}
 use Rattle.jv_rows.specs.Reads.{Misses}
+use Rattle.jv_rows.proofs.FieldLaws.{number_is}
 
 -- what was read before, and what is still read
 abbrev pub with_front : List Rec → Option (List Rec × List ℕ) → Option (List Rec × List ℕ)
@@ -43,3 +46,29 @@ is_done front count i bytes total le so_far =
 -- pieces added one after another are one piece added
 pub five_pieces : (out a b c d e : List ℕ) → ((((out ++ a) ++ b) ++ c) ++ d) ++ e ≡ out ++ ((((a ++ b) ++ c) ++ d) ++ e)
 five_pieces out a b c d e = simp append_assoc
+
+-- ---- too few bytes
+
+-- a number in front leaves so many bytes, of which nothing more can be read
+short_number : {B : Type 0} (w : Width) (bytes : List ℕ) (next : ℕ × List ℕ → Option B)
+    → ((x : ℕ × List ℕ) → length x.1 + byte_len w ≡ length bytes → next x ≡ None) → (number_at w bytes >>= next) ≡ None
+short_number {B} w bytes next none = by_reading (number_at w bytes) refl
+  where
+    by_reading : (o : Option (ℕ × List ℕ)) → number_at w bytes ≡ o → (o >>= next) ≡ None
+    by_reading None e = refl
+    by_reading (Some x) e =
+        let g = number_is w bytes x e in
+        none x (subst (λ (p : ℕ × List ℕ). length p.1 + byte_len w ≡ length bytes) g.1 (omega (arith, length-drop (byte_len w) bytes, g.0)))
+
+pub no_record : (bytes : List ℕ) → length bytes < RECORD_LENGTH → record_at bytes ≡ None
+unfolding record_at
+no_record bytes short =
+    short_number w32 bytes _ λ pos p.
+    short_number w64 pos.1 _ λ id q.
+    short_number w32 id.1 _ λ size r.
+    short_number w32 size.1 _ λ off s.
+    short_number w32 off.1 _ λ len t.
+    absurd (too_many (length pos.1) (length id.1) (length size.1) (length off.1) (length len.1) p q r s t)
+  where
+    too_many : (a b c d e : ℕ) → a + 4 ≡ length bytes → b + 8 ≡ a → c + 4 ≡ b → d + 4 ≡ c → e + 4 ≡ d → ⊥
+    too_many a b c d e p q r s t = (let least : length bytes < 24 = short in omega (arith, least, p, q, r, s, t))

@@ -1,13 +1,12 @@
 -- The rows of a volume that was just formatted.
-use Rattle.std.specs.Prelude.{ℕ, ◌+◌, List, [], ◌∷◌, codes}
+use Rattle.std.specs.Prelude.{ℕ, List, [], ◌∷◌, codes}
 use Rattle.jv_model.specs.declared.tables.TheConstants.{ROWS_VERSION}
 use Rattle.jv_model.specs.declared.options.TheConstants.{DEFAULT_TRASH_DAYS}
-use Rattle.jv_model.specs.declared.limits.TheConstants.{ROOT, TRASH_ROOT, SPACE_UNIT, DEFAULT_BLOCK, FULL_MODE, READ_ONLY_MODE}
-use Rattle.jv_model.specs.declared.row.Counters.{Counters}
-use Rattle.jv_model.specs.declared.row.Node.{Node}
+use Rattle.jv_model.specs.declared.limits.TheConstants.{ROOT, TRASH_ROOT, DEFAULT_BLOCK, FULL_MODE, READ_ONLY_MODE}
 use Rattle.jv_model.specs.declared.setting.Setting.{Setting}
 use Rattle.jv_model.specs.rows.RowGrammar.{setting_bytes, counters_bytes, node_bytes}
 use Rattle.jv_model.specs.rows.RowPlaces.{setting_key, counters_key, node_key}
+use Rattle.jv_volume.specs.Fresh.{fresh_counters, fresh_directory}
 use Rattle.jv_outside.specs.declared.batch.Change.{Change}
 use Rattle.jv_outside.specs.declared.batch.Change.TheVariants.{Put}
 
@@ -24,26 +23,8 @@ default_setting = record {
   bucket = codes ":memory:";
 }
 
--- the first inode after the root is next, and nothing counts as used
-abbrev pub fresh_counters : Counters
-fresh_counters = record { inode = ROOT + 1; slice = 1; session = 1; used_space = 0; used_inodes = 0 }
-
--- an empty directory whose parent is the root, with these permission bits, made at a moment
-abbrev pub fresh_directory : ℕ → ℕ → Node
-fresh_directory mode at = record {
-  kind = 2;
-  mode = mode;
-  uid = 0;
-  gid = 0;
-  nlink = 2;
-  mtime = at;
-  ctime = at;
-  length = SPACE_UNIT;
-  parent = ROOT;
-  target = [];
-}
-
--- the rows of a volume that is formatted at a moment: its setting, its counters, its root and its trash
+-- the rows of a volume that is formatted at a moment: its setting, its counters, its root and its
+-- trash
 abbrev pub fresh_rows : Setting → ℕ → List Change
 fresh_rows setting at =
     Put setting_key (setting_bytes setting)

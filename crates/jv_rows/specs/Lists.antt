@@ -40,11 +40,13 @@ window_in bytes = (if length bytes == 4 then Some (from_be_bytes w32 bytes) else
 -- a window with its records, if it comes after one
 abbrev pub list_past : Option ℕ → Option ℕ → List Rec → Option (ℕ × List Rec)
 list_past last None records = None
-list_past last (Some window) records = (if is_past last window then Some (window, records) else None)
+list_past last (Some window) records =
+    (if is_past last window then Some (window, records) else None)
 
 -- the list of a row, if it is the file's and comes after a window
 abbrev pub list_of_row : ℕ → Option ℕ → RowKey → Row → Option (ℕ × List Rec)
-list_of_row inode last key (OfList records) = (if key.a == inode then list_past last (window_in key.b) records else None)
+list_of_row inode last key (OfList records) =
+    (if key.a == inode then list_past last (window_in key.b) records else None)
 list_of_row inode last key _ = None
 
 -- four bytes in a key are those of the window that they spell
@@ -53,15 +55,19 @@ IsSpelled key = IfSome (window_in key.b) (λ window. key.b ≡ word window)
 
 -- the window has this list, where the rows are known
 abbrev pub HasList : Store → ℕ → ℕ × List Rec → Type 0
-HasList store inode found = IfSome store.rows (λ known. get (typed known) (list_key inode found.0) ≡ Some (Ok (OfList found.1)))
+HasList store inode found =
+    IfSome store.rows (λ known.
+    get (typed known) (list_key inode found.0) ≡ Some (Ok (OfList found.1)))
 
 -- no window between the two has a list
 abbrev pub HasNoList : Rows → ℕ → Option ℕ → Option ℕ → Type 0
-HasNoList rows inode last next = (window : ℕ) → window < 2 ^ 32 → is_past last window ≡ true → is_ahead next window ≡ true → get rows (list_key inode window) ≡ None
+HasNoList rows inode last next = (window : ℕ) → window < 2 ^ 32 → is_past last window ≡ true
+    → is_ahead next window ≡ true → get rows (list_key inode window) ≡ None
 
 -- each key of a list has a window, as in whole rows
 abbrev pub HaveWindows : Rows → Type 0
-HaveWindows rows = (key : RowKey) → key.tab ≡ TABLE_OF_LISTS → get rows key ≢ None → length key.b ≡ 4
+HaveWindows rows =
+    (key : RowKey) → key.tab ≡ TABLE_OF_LISTS → get rows key ≢ None → length key.b ≡ 4
 
 -- why a list wasn't read: the row behind is malformed, the keeper failed, or out of memory
 abbrev pub RefusesList : Option RowMap → RowFault → Type 0
@@ -69,9 +75,10 @@ RefusesList rows (Bad at bytes) = IfSome rows (λ known. get (typed known) at �
 RefusesList rows Failed = Unit {0}
 RefusesList rows Memory = Unit {0}
 
--- A reading of a file's next list, after a window or from the first on: rows and place are the same, and where the rows are known,
--- there is none between.
-pub record FindsList (inode : ℕ) (last : Option ℕ) (before now : Store) (result : Result (Option (ℕ × List Rec)) RowFault) : Type 0 where
+-- A reading of a file's next list, after a window or from the first on: rows and place are the
+-- same, and where the rows are known, there is none between.
+pub record FindsList (inode : ℕ) (last : Option ℕ) (before now : Store)
+    (result : Result (Option (ℕ × List Rec)) RowFault) : Type 0 where
   pub rows_are : now.rows ≡ before.rows
   pub opened_at : now.opened ≡ before.opened
   pub counts : Counts before.faults now.faults result
@@ -79,5 +86,7 @@ pub record FindsList (inode : ℕ) (last : Option ℕ) (before now : Store) (res
   pub small : IfOk result (λ found. IfSome found (λ f. f.0 < 2 ^ 32))
   pub allowed : IfOk result (λ found. IfSome found (λ f. IsTrue (is_list f.1)))
   pub there : IfOk result (λ found. IfSome found (HasList before inode))
-  pub least : IfOk result (λ found. (known : RowMap) → before.rows ≡ Some known → HaveWindows (typed known) → HasNoList (typed known) inode last (option_map (λ f. f.0) found))
+  pub least : IfOk result (λ found. (known : RowMap) → before.rows ≡ Some known
+      → HaveWindows (typed known)
+      → HasNoList (typed known) inode last (option_map (λ f. f.0) found))
   pub refused : IfErr result (RefusesList before.rows)

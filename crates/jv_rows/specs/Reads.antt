@@ -18,7 +18,8 @@ abbrev pub ReadsAs : {X : Type 0} → Result X Misread → Option X → Type 0
 ReadsAs result read = Takes (λ x. x) result read
 
 -- a value that was read is allowed, the bytes are its spelling, and they are read as that value
-pub record IsSpelled {A : Type 0} (read : List ℕ → Option A) (spelled : A → List ℕ) (is_allowed : A → Bool) (bytes : List ℕ) (x : A) : Type 0 where
+pub record IsSpelled {A : Type 0} (read : List ℕ → Option A) (spelled : A → List ℕ)
+    (is_allowed : A → Bool) (bytes : List ℕ) (x : A) : Type 0 where
   pub allowed : IsTrue (is_allowed x)
   pub same : bytes ≡ spelled x
   pub again : read (spelled x) ≡ Some x

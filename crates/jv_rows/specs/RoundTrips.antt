@@ -16,12 +16,14 @@ use Rattle.jv_model.specs.rows.RowGrammar.{is_setting, setting_bytes, setting_of
 abbrev pub AreBytes : List ℕ → Type 0
 AreBytes bytes = (i : ℕ) → slice_index bytes i < 256
 
--- of the values whose numbers have the widths of the row, those that are allowed are spelled and read again,
--- and bytes that are read spell an allowed value
-pub record IsExact {A : Type 0} (HasWidths : A → Type 0) (is_allowed : A → Bool) (spelled : A → List ℕ) (read : List ℕ → Option A) : Type 0 where
+-- of the values whose numbers have the widths of the row, those that are allowed are spelled and
+-- read again, and bytes that are read spell an allowed value
+pub record IsExact {A : Type 0} (HasWidths : A → Type 0) (is_allowed : A → Bool)
+    (spelled : A → List ℕ) (read : List ℕ → Option A) : Type 0 where
   pub again : (x : A) → HasWidths x → IsTrue (is_allowed x) → read (spelled x) ≡ Some x
   pub widths : (bytes : List ℕ) (x : A) → AreBytes bytes → read bytes ≡ Some x → HasWidths x
-  pub allowed : (bytes : List ℕ) (x : A) → AreBytes bytes → read bytes ≡ Some x → IsTrue (is_allowed x)
+  pub allowed : (bytes : List ℕ) (x : A) → AreBytes bytes → read bytes ≡ Some x
+      → IsTrue (is_allowed x)
   pub same : (bytes : List ℕ) (x : A) → AreBytes bytes → read bytes ≡ Some x → bytes ≡ spelled x
 
 pub record SettingWidths (s : Setting) : Type 0 where

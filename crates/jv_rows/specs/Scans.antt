@@ -12,7 +12,8 @@ use Rattle.jv_outside.specs.Rows.{rows_after}
 use Rattle.jv_rows.specs.Readings.{Counts}
 
 -- a row and those behind it, up to the first that is malformed
-abbrev pub row_then : RowKey → List ℕ → Option Row → Result (List (RowKey × Row)) (RowKey × List ℕ) → Result (List (RowKey × Row)) (RowKey × List ℕ)
+abbrev pub row_then : RowKey → List ℕ → Option Row → Result (List (RowKey × Row)) (RowKey × List ℕ)
+    → Result (List (RowKey × Row)) (RowKey × List ℕ)
 row_then key bytes None rest = Err (key, bytes)
 row_then key bytes (Some row) (Ok rows) = Ok ((key, row) ∷ rows)
 row_then key bytes (Some row) (Err off) = Err off
@@ -39,15 +40,18 @@ RefusesRows rows Failed = ⊥
 RefusesRows rows Memory = Unit {0}
 
 abbrev pub RefusesScan : Option RowMap → ℕ → Option RowKey → ℕ → RowFault → Type 0
-RefusesScan rows tab last count (Bad at bytes) = (row_of at.tab bytes ≡ None) × IfSome rows (λ known. rows_read (rows_after known tab last count) ≡ Err (at, bytes))
+RefusesScan rows tab last count (Bad at bytes) = (row_of at.tab bytes ≡ None)
+    × IfSome rows (λ known. rows_read (rows_after known tab last count) ≡ Err (at, bytes))
 RefusesScan rows tab last count Failed = Unit {0}
 RefusesScan rows tab last count Memory = Unit {0}
 
 -- a reading of the first `count` rows of a table after a key
-pub record ScansRows (tab : ℕ) (last : Option RowKey) (count : ℕ) (before after : Store) (result : Result (List (RowKey × Row)) RowFault) : Type 0 where
+pub record ScansRows (tab : ℕ) (last : Option RowKey) (count : ℕ) (before after : Store)
+    (result : Result (List (RowKey × Row)) RowFault) : Type 0 where
   pub rows_are : after.rows ≡ before.rows
   pub opened_at : after.opened ≡ before.opened
   pub counts : Counts before.faults after.faults result
-  pub found : IfOk result (λ list. IfSome before.rows (λ known. rows_read (rows_after known tab last count) ≡ Ok list))
+  pub found : IfOk result (λ list.
+      IfSome before.rows (λ known. rows_read (rows_after known tab last count) ≡ Ok list))
   pub allowed : IfOk result AreAllowed
   pub refused : IfErr result (RefusesScan before.rows tab last count)

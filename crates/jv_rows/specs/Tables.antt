@@ -6,11 +6,13 @@ use Rattle.jv_model.specs.declared.tables.TheConstants.{TABLE_OF_SETTING, TABLE_
 use Rattle.jv_model.specs.declared.row.Row.TheVariants.{OfSetting, OfCounters, OfNode, OfEdge, OfList, OfSlice, OfSession, OfSustained, OfDropped, OfDead}
 use Rattle.jv_model.specs.rows.RowGrammar.{row_of, setting_of, counters_of, node_of, edge_of, list_of, slice_of, session_of, sustained_of, dropped_of, dead_of}
 
-pub setting_row : (bytes : List ℕ) → row_of TABLE_OF_SETTING bytes ≡ option_map OfSetting (setting_of bytes)
+pub setting_row : (bytes : List ℕ)
+    → row_of TABLE_OF_SETTING bytes ≡ option_map OfSetting (setting_of bytes)
 unfolding row_of
 setting_row bytes = refl
 
-pub counters_row : (bytes : List ℕ) → row_of TABLE_OF_COUNTERS bytes ≡ option_map OfCounters (counters_of bytes)
+pub counters_row : (bytes : List ℕ)
+    → row_of TABLE_OF_COUNTERS bytes ≡ option_map OfCounters (counters_of bytes)
 unfolding row_of
 counters_row bytes = refl
 
@@ -26,19 +28,23 @@ pub list_row : (bytes : List ℕ) → row_of TABLE_OF_LISTS bytes ≡ option_map
 unfolding row_of
 list_row bytes = refl
 
-pub slice_row : (bytes : List ℕ) → row_of TABLE_OF_SLICES bytes ≡ option_map OfSlice (slice_of bytes)
+pub slice_row : (bytes : List ℕ)
+    → row_of TABLE_OF_SLICES bytes ≡ option_map OfSlice (slice_of bytes)
 unfolding row_of
 slice_row bytes = refl
 
-pub session_row : (bytes : List ℕ) → row_of TABLE_OF_SESSIONS bytes ≡ option_map OfSession (session_of bytes)
+pub session_row : (bytes : List ℕ)
+    → row_of TABLE_OF_SESSIONS bytes ≡ option_map OfSession (session_of bytes)
 unfolding row_of
 session_row bytes = refl
 
-pub sustained_row : (bytes : List ℕ) → row_of TABLE_OF_SUSTAINED bytes ≡ option_map (λ _. OfSustained) (sustained_of bytes)
+pub sustained_row : (bytes : List ℕ) → row_of TABLE_OF_SUSTAINED bytes ≡ option_map (λ _.
+    OfSustained) (sustained_of bytes)
 unfolding row_of
 sustained_row bytes = refl
 
-pub dropped_row : (bytes : List ℕ) → row_of TABLE_OF_DROPPED bytes ≡ option_map OfDropped (dropped_of bytes)
+pub dropped_row : (bytes : List ℕ)
+    → row_of TABLE_OF_DROPPED bytes ≡ option_map OfDropped (dropped_of bytes)
 unfolding row_of
 dropped_row bytes = refl
 

@@ -29,7 +29,8 @@ abbrev pub without_answer : {A : Type 0} → Result A TxFault → Result (Unit {
 without_answer (Ok x) = Ok tt
 without_answer (Err fault) = Err fault
 
--- in whose name the model's transaction is made: the session, the moment, and the open files of one who asks
+-- in whose name the model's transaction is made: the session, the moment, and the open files of one
+-- who asks
 pub record IsFor (who : Who) (caller : Caller) : Type 0 where
   pub sid : caller.sid ≡ who.sid
   pub now : caller.now ≡ who.now
@@ -45,24 +46,27 @@ abbrev pub TransactionCounts : {A : Type 0} → ℕ → ℕ → Result A TxFault
 TransactionCounts before now (Ok x) = now ≡ before
 TransactionCounts before now (Err fault) = FaultCause before now fault
 
--- Whether a row names another: an entry its node, a directory its parent, a list its slices, and a session's file, which its
--- key tells, its node.
+-- Whether a row names another: an entry its node, a directory its parent, a list its slices, and a
+-- session's file, which its key tells, its node.
 abbrev pub names : RowKey → Row → RowKey → Bool
 names at (OfEdge edge) key = is_key_of (node_key edge.inode) key
 names at (OfNode node) key = (node.kind == 2) && is_key_of (node_key node.parent) key
-names at (OfList records) key = list_any (λ r. not (r.id == 0) && is_key_of (slice_key r.id) key) records
+names at (OfList records) key =
+    list_any (λ r. not (r.id == 0) && is_key_of (slice_key r.id) key) records
 names at OfSustained key = is_key_of (node_key (from_be_bytes w64 at.b)) key
 names at _ key = false
 
 -- the rows that each volume has
 abbrev pub is_needed : RowKey → Bool
-is_needed key = list_any (is_key_of key) (setting_key ∷ counters_key ∷ node_key ROOT ∷ node_key TRASH_ROOT ∷ [])
+is_needed key =
+    list_any (is_key_of key) (setting_key ∷ counters_key ∷ node_key ROOT ∷ node_key TRASH_ROOT ∷ [])
 
--- Why a row is Bad: its bytes are malformed, it names a node or a slice that isn't there, or it is absent where each volume
--- has one, and then without bytes.
+-- Why a row is Bad: its bytes are malformed, it names a node or a slice that isn't there, or it is
+-- absent where each volume has one, and then without bytes.
 pub data IsBad (rows : Rows) (at : RowKey) (bytes : List ℕ) : Type 0 where
   Malformed : get rows at ≡ Some (Err bytes) → IsBad rows at bytes
-  NamesNone : (row : Row) → (key : RowKey) → get rows at ≡ Some (Ok row) → bytes ≡ row_bytes row → IsTrue (names at row key)
+  NamesNone : (row : Row) → (key : RowKey) → get rows at ≡ Some (Ok row) → bytes ≡ row_bytes row
+      → IsTrue (names at row key)
       → get rows key ≡ None → IsBad rows at bytes
   Lacks : IsTrue (is_needed at) → get rows at ≡ None → bytes ≡ [] → IsBad rows at bytes
 
@@ -70,7 +74,8 @@ abbrev pub BadFault : Rows → TxFault → Type 0
 BadFault rows (OfRows (Bad at bytes)) = IsBad rows at bytes
 BadFault rows _ = Unit {0}
 
--- A result is the model's: the same answer or the same refusal. No row is Bad, and no list has moved.
+-- A result is the model's: the same answer or the same refusal. No row is Bad, and no list has
+-- moved.
 abbrev pub Agrees : {A : Type 0} → Result A TxFault → Result A Fault → Type 0
 Agrees (Ok x) model = model ≡ Ok x
 Agrees (Err (Refused fault)) model = model ≡ Err fault
@@ -79,37 +84,48 @@ Agrees (Err (OfRows (Bad at bytes))) model = ⊥
 Agrees (Err (OfRows Failed)) model = Unit {0}
 Agrees (Err (OfRows Memory)) model = Unit {0}
 
--- A part of a transaction that reads: nothing changes, and over whole rows it finds what the model finds in their tree.
-pub record Looks {A : Type 0} (before after : Store) (result : Result A TxFault) (finds : Tree → Result A Fault) : Type 0 where
+-- A part of a transaction that reads: nothing changes, and over whole rows it finds what the model
+-- finds in their tree.
+pub record Looks {A : Type 0} (before after : Store) (result : Result A TxFault)
+    (finds : Tree → Result A Fault) : Type 0 where
   pub rows_are : after.rows ≡ before.rows
   pub opened_at : after.opened ≡ before.opened
   pub counts : TransactionCounts before.faults after.faults result
-  pub agrees : (known : RowMap) → before.rows ≡ Some known → Whole (typed known) → (bytes : ℕ → ℕ → ℕ) → Agrees result (finds (tree_of bytes (typed known)))
+  pub agrees : (known : RowMap) → before.rows ≡ Some known → Whole (typed known)
+      → (bytes : ℕ → ℕ → ℕ) → Agrees result (finds (tree_of bytes (typed known)))
   pub bad : IfErr result (λ fault. IfSome before.rows (λ known. BadFault (typed known) fault))
 
--- A transaction that was made: the rows left are whole, their tree is the model's after it, and lists and slices are as before.
-pub record Landed (known : RowMap) (after : Option RowMap) (bytes : ℕ → ℕ → ℕ) (reply : Reply) (act : Tree → Result Outcome Fault) : Type 0 where
+-- A transaction that was made: the rows left are whole, their tree is the model's after it, and
+-- lists and slices are as before.
+pub record Landed (known : RowMap) (after : Option RowMap) (bytes : ℕ → ℕ → ℕ) (reply : Reply)
+    (act : Tree → Result Outcome Fault) : Type 0 where
   pub left : RowMap
   pub is : after ≡ Some left
   pub whole : Whole (typed left)
   pub quiet : Quiet (typed known) (typed left)
-  pub model : act (tree_of bytes (typed known)) ≡ Ok (record { tree = tree_of bytes (typed left); reply = reply })
+  pub model : act (tree_of bytes (typed known)) ≡ Ok
+      (record { tree = tree_of bytes (typed left); reply = reply })
 
-abbrev pub Lands : {A : Type 0} → RowMap → Option RowMap → (ℕ → ℕ → ℕ) → (A → Reply) → (Tree → Result Outcome Fault) → Result A TxFault → Type 0
+abbrev pub Lands : {A : Type 0} → RowMap → Option RowMap → (ℕ → ℕ → ℕ) → (A → Reply)
+    → (Tree → Result Outcome Fault) → Result A TxFault → Type 0
 Lands known after bytes reply act (Ok x) = Landed known after bytes (reply x) act
-Lands known after bytes reply act (Err (Refused fault)) = act (tree_of bytes (typed known)) ≡ Err fault
+Lands known after bytes reply act (Err (Refused fault)) =
+    act (tree_of bytes (typed known)) ≡ Err fault
 Lands known after bytes reply act (Err (Moved list)) = ⊥
 Lands known after bytes reply act (Err (OfRows (Bad at bad))) = ⊥
 Lands known after bytes reply act (Err (OfRows Failed)) = Unit {0}
 Lands known after bytes reply act (Err (OfRows Memory)) = Unit {0}
 
--- A transaction: after an error the rows are as before, and over whole rows, whose tree is ready for it, it does what the model's
--- does to their tree.
-pub record Transacts {A : Type 0} (ready : Tree → Type 0) (before after : Store) (result : Result A TxFault) (reply : A → Reply) (act : Tree → Result Outcome Fault) : Type 0 where
+-- A transaction: after an error the rows are as before, and over whole rows, whose tree is ready
+-- for it, it does what the model's does to their tree.
+pub record Transacts {A : Type 0} (ready : Tree → Type 0) (before after : Store)
+    (result : Result A TxFault) (reply : A → Reply)
+    (act : Tree → Result Outcome Fault) : Type 0 where
   pub opened_at : after.opened ≡ before.opened
   pub counts : TransactionCounts before.faults after.faults result
   pub undone : OnErr result (after.rows ≡ before.rows)
-  pub lands : (known : RowMap) → before.rows ≡ Some known → Whole (typed known) → (bytes : ℕ → ℕ → ℕ) → ready (tree_of bytes (typed known))
+  pub lands : (known : RowMap) → before.rows ≡ Some known → Whole (typed known)
+      → (bytes : ℕ → ℕ → ℕ) → ready (tree_of bytes (typed known))
       → Lands known after.rows bytes reply act result
   pub bad : IfErr result (λ fault. IfSome before.rows (λ known. BadFault (typed known) fault))
 

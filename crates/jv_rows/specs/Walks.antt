@@ -22,38 +22,47 @@ use Rattle.jv_volume.specs.TypedRows.{typed}
 
 -- where the rows are known, the row of a node stands at its inode
 abbrev pub HasNodeRow : Store → ℕ → Node → Type 0
-HasNodeRow store inode node = IfSome store.rows (λ known. get (typed known) (node_key inode) ≡ Some (Ok (OfNode node)))
+HasNodeRow store inode node =
+    IfSome store.rows (λ known. get (typed known) (node_key inode) ≡ Some (Ok (OfNode node)))
 
 -- and the row of an entry at its place
 abbrev pub HasEdgeRow : Store → ℕ → List ℕ → Edge → Type 0
-HasEdgeRow store dir name edge = IfSome store.rows (λ known. get (typed known) (edge_key dir name) ≡ Some (Ok (OfEdge edge)))
+HasEdgeRow store dir name edge =
+    IfSome store.rows (λ known. get (typed known) (edge_key dir name) ≡ Some (Ok (OfEdge edge)))
 
 -- the inode of a place
 abbrev pub inode_in : Result Place TxFault → Result ℕ TxFault
 inode_in (Ok place) = Ok place.inode
 inode_in (Err fault) = Err fault
 
--- A part of a walk that reaches a node: over whole rows it is the model's, and its row, one that the grammar allows, stands there.
-pub record Comes (before after : Store) (result : Result Place TxFault) (finds : Tree → Result ℕ Fault) : Type 0 where
+-- A part of a walk that reaches a node: over whole rows it is the model's, and its row, one that
+-- the grammar allows, stands there.
+pub record Comes (before after : Store) (result : Result Place TxFault)
+    (finds : Tree → Result ℕ Fault) : Type 0 where
   pub looks : Looks before after (inode_in result) finds
   pub stands : IfOk result (λ place. HasNodeRow after place.inode place.node)
   pub allowed : IfOk result (λ place. IsTrue (is_node place.node))
 
--- Where a walk comes without following a symlink: to its end, or to a symlink, from whose directory or the root it goes on by other names.
+-- Where a walk comes without following a symlink: to its end, or to a symlink, from whose directory
+-- or the root it goes on by other names.
 pub data Course : Type 0 where
   Ended : (inode : ℕ) → Course
   Onward : (inode : ℕ) (names : List (List ℕ)) → Course
 
 -- the names that a walk goes on by at a symlink, and from where
 abbrev pub onward : ℕ → List ℕ → List (List ℕ) → Course
-onward dir target names = Onward (if is_absolute target then ROOT else dir) (names_of target ++ names)
+onward dir target names =
+    Onward (if is_absolute target then ROOT else dir) (names_of target ++ names)
 
 -- a walk from a directory up to the first symlink that it follows
 abbrev pub course : Tree → Bool → ℕ → List (List ℕ) → Result Course Fault
 course t follow inode [] = Ok (Ended inode)
 course t follow inode (name ∷ names) = do
   next ← stepped t inode name
-  elim (way_on t follow names next) [ None ↦ course t follow next names | Some target ↦ Ok (onward inode target names) ]
+  elim (way_on t follow names next) [
+    | None ↦ course t follow next names
+    | Some target ↦ Ok (onward inode target names)
+  ]
 
 abbrev pub course_in : Result Leg TxFault → Result Course TxFault
 course_in (Ok (Ends place)) = Ok (Ended place.inode)
@@ -65,7 +74,8 @@ place_in (Ends place) = place
 place_in (Follows place names) = place
 
 -- a part of a walk up to the first symlink that it follows
-pub record Goes (before after : Store) (result : Result Leg TxFault) (finds : Tree → Result Course Fault) : Type 0 where
+pub record Goes (before after : Store) (result : Result Leg TxFault)
+    (finds : Tree → Result Course Fault) : Type 0 where
   pub looks : Looks before after (course_in result) finds
   pub stands : IfOk result (λ leg. HasNodeRow after (place_in leg).inode (place_in leg).node)
   pub allowed : IfOk result (λ leg. IsTrue (is_node (place_in leg).node))
@@ -88,9 +98,10 @@ abbrev pub entry_in : Result EntryPlace TxFault → Result (ℕ × List ℕ) TxF
 entry_in (Ok entry) = Ok (entry.dir.inode, entry.name)
 entry_in (Err fault) = Err fault
 
--- A walk to an entry, whether that is there or not: over whole rows it is the model's, and its directory's row, one that the grammar
--- allows, stands there.
-pub record ComesToEntry (before after : Store) (result : Result EntryPlace TxFault) (finds : Tree → Result (ℕ × List ℕ) Fault) : Type 0 where
+-- A walk to an entry, whether that is there or not: over whole rows it is the model's, and its
+-- directory's row, one that the grammar allows, stands there.
+pub record ComesToEntry (before after : Store) (result : Result EntryPlace TxFault)
+    (finds : Tree → Result (ℕ × List ℕ) Fault) : Type 0 where
   pub looks : Looks before after (entry_in result) finds
   pub stands : IfOk result (λ entry. HasNodeRow after entry.dir.inode entry.dir.node)
   pub allowed : IfOk result (λ entry. IsTrue (is_node entry.dir.node))

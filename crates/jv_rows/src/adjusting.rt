@@ -48,7 +48,7 @@ fn any_counted(gone: &BTreeMap<u64, u64>, added: &BTreeMap<u64, u64>) -> Option<
     None
 }
 
-/// A count with `gone` records less and `added` more, or none where it would grow past 2^62.
+/// A count with `gone` records less and `added` more, or none where it would grow past [`jv_model::FULL_COUNT`].
 fn next_count(count: u64, gone: u64, added: u64) -> Option<u64>
     ensures { result ≡ (if may_become count (recounted count gone added)
         then Some (recounted count gone added) else None) }
@@ -148,7 +148,7 @@ fn recount<K: Keeper>(
 ///
 /// # Errors
 ///
-/// Refused with NoSpace where a count would grow past 2^62. [`RowFault::Bad`] for a slice's row that is malformed, or
+/// Refused with NoSpace where a count would grow past [`jv_model::FULL_COUNT`]. [`RowFault::Bad`] for a slice's row that is malformed, or
 /// without bytes where it is absent; [`RowFault::Failed`] if the keeper failed; [`RowFault::Memory`] out of memory. After
 /// an error some of the changes may be added, and the draft is of no use.
 pub fn adjust<K: Keeper>(

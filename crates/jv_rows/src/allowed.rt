@@ -6,9 +6,9 @@ ghost use Rattle.jv_model.specs.rows.RowGrammar.{is_setting, is_block, is_volume
 ghost use Rattle.jv_model.specs.blocks.Slices.{is_record, is_part};
 
 use jv_model::{
-    Counters, Edge, FULL_COUNT, LAST_CLIENT, List, MAX_BLOCK, MAX_BUCKET, MAX_CAPACITY, MAX_MODE,
-    MAX_PATH, MAX_TRASH_DAYS, MAX_VOLUME_NAME, MIN_BLOCK, MIN_VOLUME_NAME, Node, Rec, SPACE_UNIT,
-    Session, Setting, SliceRow, WINDOW,
+    Counters, DIRECTORY_LENGTH, Edge, FULL_COUNT, LAST_CLIENT, List, MAX_BLOCK, MAX_BUCKET,
+    MAX_CAPACITY, MAX_MODE, MAX_PATH, MAX_TRASH_DAYS, MAX_VOLUME_NAME, MIN_BLOCK, MIN_VOLUME_NAME,
+    Node, Rec, Session, Setting, SliceRow, WINDOW,
 };
 use std::str::from_utf8;
 
@@ -47,7 +47,7 @@ fn allows_name_bytes(name: &[u8]) -> bool
 
 /// Whether a volume may have this name: 3 to 63 bytes of lower-case letters, digits and `-`, which is neither first
 /// nor last.
-pub fn allows_name(name: &[u8]) -> bool
+fn allows_name(name: &[u8]) -> bool
     ensures { result ≡ is_volume_name name.now }
 {
     MIN_VOLUME_NAME <= name.len()
@@ -64,7 +64,7 @@ fn is_text(bytes: &[u8]) -> bool
 }
 
 /// Whether objects may lie in this bucket: 1 to 1,024 bytes of UTF-8.
-pub fn allows_bucket(bucket: &[u8]) -> bool
+fn allows_bucket(bucket: &[u8]) -> bool
     ensures { result ≡ is_bucket bucket.now }
 {
     1 <= bucket.len() && bucket.len() <= MAX_BUCKET && is_text(bucket)
@@ -99,7 +99,7 @@ pub fn has_no_zero(bytes: &[u8]) -> bool
 }
 
 /// Whether a symlink may have this target: 1 to 4,096 bytes without the byte 0.
-pub fn allows_target(target: &[u8]) -> bool
+fn allows_target(target: &[u8]) -> bool
     ensures { result ≡ is_target target.now }
 {
     1 <= target.len() && target.len() <= MAX_PATH && has_no_zero(target)
@@ -110,7 +110,7 @@ fn fits_kind(node: &Node) -> bool
 {
     match node.kind {
         1 => node.parent == 0 && node.target.is_empty(),
-        2 => node.length == SPACE_UNIT && node.target.is_empty(),
+        2 => node.length == DIRECTORY_LENGTH && node.target.is_empty(),
         3 => {
             node.parent == 0
                 && node.length == node.target.len() as u64

@@ -1,14 +1,15 @@
 //! The rows of a volume that was just formatted.
 ghost use Rattle.std.specs.Prelude.{◌≡◌, IfOk, IsTrue};
 ghost use Rattle.jv_model.specs.rows.RowGrammar.{is_setting};
-ghost use Rattle.jv_rows.specs.FreshRows.{default_setting, fresh_directory, fresh_rows};
+ghost use Rattle.jv_volume.specs.Fresh.{fresh_directory};
+ghost use Rattle.jv_rows.specs.FreshRows.{default_setting, fresh_rows};
 
 use crate::writing::{put_counters, put_node, put_setting};
 use jv_model::options::DEFAULT_TRASH_DAYS;
 use jv_model::tables::ROWS_VERSION;
 use jv_model::{
-    Counters, DEFAULT_BLOCK, FULL_MODE, Moment, Node, READ_ONLY_MODE, ROOT, SPACE_UNIT, Sequence,
-    Setting, TRASH_ROOT, copied,
+    Counters, DEFAULT_BLOCK, DIRECTORY_LENGTH, FULL_MODE, Moment, Node, READ_ONLY_MODE, ROOT,
+    Sequence, Setting, TRASH_ROOT, copied,
 };
 use jv_outside::Batch;
 use std::alloc::{AllocError, Global};
@@ -51,7 +52,7 @@ fn fresh_directory(alloc: Global, mode: u16, at: Moment) -> Node
         nlink: 2,
         mtime: at.seconds(),
         ctime: at.seconds(),
-        length: SPACE_UNIT,
+        length: DIRECTORY_LENGTH,
         parent: ROOT,
         target: Sequence::new(alloc),
     }

@@ -1,5 +1,6 @@
 //! What the bytes of a row spell.
-ghost use Rattle.std.specs.Prelude.{◌≡◌, length};
+ghost use Rattle.std.specs.Prelude.{◌≡◌, ◌<◌, length, None};
+ghost use Rattle.jv_model.specs.declared.tables.TheConstants.{RECORD_LENGTH};
 ghost use Rattle.jv_model.specs.rows.RowGrammar.{setting_of, counters_of, node_of, edge_of, record_at, records_at, list_of, slice_of, session_of, sustained_of, dropped_of, dead_of};
 ghost use Rattle.jv_model.specs.rows.RowFields.{whole};
 ghost use Rattle.jv_rows.specs.Reads.{Takes, ReadsAs};
@@ -122,11 +123,22 @@ pub fn parse_edge(bytes: &[u8]) -> Result<Edge, Misread>
     settled(edge, allowed, rest)
 }
 
+/// Fewer bytes than a record has spell none: a law, which runs no code.
+fn has_no_record(bytes: &[u8])
+    requires { length bytes.now < RECORD_LENGTH }
+    ensures { record_at bytes.now ≡ None }
+{}
+
 /// A record at the front of bytes, and the bytes after it.
 #[tactic(auto, unfolding(jv_model::specs::rows::RowGrammar::record_at))]
 pub(crate) fn take_record(bytes: &[u8]) -> Result<(Rec, &[u8]), Misread>
     ensures { Takes (λ x. (x.0, x.1.now)) result (record_at bytes.now) }
 {
+    // One test of the length in place of five.
+    if bytes.len() < RECORD_LENGTH {
+        has_no_record(bytes);
+        return Err(Misread::Malformed);
+    }
     let (pos, rest) = take_word(bytes)?;
     let (id, rest) = take_long(rest)?;
     let (size, rest) = take_word(rest)?;

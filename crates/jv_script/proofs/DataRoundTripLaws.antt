@@ -10,7 +10,7 @@ use Rattle.std.proofs.lemmas.List.Splits.{slice_split_at, slice_split_none}
 use Rattle.std.proofs.lemmas.List.Sums.{AllPass-from_list_all}
 use Rattle.jv_model.specs.declared.limits.TheConstants.{MAX_DATA}
 use Rattle.jv_model.specs.script.Spelling.{is_decimal_digit, is_hex_digit, bytes_of_digits}
-use Rattle.jv_model.specs.script.Printed.{hex_digit, hex_pair, Run, with_byte, runs_of, DataPart, Plain, Repeated, with_short, parts_of, part_text, data_text}
+use Rattle.jv_model.specs.script.Printed.{hex_digit, hex_pair, ByteRun, with_byte, runs_of, DataPart, Plain, Repeated, with_short, parts_of, part_text, data_text}
 use Rattle.jv_model.specs.script.Grammar.{is_pairs, repeated_of, part_of, part_bytes, all_parts_of, data_of}
 use Rattle.jv_model.specs.Lists.{parted}
 use Rattle.jv_script.specs.Reading.{bytes_after}
@@ -106,10 +106,10 @@ parts_read part (next ∷ parts) (sound, others) =
 
 -- bytes are those of their parts
 
-abbrev run_bytes : List Run → List ℕ
+abbrev run_bytes : List ByteRun → List ℕ
 run_bytes runs = flat_map (λ run. replicate run.count run.byte) runs
 
-with_byte-bytes : (byte : ℕ) (runs : List Run) → run_bytes (with_byte byte runs) ≡ byte ∷ run_bytes runs
+with_byte-bytes : (byte : ℕ) (runs : List ByteRun) → run_bytes (with_byte byte runs) ≡ byte ∷ run_bytes runs
 with_byte-bytes byte [] = refl
 with_byte-bytes byte (run ∷ runs) = by_test (byte == run.byte) refl
   where
@@ -128,7 +128,7 @@ with_short-bytes bytes [] = refl
 with_short-bytes bytes (Plain more ∷ parts) = append_assoc bytes more (flat_map part_bytes parts)
 with_short-bytes bytes (Repeated run ∷ parts) = refl
 
-parts_of-bytes : (runs : List Run) → flat_map part_bytes (parts_of runs) ≡ run_bytes runs
+parts_of-bytes : (runs : List ByteRun) → flat_map part_bytes (parts_of runs) ≡ run_bytes runs
 parts_of-bytes [] = refl
 parts_of-bytes (run ∷ runs) = by_test (nat_le 4 run.count) ∙ ap (λ (bytes : List ℕ). replicate run.count run.byte ++ bytes) (parts_of-bytes runs)
   where
@@ -138,16 +138,16 @@ parts_of-bytes (run ∷ runs) = by_test (nat_le 4 run.count) ∙ ap (λ (bytes :
 
 -- and the parts are sound
 
-unfoldable AreSoundRuns : ℕ → List Run → Type 0
+unfoldable AreSoundRuns : ℕ → List ByteRun → Type 0
 AreSoundRuns most [] = Unit {0}
 AreSoundRuns most (run ∷ runs) = (IsByte run.byte × (0 < run.count) × (run.count ≤ most)) × AreSoundRuns most runs
 
-longer : (most : ℕ) (runs : List Run) → AreSoundRuns most runs → AreSoundRuns (suc most) runs
+longer : (most : ℕ) (runs : List ByteRun) → AreSoundRuns most runs → AreSoundRuns (suc most) runs
 unfolding AreSoundRuns
 longer most [] sound = tt
 longer most (run ∷ runs) ((byte, some, few), others) = ((byte, some, omega arith), longer most runs others)
 
-with_byte-sound : (most byte : ℕ) (runs : List Run) → IsByte byte → AreSoundRuns most runs → AreSoundRuns (suc most) (with_byte byte runs)
+with_byte-sound : (most byte : ℕ) (runs : List ByteRun) → IsByte byte → AreSoundRuns most runs → AreSoundRuns (suc most) (with_byte byte runs)
 unfolding AreSoundRuns
 with_byte-sound most byte [] is sound = ((is, omega arith, omega arith), tt)
 with_byte-sound most byte (run ∷ runs) is ((first, some, few), others) = by_test (byte == run.byte)
@@ -177,7 +177,7 @@ with_short-sound bytes [] all some sound = ((all, some), tt)
 with_short-sound bytes (Plain more ∷ parts) all some ((more_all, more_some), others) = ((all_appended bytes more all more_all, omega (arith, length-append bytes more)), others)
 with_short-sound bytes (Repeated run ∷ parts) all some sound = ((all, some), sound)
 
-parts_sound : (most : ℕ) (runs : List Run) → most < 2 ^ 64 → AreSoundRuns most runs → AreSoundParts (parts_of runs)
+parts_sound : (most : ℕ) (runs : List ByteRun) → most < 2 ^ 64 → AreSoundRuns most runs → AreSoundParts (parts_of runs)
 unfolding AreSoundParts IsSoundPart AreSoundRuns
 parts_sound most [] small sound = tt
 parts_sound most (run ∷ runs) small ((byte, some, few), others) = by_test (nat_le 4 run.count) (parts_sound most runs small others)

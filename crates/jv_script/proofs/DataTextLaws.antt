@@ -3,7 +3,7 @@ use Rattle.std.proofs.Common.{nat_le, ◌≡◌, ℕ, ◌<◌, ◌==◌, Bool, t
 use Rattle.std.specs.List.{flat_map}
 use Rattle.std.proofs.lemmas.Bool.{ne_eqb}
 use Rattle.std.proofs.lemmas.List.{append-nil, append_assoc}
-use Rattle.jv_model.specs.script.Printed.{hex_pair, Run, runs_of, DataPart, Plain, Repeated, with_short, parts_of, part_text}
+use Rattle.jv_model.specs.script.Printed.{hex_pair, ByteRun, runs_of, DataPart, Plain, Repeated, with_short, parts_of, part_text}
 use Rattle.jv_script.specs.Printing.{joint, joined, parts_text, rest_text}
 use Rattle.jv_script.proofs.RepeatLaws.{with_byte-first}
 
@@ -26,7 +26,7 @@ some_parts (byte ∷ bytes) some =
     after_short bytes (Plain more ∷ parts) = (Plain (bytes ++ more), parts, refl)
     after_short bytes (Repeated run ∷ parts) = (Plain bytes, Repeated run ∷ parts, refl)
 
-    of_run : (run : Run) (runs : List Run) → (part : DataPart) × (parts : List DataPart) × (parts_of (run ∷ runs) ≡ part ∷ parts)
+    of_run : (run : ByteRun) (runs : List ByteRun) → (part : DataPart) × (parts : List DataPart) × (parts_of (run ∷ runs) ≡ part ∷ parts)
     of_run run runs = by_test (nat_le 4 run.count)
       where
         by_test : (v : Bool) → (part : DataPart) × (parts : List DataPart) × (cond v (Repeated run ∷ parts_of runs) (with_short (replicate run.count run.byte) (parts_of runs)) ≡ part ∷ parts)
@@ -44,7 +44,7 @@ joined_before part (byte ∷ bytes) =
     ∙ sym (ap (λ (text : List ℕ). part_text part ++ 43 ∷ text) (at_start (parts_of (runs_of (byte ∷ bytes))) ∙ ap joined are)))
 
 -- a long repeat is printed, after a plain part or not
-pub long_printed : (old first new bytes rest : List ℕ) (run : Run) (inside : Bool) → first ≡ old ++ joint inside → new ≡ first ++ part_text (Repeated run) ++ joint (not (length rest == 0))
+pub long_printed : (old first new bytes rest : List ℕ) (run : ByteRun) (inside : Bool) → first ≡ old ++ joint inside → new ≡ first ++ part_text (Repeated run) ++ joint (not (length rest == 0))
     → parts_of (runs_of bytes) ≡ Repeated run ∷ parts_of (runs_of rest) → new ++ rest_text rest false ≡ old ++ rest_text bytes inside
 long_printed old first new bytes rest run inside opened repeated parts =
     let after = joint (not (length rest == 0)) in

@@ -10,7 +10,8 @@ pub record IsFirstRepeat (bytes : List ℕ) (n : ℕ) : Type 0 where
   pub some : 0 < n
   pub within : n ≤ length bytes
   pub same : take n bytes ≡ replicate n (slice_index bytes 0)
-  pub runs : runs_of bytes ≡ record { byte = slice_index bytes 0; count = n } ∷ runs_of (drop n bytes)
+  pub runs : runs_of bytes ≡ record { byte = slice_index bytes 0; count = n } ∷ runs_of
+      (drop n bytes)
 
 -- the first four bytes are equal: a long repeat begins there
 abbrev pub begins_long : List ℕ → Bool
@@ -41,7 +42,8 @@ joint false = []
 abbrev pub joined : List DataPart → List ℕ
 joined parts = join_with_byte 43 (map part_text parts)
 
--- the text of the parts to come: after some bytes of a plain part, which a long repeat ends, or between parts
+-- the text of the parts to come: after some bytes of a plain part, which a long repeat ends, or
+-- between parts
 abbrev pub parts_text : List DataPart → Bool → List ℕ
 parts_text (Repeated run ∷ parts) true = 43 ∷ joined (Repeated run ∷ parts)
 parts_text parts _ = joined parts
@@ -50,7 +52,8 @@ parts_text parts _ = joined parts
 abbrev pub rest_text : List ℕ → Bool → List ℕ
 rest_text bytes is_inside = parts_text (parts_of (runs_of bytes)) is_inside
 
--- the bytes before the rest were appended to a text, which was within a plain part or not, and now is or not
+-- the bytes before the rest were appended to a text, which was within a plain part or not, and now
+-- is or not
 pub record PrintsTo (old bytes : List ℕ) (was : Bool) (new rest : List ℕ) (is : Bool) : Type 0 where
   pub text : new ++ rest_text rest is ≡ old ++ rest_text bytes was
   pub fewer : length rest < length bytes

@@ -58,7 +58,8 @@ abbrev pub Appends : Bool → List ℕ → Option DataPart → List ℕ → Type
 Appends true before part after = option_map (λ p. before ++ part_bytes p) part ≡ Some after
 Appends false before part after = IfSome part (λ p. MAX_DATA < length before + part_length p)
 
--- bytes with those of a text's parts are other bytes with those of a rest's parts, which are no more
+-- bytes with those of a text's parts are other bytes with those of a rest's parts, which are no
+-- more
 abbrev pub Leaves : List ℕ → List ℕ → List ℕ → List ℕ → Type 0
 Leaves before text after rest = record {
   whole : bytes_after before (parted 43 text) ≡ bytes_after after (parted 43 rest);

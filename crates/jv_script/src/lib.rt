@@ -27,6 +27,6 @@ pub use laws::{
     data_is_read_again, names_are_read_again, paths_are_read_again, targets_are_read_again,
 };
 pub use line_reader::{is_silent, read_line};
-pub use names::octal_digit;
+pub use names::mode_digits;
 pub use numbers::push_number;
 pub use printer::print_reply;

@@ -103,15 +103,20 @@ fn push_kind_and_mode(text: &mut Vec<u8>, kind: FileKind, mode: u16) -> Result<(
     ensures { OnOk result (text.new.items
         ≡ text.old.items ++ (32 ∷ kind_letter kind ∷ 32 ∷ mode_digits mode)) }
 {
-    text.extend_from_slice(&[
-        b' ',
-        kind_letter(kind),
-        b' ',
+    text.extend_from_slice(&[b' ', kind_letter(kind), b' '])?;
+    text.extend_from_slice(&mode_digits(mode))
+}
+
+/// The last four octal digits of a mode, in ASCII.
+pub fn mode_digits(mode: u16) -> [u8; 4]
+    ensures { result ≡ mode_digits mode }
+{
+    [
         octal_digit(mode / 512),
         octal_digit(mode / 64),
         octal_digit(mode / 8),
         octal_digit(mode),
-    ])
+    ]
 }
 
 fn kind_letter(kind: FileKind) -> u8
@@ -125,7 +130,7 @@ fn kind_letter(kind: FileKind) -> u8
 }
 
 /// The last octal digit of a number.
-pub fn octal_digit(number: u16) -> u8
+fn octal_digit(number: u16) -> u8
     ensures { result ≡ 48 + number % 8 }
 {
     b'0' + (number % 8) as u8

@@ -13,8 +13,8 @@ pub record HasName (setting : Setting) (blocks : List BlockId) (name : List ℕ)
   pub among : Contains blocks block
   pub named : name ≡ name_in setting block
 
--- The objects are still known, and none of them is gone. Those that don't have the name of one of the
--- blocks are the same.
+-- The objects are still known, and none of them is gone. Those that don't have the name of one of
+-- the blocks are the same.
 pub record ObjectsStay (setting : Setting) (blocks : List BlockId) (before : ObjectMap)
     (content : Option ObjectMap) : Type 0 where
   pub after : ObjectMap

@@ -19,7 +19,8 @@ use Rattle.jv_session.specs.declared.line_end.LineEnd.TheVariants.{Said, Quiet, 
 use Rattle.jv_session.specs.Stands.{ScheduleValue, Stands, InLine, IsYardOf, ClockFor}
 use Rattle.jv_session.specs.Growing.{YardGrows}
 
--- what the call for a line uses: the clock, the keeper and the carrier with the yard, the journal and the schedule
+-- what the call for a line uses: the clock, the keeper and the carrier with the yard, the journal
+-- and the schedule
 pub record LineState : Type 0 where
   pub clock : Ticks
   pub devices : Shared
@@ -44,7 +45,8 @@ pub record AnswersSo (before after : List Act) (failed : Device → ℕ) : Type 
   pub grows : after ≡ before ++ acts
   pub failures : AreFailures acts failed
 
--- the entries of one line, which has this number, were appended and are allowed, and the clock was asked `asks` times
+-- the entries of one line, which has this number, were appended and are allowed, and the clock was
+-- asked `asks` times
 pub record Appends (p : Past) (more : List Line) (number asks : ℕ) (before after : List Act)
     (acts : List Act) (q : Past) : Type 0 where
   pub grows : after ≡ before ++ acts
@@ -71,7 +73,8 @@ pub record Ran (p : Past) (more : List Line) (number asks : ℕ) (before after :
   pub kept : BlocksStay before.devices after.devices
   pub said : end.said ≡ text
 
--- the run stopped on the line, before a step or after its last one, and the schedule stands where it is then
+-- the run stopped on the line, before a step or after its last one, and the schedule stands where
+-- it is then
 pub record Cut (p : Past) (more : List Line) (number asks : ℕ)
     (before after : LineState) : Type 0 where
   pub acts : List Act
@@ -81,15 +84,16 @@ pub record Cut (p : Past) (more : List Line) (number asks : ℕ)
   pub kept : BlocksStay before.devices after.devices
   pub stops : (is_over end || may_stop end) ≡ true
 
--- From wherever the schedule stands, when the clock still shows what the run's clock shows: the outcome of the line.
+-- From wherever the schedule stands, when the clock still shows what the run's clock shows: the
+-- outcome of the line.
 abbrev pub FromThere : Line → ℕ → LineState → LineState → (Past → List Line → Type 0) → Type 0
 FromThere line number before after Comes = (p : Past) (more : List Line)
     → Stands p before.schedule before.devices → p.line + 1 ≡ number → p.rest ≡ line ∷ more
     → p.state.count ≡ length before.journal
     → ClockFor p.run.clock p.asked before.clock.answers after.clock.answers → Comes p more
 
--- Devices are open where they were, and the shelf has the blocks that it had. The yard is one of the same
--- volume, which blocks were put into.
+-- Devices are open where they were, and the shelf has the blocks that it had. The yard is one of
+-- the same volume, which blocks were put into.
 pub record StaysPut (before after : Shared) : Type 0 where
   pub keeper_at : after.keeper.opened ≡ before.keeper.opened
   pub carrier_at : after.carrier.opened ≡ before.carrier.opened
@@ -99,8 +103,9 @@ pub record StaysPut (before after : Shared) : Type 0 where
   pub setting : after.yard.setting ≡ before.yard.setting
   pub grows : YardGrows before.yard after.yard
 
--- What a line does to clock and devices, whatever these hold: how often the clock was asked, and how often each device
--- failed, which as many of its entries answer. The schedule has the same limits, and may go on with the yard.
+-- What a line does to clock and devices, whatever these hold: how often the clock was asked, and
+-- how often each device failed, which as many of its entries answer. The schedule has the same
+-- limits, and may go on with the yard.
 pub record LineUses (before after : LineState) (asks : ℕ) (failed : Device → ℕ) : Type 0 where
   pub passes : Passes before.clock.answers after.clock.answers asks
   pub stays : StaysPut before.devices after.devices

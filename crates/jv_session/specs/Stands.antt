@@ -48,8 +48,8 @@ pub record IsSchedule (limits : Limits) (at ticks : ℕ) (clients : List ClientV
   pub eight : length clients ≡ CLIENTS
   pub members : (k : ℕ) → IfSome (slice_get clients k) (IsMember limits k)
 
--- A schedule may go on with this yard: its blocks have a length that there is, and it knows of no moment
--- after the schedule's.
+-- A schedule may go on with this yard: its blocks have a length that there is, and it knows of no
+-- moment after the schedule's.
 pub record IsYardOf (s : ScheduleValue) (yard : YardValue) : Type 0 where
   pub block : IsLength yard.setting.block
   pub last : yard.last ≤ s.at
@@ -65,8 +65,9 @@ AreApart clients = (j k : ℕ) (c other : ClientValue) → j ≢ k → slice_get
     → slice_get clients k ≡ Some other
     → 0 < in_flight c → in_flight c ≢ in_flight other
 
--- The tree is that of the keeper's rows with the bytes of their blocks; numbers of slices and records are within what
--- the run began with and its entries; and each client of the model is the one of its number.
+-- The tree is that of the keeper's rows with the bytes of their blocks; numbers of slices and
+-- records are within what the run began with and its entries; and each client of the model is the
+-- one of its number.
 pub record IsState (start : Start) (g : Known) (q : State) (clients : List ClientValue)
     (v : Shared) : Type 0 where
   pub has_store : HasStore q.tree g v

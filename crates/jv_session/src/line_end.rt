@@ -15,8 +15,8 @@ pub enum LineEnd {
     /// lead.
     ClockFailed,
     /// The row at this key, which has these bytes, is malformed, or names one that isn't there, or is absent where each
-    /// volume has one, and then without bytes. A step of the line stopped there with nothing changed; the steps before
-    /// it are made.
+    /// volume has one, and then without bytes. A step of the line stopped there; nothing has changed but that a read may
+    /// have begun and looked into the cache. The steps before it are made.
     Broken(RowKey, Bytes),
     /// There was no memory for a step's entries or for the line's text. The session stands where the steps so far lead.
     Memory,

@@ -15,7 +15,7 @@ use Rattle.jv_model.specs.rows.RowPlaces.{list_key}
 use Rattle.jv_model.specs.blocks.Slices.{IsRecord, block_at, block_count, stored_place}
 use Rattle.jv_model.specs.journal.Reading.{bytes_from}
 use Rattle.jv_model.specs.tree.Tree.{Content, Kind, File, Directory, Symlink, content_at}
-use Rattle.jv_model.specs.tree.Tree.{content_of as content_in}
+use Rattle.jv_model.specs.tree.Tree.{content_in}
 use Rattle.jv_model.specs.tree.Changes.{content_of}
 use Rattle.jv_volume.specs.TypedRows.{Rows}
 use Rattle.jv_volume.specs.Views.{row_in, records_in, lists_of, node_row_at}

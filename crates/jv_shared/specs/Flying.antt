@@ -5,7 +5,8 @@ use Rattle.jv_contents.specs.Blocks.{Blocks}
 use Rattle.jv_contents.specs.Flights.{Flight, InFlight}
 use Rattle.jv_shared.specs.Shared.{Known, Shared, present_in, rows_in}
 
--- The blocks that were put are in the depot, and no other block that there ever was has the slice's number. Its size is known.
+-- The blocks that were put are in the depot, and no other block that there ever was has the slice's
+-- number. Its size is known.
 pub record IsFlying (block : ℕ) (rows : Rows) (g : Known) (present : Blocks)
     (f : Flight) : Type 0 where
   pub ever : InFlight block rows g.blocks f

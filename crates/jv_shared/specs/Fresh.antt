@@ -12,8 +12,8 @@ use Rattle.jv_yard.specs.Later.{AreAlike, contents_of}
 use Rattle.jv_yard.specs.YardValue.{IsKept}
 use Rattle.jv_shared.specs.Shared.{Shared, staged_in}
 
--- The rows are whole, and the depot has each block of their slices. All copies of one name have equal bytes, and none is of a slice
--- that is still to get its number.
+-- The rows are whole, and the depot has each block of their slices. All copies of one name have
+-- equal bytes, and none is of a slice that is still to get its number.
 pub record IsFresh (v : Shared) : Type 0 where
   pub rows : RowMap
   pub rows_are : v.keeper.rows ≡ Some rows

@@ -1,5 +1,5 @@
--- What one client's step leaves alone, so that what other clients hold stays true. `own` is the number of the slice that the step is
--- about, 0 where it is about none.
+-- What one client's step leaves alone, so that what other clients hold stays true. `own` is the
+-- number of the slice that the step is about, 0 where it is about none.
 use Rattle.std.specs.Prelude.{◌≡◌, ◌≢◌, ℕ, ◌<◌, ◌≤◌, List, Some}
 use Rattle.jv_model.specs.declared.slice.BlockId.{BlockId}
 use Rattle.jv_model.specs.tree.Tree.{Tree}
@@ -8,14 +8,16 @@ use Rattle.jv_volume.specs.Slices.{IsUnknown, next_slice}
 use Rattle.jv_contents.specs.Blocks.{Blocks, Grows}
 use Rattle.jv_shared.specs.Shared.{HasStore, Known, Shared, present_in, rows_in}
 
--- More is known later: no block changes, new ones are of the step's own slice, and only a slice that had no number gets a size.
+-- More is known later: no block changes, new ones are of the step's own slice, and only a slice
+-- that had no number gets a size.
 pub record Learns (own next : ℕ) (before after : Known) : Type 0 where
   pub blocks : Grows before.blocks after.blocks
   pub only : (b : BlockId) (bytes : List ℕ) → b.id ≢ own → after.blocks b ≡ Some bytes
       → before.blocks b ≡ Some bytes
   pub sizes : (id : ℕ) → id < next → after.sizes id ≡ before.sizes id
 
--- Numbers aren't given twice, and a slice that no row names is named by the step's own transaction alone.
+-- Numbers aren't given twice, and a slice that no row names is named by the step's own transaction
+-- alone.
 pub record KeepsNumbers (own : ℕ) (rows after : Rows) : Type 0 where
   pub next : next_slice rows ≤ next_slice after
   pub unknown : (id : ℕ) → 0 < id → id ≢ own → IsUnknown rows id → IsUnknown after id

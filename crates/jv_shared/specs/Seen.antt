@@ -23,8 +23,8 @@ pub record IsFound (block : ℕ) (rows : Rows) (g : Known) (present : Blocks) (r
   pub sized : r.id ≢ 0 → r.size ≡ g.sizes r.id
   pub there : r.id ≢ 0 → SliceIsThere block present r.id r.size
 
--- A window's records show the bytes that a file had when it was looked at, as far as it went then, and the blocks that they name are
--- there. This stays so whatever becomes of the file.
+-- A window's records show the bytes that a file had when it was looked at, as far as it went then,
+-- and the blocks that they name are there. This stays so whatever becomes of the file.
 pub record ShowsWindow (block : ℕ) (rows : Rows) (g : Known) (present : Blocks) (window length : ℕ)
     (list : List Rec) (content : Content) : Type 0 where
   pub long : content.length ≡ length

@@ -44,7 +44,8 @@ depot_blocks setting (Some objects) = blocks_in setting objects
 abbrev pub present_in : Shared → Blocks
 present_in v = depot_blocks v.yard.setting v.yard.depot.content
 
--- What is known for good: the bytes of each block that there ever was, and the size of each slice that has a number.
+-- What is known for good: the bytes of each block that there ever was, and the size of each slice
+-- that has a number.
 pub record Known : Type 0 where
   pub blocks : Blocks
   pub sizes : ℕ → ℕ
@@ -71,8 +72,9 @@ staged_in yard staged client b =
     && is_some (staged_since client (name_in yard.setting b) yard.staged)
     then staged_at client (name_in yard.setting b) staged else None)
 
--- The tree is that of the keeper's rows, which are known and whole, with the bytes that their slices' blocks have. The depot has each
--- of these blocks; all copies of a block have its bytes, and none is of a slice that is still to get its number.
+-- The tree is that of the keeper's rows, which are known and whole, with the bytes that their
+-- slices' blocks have. The depot has each of these blocks; all copies of a block have its bytes,
+-- and none is of a slice that is still to get its number.
 pub record HasStore (t : Tree) (g : Known) (v : Shared) : Type 0 where
   pub rows : RowMap
   pub rows_are : v.keeper.rows ≡ Some rows

@@ -18,7 +18,8 @@ PlansAreDetermined = (list : List Rec) (from to : ℕ) (a b : List Piece)
 
 -- no block is listed twice among those that pieces need
 abbrev pub NeedsAreOnce : Type 0
-NeedsAreOnce = (block : ℕ) (pieces : List Piece) → IsDistinct is_same_block (needed_blocks block pieces)
+NeedsAreOnce =
+    (block : ℕ) (pieces : List Piece) → IsDistinct is_same_block (needed_blocks block pieces)
 
 -- and those are listed that some piece has bytes in
 abbrev pub NeedsAreThose : Type 0

@@ -20,11 +20,14 @@ ordered_of b = record { id = b.id; index = b.index; size = b.size }
 
 -- the order of sets and maps of blocks: by id, index and size
 abbrev pub ordered_cmp : OrderedBlock → OrderedBlock → Ordering
-ordered_cmp a b = ordering_then (nat_cmp a.id b.id) (ordering_then (nat_cmp a.index b.index) (nat_cmp a.size b.size))
+ordered_cmp a b =
+    ordering_then (nat_cmp a.id b.id) (ordering_then (nat_cmp a.index b.index)
+    (nat_cmp a.size b.size))
 
 -- the set has exactly the blocks of the list
 abbrev pub Lists : List BlockId → List OrderedBlock → Type 0
-Lists blocks listed = (b : BlockId) → list_any (is_at (ordered_cmp (ordered_of b))) listed ≡ list_any (is_same_block b) blocks
+Lists blocks listed = (b : BlockId)
+    → list_any (is_at (ordered_cmp (ordered_of b))) listed ≡ list_any (is_same_block b) blocks
 
 -- where there is no set, the list itself is looked through
 abbrev pub ListsIn : List BlockId → Option (BTreeSet OrderedBlock) → Type 0

@@ -15,12 +15,14 @@ IsSeen seen from to r = (position : ℕ) → from ≤ position → position < to
 
 -- the same is seen at each position from one to another
 abbrev pub IsAlike : (ℕ → Option Rec) → (ℕ → Option Rec) → ℕ → ℕ → Type 0
-IsAlike seen other from to = (position : ℕ) → from ≤ position → position < to → seen position ≡ other position
+IsAlike seen other from to =
+    (position : ℕ) → from ≤ position → position < to → seen position ≡ other position
 
 -- stretches that say what is seen from one position to another, one after the other
 abbrev pub Shows : (ℕ → Option Rec) → ℕ → ℕ → List Stretch → Type 0
 Shows seen from to [] = from ≡ to
-Shows seen from to (stretch ∷ stretches) = (from < stretch.end) × IsSeen seen from stretch.end stretch.seen × Shows seen stretch.end to stretches
+Shows seen from to (stretch ∷ stretches) = (from < stretch.end)
+    × IsSeen seen from stretch.end stretch.seen × Shows seen stretch.end to stretches
 
 -- the first of the stretches sees something else
 abbrev pub Turns : Option Rec → List Stretch → Type 0
@@ -39,4 +41,5 @@ pub record IsLayout (seen : ℕ → Option Rec) (from to : ℕ) (stretches : Lis
 
 -- the piece of a stretch that begins at a position
 abbrev pub piece_of : ℕ → Stretch → Piece
-piece_of from stretch = record { from = from; len = stretch.end - from; spot = place_by stretch.seen from }
+piece_of from stretch =
+    record { from = from; len = stretch.end - from; spot = place_by stretch.seen from }

@@ -50,7 +50,7 @@ fn place_by(seen: Option<Rec>, position: u32) -> Spot
 
 /// What a reader sees of the positions of a window from `from` to `to`, in order and without a gap. A piece ends where
 /// another record begins to be seen, or none, and at `to`. It shows bytes of a record's slice, or zeros. Positions
-/// count bytes from the start of the window, which has 67,108,864. The only error is out of memory. JuiceFS, Internals:
+/// count bytes from the start of the window, which has [`jv_model::WINDOW`]. The only error is out of memory. JuiceFS, Internals:
 /// slices overlap, and the latest is seen.
 pub fn plan(alloc: Global, list: &List, from: u32, to: u32) -> Result<Pieces, AllocError>
     requires records { All IsRecord list.now }

@@ -11,7 +11,7 @@ use Rattle.jv_model.specs.declared.fault.Gone.TheVariants.{Session, Node as Gone
 use Rattle.jv_model.specs.declared.op.Reply.TheVariants.{Done}
 use Rattle.jv_model.specs.tree.Attempt.{◌>>=◌, require, some_or}
 use Rattle.jv_model.specs.tree.Caller.{Outcome, done}
-use Rattle.jv_model.specs.tree.Tree.{Tree, Content, Node, content_at, content_of, fits, node_at}
+use Rattle.jv_model.specs.tree.Tree.{Tree, Content, Node, content_at, content_in, fits, node_at}
 use Rattle.jv_model.specs.tree.FileBytes.{commit_of, committed}
 use Rattle.jv_model.specs.client.Pending.{Segment, bytes_in_range}
 use Rattle.jv_model.specs.client.Submission.{next_segment}
@@ -39,7 +39,7 @@ tests-undone (Err said) fault e =
     let is : said ≡ fault = cc same in
     ap Err is
 
-node-there : (o : Option Node) (content : Content) → content_of o ≡ Some content → is_some o ≡ true
+node-there : (o : Option Node) (content : Content) → content_in o ≡ Some content → is_some o ≡ true
 node-there None content e = absurd (cc e)
 node-there (Some node) content e = refl
 

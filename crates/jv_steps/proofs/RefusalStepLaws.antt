@@ -22,7 +22,7 @@ use Rattle.jv_model.specs.client.ModelClient.{unmounted}
 use Rattle.jv_model.specs.journal.State.{State, after_told, flushing_on, has_session, is_of_another, refused_as}
 use Rattle.jv_model.specs.journal.Steps.{Start, CommitAsked, CommitLate, CommitTooLarge, Fails, InodeGone, IsRefusedIn}
 use Rattle.jv_model.specs.journal.Steps.{Refuses, SessionGone, is_crowded, is_failure, must_answer}
-use Rattle.jv_model.specs.journal.Past.{settled_reply, told_reply}
+use Rattle.jv_model.specs.journal.Past.{decided_reply, told_reply}
 use Rattle.jv_steps.specs.IsStep.{IsStep, at_stage}
 use Rattle.jv_steps.specs.RefusesCommit.{RefusesCommit, Late, NoFile, NoRoom, NoSession}
 use Rattle.jv_steps.proofs.StepFormLaws.{requested, step-alone}
@@ -133,7 +133,7 @@ failed-own NoMemory stage e = refl
 failed-own (DeviceFailed device) stage e = refl
 failed-own _ stage e = absurd (cc e)
 
-unsettled : (d : Doing) (stage : Stage) → must_answer (record d { stage = stage }) ≡ false → settled_reply stage ≡ None
+unsettled : (d : Doing) (stage : Stage) → must_answer (record d { stage = stage }) ≡ false → decided_reply stage ≡ None
 unsettled d (Replying answer) e = absurd (cc e)
 unsettled d _ e = refl
 

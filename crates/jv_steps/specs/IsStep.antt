@@ -9,8 +9,10 @@ use Rattle.jv_model.specs.journal.Steps.{Start}
 use Rattle.jv_model.specs.journal.Stepping.{AllowsStep, stepped_by}
 use Rattle.jv_steps.specs.Leaves.{Leaves}
 
--- A client may make these entries as one step, which leaves this tree, this client, and `copied` bytes copied in all.
-pub record IsStep (start : Start) (alone : Bool) (s : State) (client now : ℕ) (kinds : List ActKind) (step : Step)
+-- A client may make these entries as one step, which leaves this tree, this client, and `copied`
+-- bytes copied in all.
+pub record IsStep (start : Start) (alone : Bool) (s : State) (client now : ℕ) (kinds : List ActKind)
+    (step : Step)
     (t : Tree) (c : ModelClient) (copied : ℕ) : Type 0 where
   pub allows : AllowsStep start alone s client now kinds step
   pub leaves : Leaves s (stepped_by s client now kinds) client (length kinds) t c copied

@@ -4,9 +4,10 @@ use Rattle.jv_model.specs.tree.Tree.{Tree}
 use Rattle.jv_model.specs.client.ModelClient.{ModelClient}
 use Rattle.jv_model.specs.journal.State.{State}
 
--- After the entries of a client's step: the tree, the client, how many bytes were copied in all; other clients
--- are as before.
-pub record Leaves (s s' : State) (client entries : ℕ) (t : Tree) (c : ModelClient) (copied : ℕ) : Type 0 where
+-- After the entries of a client's step: the tree, the client, how many bytes were copied in all;
+-- other clients are as before.
+pub record Leaves (s s' : State) (client entries : ℕ) (t : Tree) (c : ModelClient)
+    (copied : ℕ) : Type 0 where
   pub tree : s'.tree ≡ t
   pub own : s'.clients client ≡ c
   pub others : (other : ℕ) → other ≢ client → s'.clients other ≡ s.clients other

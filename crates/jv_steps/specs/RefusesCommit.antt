@@ -11,18 +11,22 @@ use Rattle.jv_model.specs.client.ModelClient.{ModelClient, session_of}
 use Rattle.jv_model.specs.journal.State.{State, has_session}
 use Rattle.jv_model.specs.journal.Steps.{Start, is_crowded}
 
--- The first of what it needs that isn't so: its session, its file, that its first block was put less than an upload's
--- life ago, and room for its bytes, its slice and its record.
-pub data RefusesCommit (start : Start) (s : State) (now : ℕ) (c : ModelClient) (segment : Segment) (started : ℕ)
+-- The first of what it needs that isn't so: its session, its file, that its first block was put
+-- less than an upload's life ago, and room for its bytes, its slice and its record.
+pub data RefusesCommit (start : Start) (s : State) (now : ℕ) (c : ModelClient) (segment : Segment)
+    (started : ℕ)
     (fault : Fault) : Type 0 where
   NoSession : has_session s.tree c ≡ false → fault ≡ Stale (Session (session_of c))
       → RefusesCommit start s now c segment started fault
-  NoFile : IsTrue (has_session s.tree c) → node_at s.tree segment.inode ≡ None → fault ≡ Stale (Node segment.inode)
+  NoFile : IsTrue (has_session s.tree c) → node_at s.tree segment.inode ≡ None
+      → fault ≡ Stale (Node segment.inode)
       → RefusesCommit start s now c segment started fault
   Late : IsTrue (has_session s.tree c) → IsTrue (is_some (node_at s.tree segment.inode))
-      → started + UPLOAD_LIFE ≤ now → fault ≡ TimedOut started now → RefusesCommit start s now c segment started fault
+      → started + UPLOAD_LIFE ≤ now → fault ≡ TimedOut started now
+      → RefusesCommit start s now c segment started fault
   NoRoom : IsTrue (has_session s.tree c) → IsTrue (is_some (node_at s.tree segment.inode))
       → now < started + UPLOAD_LIFE
-      → IsTrue (is_crowded start s || not (fits s.tree (committed s.tree now segment.inode segment.from
+      → IsTrue (is_crowded start s
+      || not (fits s.tree (committed s.tree now segment.inode segment.from
       (bytes_in_range segment.inode segment.from segment.len c.pending))))
       → fault ≡ NoSpace → RefusesCommit start s now c segment started fault

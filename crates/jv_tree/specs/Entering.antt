@@ -1,4 +1,5 @@
--- How a new node comes under a new entry: what its row is, what the volume's limits let in, and what becomes of its directory.
+-- How a new node comes under a new entry: what its row is, what the volume's limits let in, and
+-- what becomes of its directory.
 use Rattle.std.specs.Prelude.{◌≡◌, ℕ, ◌+◌, Bool, true, false, ◌&&◌, ◌<◌, nat_le, nat_lt, if◌then◌else◌, List, None, Result, Ok, Err, IsTrue}
 use Rattle.jv_model.specs.declared.limits.TheConstants.{FULL_COUNT, MAX_LINKS, SPACE_UNIT}
 use Rattle.jv_model.specs.declared.fault.Fault.{Fault}
@@ -79,8 +80,8 @@ abbrev pub Grows : Setting → Counters → Result Counters Fault → Type 0
 Grows setting c (Ok after) = (has_room setting c ≡ true) × (after ≡ one_more c)
 Grows setting c (Err fault) = (has_room setting c ≡ false) × (fault ≡ NoSpace)
 
--- a directory that gets an entry has both times at the moment, and one link more for a directory in it, which is refused where
--- no more can be stored
+-- a directory that gets an entry has both times at the moment, and one link more for a directory in
+-- it, which is refused where no more can be stored
 abbrev pub GetsEntry : NodeRow → NodeRow → ℕ → ℕ → Result (Unit {0}) Fault → Type 0
 GetsEntry before after now kind (Ok unit) =
     (after ≡ directory_touched now (before.nlink + links_by kind) before)

@@ -28,8 +28,8 @@ fn may_be_new(dir: u64, name: &[u8]) -> bool
     dir < TRASH_ROOT && !(dir == ROOT && name == b".trash".as_slice())
 }
 
-/// Where a new entry may stand: not in the trash, and not where one is. No row changes. POSIX.1-2017, 4.13 "Pathname
-/// Resolution".
+/// Where a new entry may stand: not in the trash, not in the place of `.trash`, and not where an entry is. No row
+/// changes. POSIX.1-2017, 4.13 "Pathname Resolution".
 ///
 /// # Errors
 ///
@@ -209,7 +209,7 @@ pub fn create<K: Keeper>(
 ///
 /// # Errors
 ///
-/// As of [`create`], and NameTooLong for a target of over 4,096 bytes, before the path is looked at.
+/// As of [`create`], and NameTooLong for a target of over [`jv_model::MAX_PATH`] bytes, before the path is looked at.
 pub fn symlink<K: Keeper>(
     alloc: Global,
     k: &mut K,

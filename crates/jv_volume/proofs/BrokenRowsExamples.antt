@@ -14,12 +14,12 @@ use Rattle.jv_volume.specs.TypedRows.{Rows}
 use Rattle.jv_volume.specs.Views.{row_in, node_in, edge_in, counters_in}
 use Rattle.jv_volume.specs.Slices.{HasLists, OfFile, OfDropped}
 use Rattle.jv_volume.specs.Whole.{Whole}
-use Rattle.jv_volume.proofs.FreshWholeLaws.{first_counters}
+use Rattle.jv_volume.specs.Fresh.{fresh_counters}
 use Rattle.jv_volume.proofs.WholeRowsExamples.{rows_compute, volume, top, one_file, file, name, ten, with_file}
 
 -- a stored link count is off
 abbrev links_off : Rows
-links_off = volume first_counters (record top { nlink = 3 }) []
+links_off = volume fresh_counters (record top { nlink = 3 }) []
 
 links_in : Option NodeRow → ℕ
 links_in None = 0
@@ -31,7 +31,7 @@ links_off_broken w = let e : ◌≡◌ {A = ℕ} 3 2 = ap (λ o. links_in (node_
 
 -- the stored used space is off
 abbrev space_off : Rows
-space_off = volume (record first_counters { used_space = 4096 }) top []
+space_off = volume (record fresh_counters { used_space = 4096 }) top []
 
 space_in : Option Counters → ℕ
 space_in None = 0
@@ -79,7 +79,7 @@ past_length_broken w = let e : ◌≡◌ {A = ℕ} 1 0 = ap spot_slice (w.files.
 
 -- a list belongs to no file
 abbrev lost_list : Rows
-lost_list = volume (record first_counters { slice = 2 }) top (
+lost_list = volume (record fresh_counters { slice = 2 }) top (
     (list_key 2 0, Ok (OfList (ten ∷ [])))
     ∷ (slice_key 1, Ok (OfSlice (record { size = 10; count = 1 })))
     ∷ []
@@ -96,7 +96,7 @@ lost_list_broken w = no_owner (w.files.owned (list_key 2 0) refl (λ e. none-som
 
 -- bytes that spell no row
 abbrev no_row : Rows
-no_row = volume first_counters top ((slice_key 1, Err (7 ∷ [])) ∷ [])
+no_row = volume fresh_counters top ((slice_key 1, Err (7 ∷ [])) ∷ [])
 
 no_row_broken : Whole no_row → ⊥
 unfolding rows_compute

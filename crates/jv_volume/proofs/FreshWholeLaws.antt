@@ -1,13 +1,12 @@
 -- The rows of a volume that was just formatted are whole.
-use Rattle.std.proofs.Common.{List, ◌≡◌, ◌≢◌, ℕ, ◌+◌, inl, inr, [], ◌∷◌, None, Some, Ok, refl, sym, ap, subst, ◌∙◌, arith}
+use Rattle.std.proofs.Common.{List, ◌≡◌, ◌≢◌, ℕ, inl, inr, [], ◌∷◌, None, Some, Ok, refl, sym, ap, subst, ◌∙◌, arith}
 use Rattle.std.specs.Option.{option_map}
 use Rattle.std.specs.List.{AllByRecursion}
 use Rattle.std.proofs.lemmas.Option.{none-some, same_Some}
 use Rattle.std.proofs.lemmas.Bool.{cond-true, cond-false, eq-eqb, ne_eqb, cases_eq}
 use Rattle.jv_model.specs.declared.tables.TheConstants.{TABLE_OF_LISTS}
-use Rattle.jv_model.specs.declared.limits.TheConstants.{DIRECTORY_LENGTH, FULL_MODE, READ_ONLY_MODE, ROOT, TRASH_ROOT}
+use Rattle.jv_model.specs.declared.limits.TheConstants.{FULL_MODE, READ_ONLY_MODE, ROOT, TRASH_ROOT}
 use Rattle.jv_model.specs.declared.row.RowKey.{RowKey}
-use Rattle.jv_model.specs.declared.row.Counters.{Counters}
 use Rattle.jv_model.specs.declared.row.Node.{Node as NodeRow}
 use Rattle.jv_model.specs.declared.row.Row.TheVariants.{OfSetting, OfCounters, OfNode, OfEdge, OfSession, OfSustained}
 use Rattle.jv_model.specs.declared.setting.Setting.{Setting}
@@ -25,36 +24,18 @@ use Rattle.jv_volume.specs.Shape.{WholeShape, shape_of}
 use Rattle.jv_volume.specs.Stored.{Stored, node_row, edge_row, session_row, counters_row}
 use Rattle.jv_volume.specs.Slices.{count_in, listed, ListsHave, named_by, next_slice, WholeSlices, WholeFiles}
 use Rattle.jv_volume.specs.Whole.{IsRowAt, no_bytes, Whole}
+use Rattle.jv_volume.specs.Fresh.{fresh_counters, fresh_directory}
 use Rattle.jv_volume.proofs.ShapeMapLaws.{get-insert_apart}
 use Rattle.jv_volume.proofs.WrittenRowsLaws.{none_at, rows_at}
 use Rattle.jv_volume.proofs.FreshShapeLaws.{whole-fresh_tree}
-
--- the first inode after the root is next, and nothing counts as used
-abbrev pub first_counters : Counters
-first_counters = record { inode = ROOT + 1; slice = 1; session = 1; used_space = 0; used_inodes = 0 }
-
--- an empty directory in the root, with these permission bits, made at a moment
-abbrev pub first_directory : ℕ → ℕ → NodeRow
-first_directory mode at = record {
-  kind = 2;
-  mode = mode;
-  uid = 0;
-  gid = 0;
-  nlink = 2;
-  mtime = at;
-  ctime = at;
-  length = DIRECTORY_LENGTH;
-  parent = ROOT;
-  target = [];
-}
 
 -- the rows of a volume that is formatted at a moment: its setting, its counters, its root and its trash
 abbrev first_entries : Setting → ℕ → List (RowKey × Cell)
 first_entries setting at =
     (setting_key, Ok (OfSetting setting))
-    ∷ (counters_key, Ok (OfCounters first_counters))
-    ∷ (node_key ROOT, Ok (OfNode (first_directory FULL_MODE at)))
-    ∷ (node_key TRASH_ROOT, Ok (OfNode (first_directory READ_ONLY_MODE at)))
+    ∷ (counters_key, Ok (OfCounters fresh_counters))
+    ∷ (node_key ROOT, Ok (OfNode (fresh_directory FULL_MODE at)))
+    ∷ (node_key TRASH_ROOT, Ok (OfNode (fresh_directory READ_ONLY_MODE at)))
     ∷ []
 
 -- the same as a map
@@ -169,11 +150,11 @@ module _ (setting : Setting) (at : ℕ) where
 
   root_kind : (node : NodeRow) → node_row_at rows ROOT ≡ Some node → node.kind ≡ 2
   unfolding maps_compute
-  root_kind node is = ap (λ (n : NodeRow). n.kind) (sym (same_Some (first_directory FULL_MODE at) node is))
+  root_kind node is = ap (λ (n : NodeRow). n.kind) (sym (same_Some (fresh_directory FULL_MODE at) node is))
 
   trash_kind : (node : NodeRow) → node_row_at rows TRASH_ROOT ≡ Some node → node.kind ≡ 2
   unfolding maps_compute
-  trash_kind node is = ap (λ (n : NodeRow). n.kind) (sym (same_Some (first_directory READ_ONLY_MODE at) node is))
+  trash_kind node is = ap (λ (n : NodeRow). n.kind) (sym (same_Some (fresh_directory READ_ONLY_MODE at) node is))
 
   kind_is : (inode : ℕ) (node : NodeRow) → node_row_at rows inode ≡ Some node → node.kind ≡ 2
   kind_is inode node is = elim (cases_eq inode ROOT) [

@@ -9,7 +9,7 @@ use Rattle.jv_model.specs.declared.op.Op.TheVariants as op
 use Rattle.jv_model.specs.declared.fault.Fault.{Fault}
 use Rattle.jv_model.specs.FiniteMap.{get}
 use Rattle.jv_model.specs.tree.Attempt.{◌>>=◌}
-use Rattle.jv_model.specs.tree.Tree.{Tree, Node, File, Directory, Symlink, Content, node_at, content_of}
+use Rattle.jv_model.specs.tree.Tree.{Tree, Node, File, Directory, Symlink, Content, node_at, content_in}
 use Rattle.jv_model.specs.tree.Tree.{content_at, is_sustained}
 use Rattle.jv_model.specs.tree.Changes.{touched, with_content, overwritten, resized, copied_over}
 use Rattle.jv_model.specs.tree.Caller.{Caller, Outcome, outcome}
@@ -31,21 +31,21 @@ use Rattle.jv_volume.proofs.ReadingShapeLaws.{reads-lookup, reads-stat, reads-ls
 use Rattle.jv_volume.proofs.ReadingShapeLaws.{reads-open_file, reads-readdir, reads-readlink, reads-statfs}
 
 -- a file has bytes
-file_content : (o : Option Node) → form_of o ≡ Regular → is_some (content_of o) ≡ true
+file_content : (o : Option Node) → form_of o ≡ Regular → is_some (content_in o) ≡ true
 file_content None e = absurd (cc)
 file_content (Some node) e =
     elim node.kind as (λ kind. form_of (Some (record node { kind = kind })) ≡ Regular
-    → is_some (content_of (Some (record node { kind = kind }))) ≡ true) [
+    → is_some (content_in (Some (record node { kind = kind }))) ≡ true) [
       | File content ↦ λ e. refl
       | Directory parent ↦ λ e. absurd (cc)
       | Symlink target ↦ λ e. absurd (cc)
     ] e
 
 -- and what has bytes is one
-file_form : (o : Option Node) → is_some (content_of o) ≡ true → form_of o ≡ Regular
-file_form o e = by_content (content_of o) refl e
+file_form : (o : Option Node) → is_some (content_in o) ≡ true → form_of o ≡ Regular
+file_form o e = by_content (content_in o) refl e
   where
-    by_content : (c : Option Content) → content_of o ≡ c → is_some c ≡ true → form_of o ≡ Regular
+    by_content : (c : Option Content) → content_in o ≡ c → is_some c ≡ true → form_of o ≡ Regular
     by_content None is e = absurd (false≢true e)
     by_content (Some content) is e = form-content o content is
 
@@ -71,7 +71,7 @@ module _ (low : Type 0) (more : ℕ → Bool) (t after : Tree) (is_low : low) (k
 
   bytes_at : (inode : ℕ) (content : Content) → content_at after inode ≡ Some content → NodeKept t after inode
       → HasBytes t inode content
-  bytes_at inode content is (Gone none) = absurd (let absent : content_at after inode ≡ None = ap content_of none in cc)
+  bytes_at inode content is (Gone none) = absurd (let absent : content_at after inode ≡ None = ap content_in none in cc)
   bytes_at inode content is (Same same bytes) = Kept (sym bytes ∙ is)
   bytes_at inode content is (New high empty) = NewFile high (empty content is)
 

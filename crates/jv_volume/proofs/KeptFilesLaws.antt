@@ -6,7 +6,7 @@ use Rattle.std.specs.Prelude.{IsTrue}
 use Rattle.std.specs.Option.{option_map}
 use Rattle.std.proofs.lemmas.Bool.{cases_eq}
 use Rattle.jv_model.specs.FiniteMap.{Map, number_key, get}
-use Rattle.jv_model.specs.tree.Tree.{Tree, Node, Content, EntryKey, pair_key, node_at, content_of, content_at}
+use Rattle.jv_model.specs.tree.Tree.{Tree, Node, Content, EntryKey, pair_key, node_at, content_in, content_at}
 use Rattle.jv_model.specs.tree.Tree.{is_sustained}
 use Rattle.jv_model.specs.tree.Changes.{empty_content, touched, status_changed, put_node, drop_node, change_node, touch}
 use Rattle.jv_model.specs.tree.Changes.{put_entry, take_entry, with_node}
@@ -46,7 +46,7 @@ node_then t middle after inode next first (New high empty) = New (omega (arith, 
 
 -- a node that stays
 node_same : (t after : Tree) (other : ℕ) → node_at after other ≡ node_at t other → NodeKept t after other
-node_same t after other e = Same (ap is_some e) (ap content_of e)
+node_same t after other e = Same (ap is_some e) (ap content_in e)
 
 module _ {low : Type 0} {more : ℕ → Bool} where
   pub keeps-none : (t : Tree) → KeepsFiles low more t t
@@ -77,7 +77,7 @@ module _ {low : Type 0} {more : ℕ → Bool} where
     setting = setting;
     next = next;
     node = λ _ inode. Same (ap (λ (m : Map number_key Node). is_some (get m inode)) nodes)
-        (ap (λ (m : Map number_key Node). content_of (get m inode)) nodes);
+        (ap (λ (m : Map number_key Node). content_in (get m inode)) nodes);
     sustained = λ sid inode is. inl
         (ap (λ (m : Map pair_key (Unit {0})). is_some (get m (record { sid = sid; inode = inode }))) (sym sustained)
         ∙ is);
@@ -87,7 +87,7 @@ module _ {low : Type 0} {more : ℕ → Bool} where
 
   -- a change of a node that keeps the bytes of files
   pub keeps-change_node : (t : Tree) (inode : ℕ) (change : Node → Node)
-      → ((node : Node) → content_of (Some (change node)) ≡ content_of (Some node))
+      → ((node : Node) → content_in (Some (change node)) ≡ content_in (Some node))
       → KeepsFiles low more t (change_node t inode change)
   keeps-change_node t inode change same = record {
     setting = change_node-setting t inode change;
@@ -106,13 +106,13 @@ module _ {low : Type 0} {more : ℕ → Bool} where
       there None = refl
       there (Some node) = refl
 
-      content : (o : Option Node) → content_of (option_map change o) ≡ content_of o
+      content : (o : Option Node) → content_in (option_map change o) ≡ content_in o
       content None = refl
       content (Some node) = same node
 
       changed : (other : ℕ) → node_at (change_node t inode change) other ≡ option_map change (node_at t other)
           → NodeKept t (change_node t inode change) other
-      changed other e = Same (ap is_some e ∙ there (node_at t other)) (ap content_of e ∙ content (node_at t other))
+      changed other e = Same (ap is_some e ∙ there (node_at t other)) (ap content_in e ∙ content (node_at t other))
 
   -- a node put where a client knows none, or in place of one with the same bytes
   keeps-put_node : (t : Tree) (inode : ℕ) (node : Node)
@@ -132,19 +132,19 @@ module _ {low : Type 0} {more : ℕ → Bool} where
 
   -- a new node, which has no bytes
   pub keeps-put_new : (t : Tree) (inode : ℕ) (node : Node) → (low → t.next_inode ≤ inode)
-      → ((content : Content) → content_of (Some node) ≡ Some content → content ≡ empty_content)
+      → ((content : Content) → content_in (Some node) ≡ Some content → content ≡ empty_content)
       → KeepsFiles low more t (put_node t inode node)
   keeps-put_new t inode node high empty =
       keeps-put_node t inode node
-      (λ is_low after e. New (high is_low) (λ content is. empty content (sym (ap content_of e) ∙ is)))
+      (λ is_low after e. New (high is_low) (λ content is. empty content (sym (ap content_in e) ∙ is)))
 
   -- a node in place of one with the same bytes
   pub keeps-put_same : (t : Tree) (inode : ℕ) (node after : Node) → node_at t inode ≡ Some node
-      → content_of (Some after) ≡ content_of (Some node)
+      → content_in (Some after) ≡ content_in (Some node)
       → KeepsFiles low more t (put_node t inode after)
   keeps-put_same t inode node after there same =
       keeps-put_node t inode after
-      (λ _ u e. Same (ap is_some e ∙ sym (ap is_some there)) (ap content_of e ∙ same ∙ sym (ap content_of there)))
+      (λ _ u e. Same (ap is_some e ∙ sym (ap is_some there)) (ap content_in e ∙ same ∙ sym (ap content_in there)))
 
   -- a node gone
   pub keeps-drop_node : (t : Tree) (inode : ℕ) → KeepsFiles low more t (drop_node t inode)
@@ -181,7 +181,7 @@ module _ {low : Type 0} {more : ℕ → Bool} where
 
   -- a new node under a new entry
   pub keeps-with_node : (t : Tree) (now : ℕ) (place : EntryKey) (inode : ℕ) (node : Node) → (low → t.next_inode ≤ inode)
-      → ((content : Content) → content_of (Some node) ≡ Some content → content ≡ empty_content)
+      → ((content : Content) → content_in (Some node) ≡ Some content → content ≡ empty_content)
       → KeepsFiles low more t (with_node t now place inode node)
   keeps-with_node t now place inode node high empty =
       keeps-then t (put_node t inode node) (with_node t now place inode node)

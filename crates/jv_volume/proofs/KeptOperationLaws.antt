@@ -13,7 +13,7 @@ use Rattle.jv_model.specs.FiniteMap.{Map, get, insert, remove}
 use Rattle.jv_model.specs.tree.Attempt.{◌>>=◌, require, some_or}
 use Rattle.jv_model.specs.tree.Tree.{Tree, Node, File, Directory, Symlink, Content, EntryKey, SustainedFile}
 use Rattle.jv_model.specs.tree.Tree.{SessionEntry, pair_key, new_node}
-use Rattle.jv_model.specs.tree.Tree.{in_trash, node_at, content_of, is_directory, entry_count, is_sustained}
+use Rattle.jv_model.specs.tree.Tree.{in_trash, node_at, content_in, is_directory, entry_count, is_sustained}
 use Rattle.jv_model.specs.tree.Changes.{empty_content, touched, status_changed, put_node, drop_node, change_node}
 use Rattle.jv_model.specs.tree.Changes.{put_entry, take_entry, with_node}
 use Rattle.jv_model.specs.tree.Caller.{Caller, Outcome, outcome, done}
@@ -49,18 +49,18 @@ those_held who inode = is_among inode who.held
 -- new nodes
 
 -- a directory of another parent has no bytes either
-content-moved : (now dir : ℕ) (node : Node) → content_of (Some (moved_node now dir node)) ≡ content_of (Some node)
+content-moved : (now dir : ℕ) (node : Node) → content_in (Some (moved_node now dir node)) ≡ content_in (Some node)
 content-moved now dir node =
-    elim node.kind as (λ kind. content_of (Some (moved_node now dir (record node { kind = kind })))
-    ≡ content_of (Some (record node { kind = kind }))) [
+    elim node.kind as (λ kind. content_in (Some (moved_node now dir (record node { kind = kind })))
+    ≡ content_in (Some (record node { kind = kind }))) [
       | File content ↦ refl
       | Directory parent ↦ refl
       | Symlink target ↦ refl
     ]
 
 -- nodes of one kind have the same bytes
-content-kind : (after node : Node) → after.kind ≡ node.kind → content_of (Some after) ≡ content_of (Some node)
-content-kind after node same = ap (λ kind. content_of (Some (record node { kind = kind }))) same
+content-kind : (after node : Node) → after.kind ≡ node.kind → content_in (Some after) ≡ content_in (Some node)
+content-kind after node same = ap (λ kind. content_in (Some (record node { kind = kind }))) same
 
 -- an inode is kept only where the caller has it open
 held_where_sustained : (t : Tree) (who : Caller) (place : EntryKey) (inode : ℕ) → fate_of t who place inode ≡ Sustained
@@ -80,7 +80,7 @@ high_hour hour =
 module _ {low : Type 0} {more : ℕ → Bool} where
   -- the next inode under a new entry
   pub keeps-with_next : (t : Tree) (now : ℕ) (place : EntryKey) (node : Node)
-      → ((content : Content) → content_of (Some node) ≡ Some content → content ≡ empty_content)
+      → ((content : Content) → content_in (Some node) ≡ Some content → content ≡ empty_content)
       → KeepsFiles low more t (with_next t now place node)
   keeps-with_next t now place node empty =
       let made = with_node t now place t.next_inode node in
@@ -181,7 +181,7 @@ module _ {low : Type 0} {more : ℕ → Bool} where
       by_test : (b : Bool) (inode : ℕ) → node_at (without_session t sid) inode ≡ cond (not b) (node_at t inode) None
           → NodeKept t (without_session t sid) inode
       by_test true inode e = Gone e
-      by_test false inode e = Same (ap is_some e) (ap content_of e)
+      by_test false inode e = Same (ap is_some e) (ap content_in e)
 
   -- a file gone that a session kept
   pub keeps-released : (t : Tree) (sid inode : ℕ) → KeepsFiles low more t (released t sid inode)
@@ -216,7 +216,7 @@ module _ (low : Type 0) (more : ℕ → Bool) (t : Tree) where
 
 module _ {low : Type 0} {more : ℕ → Bool} (t : Tree) (who : Caller) where
   keeps-entered : (place : EntryKey) (node : Node) (after : Tree)
-      → ((content : Content) → content_of (Some node) ≡ Some content → content ≡ empty_content)
+      → ((content : Content) → content_in (Some node) ≡ Some content → content ≡ empty_content)
       → entered t who.now place node ≡ Ok after → KeepsFiles low more t after
   keeps-entered place node after empty h =
       subst (KeepsFiles low more t) (is_entered t who.now place node after h).is

@@ -26,7 +26,6 @@ pub mod ReadingShapeLaws
 pub mod RenamingOperationLaws
 pub mod TreeActLaws
 pub mod MapLaws
-pub mod FreshExamples
 pub mod TypedLaws
 pub mod SelectLaws
 pub mod TableLaws

@@ -8,7 +8,7 @@ use Rattle.jv_model.specs.tree.Attempt.{◌>>=◌, require, some_or}
 use Rattle.jv_model.specs.tree.Tree.{Tree, Node, node_at, is_directory, target_at}
 use Rattle.jv_model.specs.tree.Caller.{Caller, Outcome, outcome, answered, done, in_session}
 use Rattle.jv_model.specs.tree.Walk.{inode_of, unfollowed_inode_of}
-use Rattle.jv_model.specs.tree.Reading.{attr_of, entries_of, usage_of, lookup, described, stat, lstat, fstat, file_inode, compact_inode, compact, open_file, readdir, readlink, statfs}
+use Rattle.jv_model.specs.tree.Reading.{attr_of, entries_of, usage_of, lookup, described, stat, lstat, fstat, file_inode, compact, open_file, readdir, readlink, statfs}
 
 -- an attempt that changes no tree, whatever it answers
 abbrev Reads : Tree → Result Outcome Fault → Type 0
@@ -54,7 +54,7 @@ module _ (t : Tree) (who : Caller) where
   -- a compaction
   pub reads-compact : (path : List ℕ) → (outcome t (compact t who path)).tree ≡ t
   unfolding compact
-  reads-compact path = reads_then t (compact_inode t who path) (λ inode. done t) (λ inode. refl)
+  reads-compact path = reads_then t (file_inode t who path) (λ inode. done t) (λ inode. refl)
 
   -- a file opened
   pub reads-open_file : (path : List ℕ) → (outcome t (open_file t who path)).tree ≡ t

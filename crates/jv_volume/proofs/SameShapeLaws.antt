@@ -2,7 +2,7 @@
 use Rattle.std.proofs.Common.{◌≡◌, ℕ, ◌+◌, Bool, true, false, ◌==◌, inl, inr, List, Option, None, Some, is_some, refl, sym, ap, subst, ◌∙◌}
 use Rattle.jv_model.specs.declared.lifetimes.TheConstants.{SESSION_LIFE}
 use Rattle.jv_model.specs.FiniteMap.{number_key, get, insert}
-use Rattle.jv_model.specs.tree.Tree.{Tree, Node, Content, SessionEntry, node_at, content_of, content_at}
+use Rattle.jv_model.specs.tree.Tree.{Tree, Node, Content, SessionEntry, node_at, content_in, content_at}
 use Rattle.jv_model.specs.tree.Changes.{status_changed, put_node, with_content, change_node, overwritten, resized, copied_over}
 use Rattle.jv_model.specs.tree.Caller.{Caller}
 use Rattle.jv_model.specs.tree.FileBytes.{committed, truncated, copied, copied_between}
@@ -35,7 +35,7 @@ shape-status_changed t now inode = shape-change_node_same t inode (status_change
 
 file_again : (t : Tree) (now inode : ℕ) (old content : Content) (o : Option Node) → node_at t inode ≡ o → content_at t inode ≡ Some old
     → shape_of (with_content t now inode content) ≡ shape_of t
-file_again t now inode old content None e is = absurd (let none : content_at t inode ≡ None = ap content_of e in cc)
+file_again t now inode old content None e is = absurd (let none : content_at t inode ≡ None = ap content_in e in cc)
 file_again t now inode old content (Some node) e is = shape-change_node t inode _ node e
     ∙ ap (λ f. with_forms (shape_of t) (with_form (shape_of t).form inode f)) (sym (form-content (node_at t inode) old is))
     ∙ (λ i. record (shape_of t) { form = λ other. with_form-same (shape_of t).form inode other i })

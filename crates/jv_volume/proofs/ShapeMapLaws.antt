@@ -9,7 +9,7 @@ use Rattle.std.proofs.lemmas.Option.{same_Some}
 use Rattle.std.proofs.lemmas.Bool.{or_from, cases_Bool, cond-true, cond-false, false_from_ne_true, false≢true, eq-eqb, ne_eqb, eqb-true, cases_eq}
 use Rattle.jv_model.specs.declared.limits.TheConstants.{ROOT, TRASH_ROOT}
 use Rattle.jv_model.specs.FiniteMap.{KeyOrder, Map, number_key, get, insert, remove, alter, first_passing, first_where, sum_over, total_over}
-use Rattle.jv_model.specs.tree.Tree.{Tree, Node, Kind, File, Directory, Symlink, Content, EntryKey, SustainedFile, entry_key, node_at, is_directory, content_of, parent_of, naming, name_count}
+use Rattle.jv_model.specs.tree.Tree.{Tree, Node, Kind, File, Directory, Symlink, Content, EntryKey, SustainedFile, entry_key, node_at, is_directory, content_in, parent_of, naming, name_count}
 use Rattle.jv_model.specs.tree.Changes.{touched, put_node, drop_node, set_node, change_node, touch, put_entry, take_entry}
 use Rattle.jv_model.proofs.FiniteMapLaws.{share, sum-insert, sum-remove, IsFound, first_where-found, get-alter}
 use Rattle.jv_volume.specs.Shape.{Form, Absent, Regular, Link, Dir, Shape, form_of, is_there, is_dir, shape_of, names, is_top, is_hour, Reaches, Names}
@@ -391,9 +391,9 @@ form-parent (Some node) parent h = elim node.kind as (λ kind. parent_of (of_kin
 ] h
 
 -- a file, by its bytes
-pub form-content : (o : Option Node) (content : Content) → content_of o ≡ Some content → form_of o ≡ Regular
+pub form-content : (o : Option Node) (content : Content) → content_in o ≡ Some content → form_of o ≡ Regular
 form-content None content h = absurd (cc)
-form-content (Some node) content h = elim node.kind as (λ kind. content_of (of_kind node kind) ≡ Some content → form_of (of_kind node kind) ≡ Regular) [
+form-content (Some node) content h = elim node.kind as (λ kind. content_in (of_kind node kind) ≡ Some content → form_of (of_kind node kind) ≡ Regular) [
   | File own ↦ λ e. refl
   | Directory other ↦ λ e. absurd (cc)
   | Symlink target ↦ λ e. absurd (cc)

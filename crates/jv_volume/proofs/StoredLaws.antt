@@ -12,7 +12,7 @@ use Rattle.jv_model.specs.declared.setting.Setting.{Setting}
 use Rattle.jv_model.specs.declared.row.Row.TheVariants.{OfSetting, OfCounters, OfNode, OfEdge, OfSession, OfSustained}
 use Rattle.jv_model.specs.FiniteMap.{Map, number_key, get, sum_over}
 use Rattle.jv_model.specs.rows.RowPlaces.{node_key, edge_key, session_key, sustained_key}
-use Rattle.jv_model.specs.tree.Tree.{Tree, Node, Kind, File, Directory, Symlink, EntryKey, entry_key, SessionEntry, node_at, node_space, node_count, used_space, used_inodes, link_count, parent_of, parent_at, target_at, content_of as content_in, content_at, is_directory, is_sustained, target_in}
+use Rattle.jv_model.specs.tree.Tree.{Tree, Node, Kind, File, Directory, Symlink, EntryKey, entry_key, SessionEntry, node_at, node_space, node_count, used_space, used_inodes, link_count, parent_of, parent_at, target_at, content_in, content_at, is_directory, is_sustained, target_in}
 use Rattle.jv_model.specs.tree.Changes.{content_of}
 use Rattle.jv_volume.specs.TypedRows.{Cell, Rows}
 use Rattle.jv_volume.specs.Views.{row_in, setting_in, setting_at, counters_in, counters_at, node_in, node_row_at, edge_in, edge_at, session_in, session_at, sustained_in, sustained_at}

@@ -165,15 +165,9 @@ row_number links byte row is = sym (ap (λ (r : NodeRow). r.kind) is)
 
 -- ---- changes of one row, and of the counters
 
--- counters that say what the tree's are
-pub record CountsFor (u : Tree) (c : Counters) : Type 0 where
-  pub inode : u.next_inode ≡ c.inode
-  pub session : u.next_session ≡ c.session
-  pub space : used_space u ≡ c.used_space
-  pub inodes : used_inodes u ≡ c.used_inodes
-
-pub counters_as : (u : Tree) (c : Counters) → CountsFor u c → c ≡ counters_row u c.slice
-counters_as u c h = λ i. record { inode = sym h.inode i; slice = c.slice; session = sym h.session i; used_space = sym h.space i; used_inodes = sym h.inodes i }
+-- the row of counters that were read
+pub counters_as : (u : Tree) (c : Counters) → HasCounters u c → c ≡ counters_row u c.slice
+counters_as u c h = λ i. record { inode = sym h.next_inode i; slice = c.slice; session = sym h.next_session i; used_space = sym h.space i; used_inodes = sym h.inodes i }
 
 -- what stands at a key after another was changed
 pub alter_kept : (rows : Rows) (q : RowKey) (cell : Option Cell) (k : RowKey) → eq_by_cmp row_cmp k q ≡ false → get (alter rows q cell) k ≡ get rows k
@@ -238,7 +232,7 @@ pub stored-put_counters : (bytes : ℕ → ℕ → ℕ) (rows : Rows) (c : Count
 stored-put_counters bytes rows c s space inodes =
     let t = tree_of bytes rows in
     let u : Tree = record t { next_inode = c.inode; next_session = c.session } in
-    let counts : CountsFor u c = record { inode = refl; session = refl; space = space; inodes = inodes } in
+    let counts : HasCounters u c = record { next_inode = refl; next_session = refl; space = space; inodes = inodes } in
     stored-goes bytes rows (insert rows counters_key (of_counters c)) u c.slice s (record {
       tree = tree_of-put_counters bytes rows c;
       setting = put_kept rows counters_key (of_counters c) setting_key refl;
@@ -280,10 +274,10 @@ module _ (bytes : ℕ → ℕ → ℕ) (rows : Rows) (inode : ℕ) (row : NodeRo
       ∙ ap (λ (x : Tree). record x { next_inode = next; next_session = c.session }) (tree_of-put_node bytes rows inode row)
       ∙ (λ i. record (put_node (tree_of bytes rows) inode new) { next_inode = next; next_session = sym c_is.next_session i })
 
-  counts : CountsFor tree_with_node counters_with_node
+  counts : HasCounters tree_with_node counters_with_node
   counts = record {
-    inode = refl;
-    session = c_is.next_session;
+    next_inode = refl;
+    next_session = c_is.next_session;
     space = used_space-put_new (tree_of bytes rows) inode new free.absent ∙ ap (λ n. n + node_space inode new) c_is.space;
     inodes = used_inodes-put_new (tree_of bytes rows) inode new free.absent ∙ ap (λ n. n + node_count inode new) c_is.inodes;
   }
@@ -342,11 +336,11 @@ module _ (bytes : ℕ → ℕ → ℕ) (rows : Rows) (inode : ℕ) (row : NodeRo
   gone_is : HasNode (tree_of bytes rows) inode row (bytes inode)
   gone_is = found_node bytes rows s inode row here
 
-  counts_without_node : CountsFor tree_without_node counters_without_node
+  counts_without_node : HasCounters tree_without_node counters_without_node
   counts_without_node =
       let space = used_space-drop_node (tree_of bytes rows) inode gone gone_is.there in
       let inodes = used_inodes-drop_node (tree_of bytes rows) inode gone gone_is.there in
-      record { inode = has.next_inode; session = has.next_session; space = omega (arith, space, has.space); inodes = omega (arith, inodes, has.inodes) }
+      record { next_inode = has.next_inode; next_session = has.next_session; space = omega (arith, space, has.space); inodes = omega (arith, inodes, has.inodes) }
 
   put_last : (q : RowKey) → eq_by_cmp row_cmp q counters_key ≡ false → get rows_without_node q ≡ get (remove rows (node_key inode)) q
   put_last q apart = put_kept (remove rows (node_key inode)) counters_key (of_counters counters_without_node) q apart
@@ -413,12 +407,12 @@ module _ (bytes : ℕ → ℕ → ℕ) (rows : Rows) (inode : ℕ) (row new_row 
   links_then : (j : ℕ) → link_count tree_then j ≡ link_count (tree_of bytes rows) j
   links_then = links-number (tree_of bytes rows) tree_then refl numbers_then
 
-  counts_then : CountsFor tree_then (record c { used_space = space })
+  counts_then : HasCounters tree_then (record c { used_space = space })
   counts_then =
       let all = used_space-put_over (tree_of bytes rows) inode (node_of (bytes inode) row) then_node row_is.there in
       record {
-        inode = c_has.next_inode;
-        session = c_has.next_session;
+        next_inode = c_has.next_inode;
+        next_session = c_has.next_session;
         space = omega (arith, all, c_has.space, space_is);
         inodes = used_inodes-put_over (tree_of bytes rows) inode (node_of (bytes inode) row) then_node row_is.there ∙ c_has.inodes;
       }

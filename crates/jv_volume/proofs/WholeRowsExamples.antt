@@ -33,7 +33,7 @@ use Rattle.jv_volume.specs.Whole.{IsRowAt, no_bytes, Whole}
 use Rattle.jv_volume.proofs.ShapeMapLaws.{same_or_apart, get-insert_apart}
 use Rattle.jv_volume.proofs.EnteredShapeLaws.{whole-with_next_file}
 use Rattle.jv_volume.proofs.FreshShapeLaws.{whole-fresh_tree}
-use Rattle.jv_volume.proofs.FreshWholeLaws.{first_directory}
+use Rattle.jv_volume.specs.Fresh.{fresh_directory}
 use Rattle.jv_volume.proofs.WrittenRowsLaws.{none_at, rows_at}
 use Rattle.jv_volume.proofs.BrokenExamples.{plain}
 use Rattle.jv_volume.proofs.FilesLaws.{nothing_shows}
@@ -49,13 +49,13 @@ volume counters top more = map_of (
     (setting_key, Ok (OfSetting plain))
     ∷ (counters_key, Ok (OfCounters counters))
     ∷ (node_key ROOT, Ok (OfNode top))
-    ∷ (node_key TRASH_ROOT, Ok (OfNode (first_directory READ_ONLY_MODE 0)))
+    ∷ (node_key TRASH_ROOT, Ok (OfNode (fresh_directory READ_ONLY_MODE 0)))
     ∷ more
     )
 
 -- its root
 abbrev pub top : NodeRow
-top = first_directory FULL_MODE 0
+top = fresh_directory FULL_MODE 0
 
 -- the counters of a volume with one file of at most a unit of space, and one slice
 abbrev pub one_file : Counters
@@ -109,7 +109,7 @@ written =
     (setting_key, Ok (OfSetting plain))
     ∷ (counters_key, Ok (OfCounters one_file))
     ∷ (node_key ROOT, Ok (OfNode top))
-    ∷ (node_key TRASH_ROOT, Ok (OfNode (first_directory READ_ONLY_MODE 0)))
+    ∷ (node_key TRASH_ROOT, Ok (OfNode (fresh_directory READ_ONLY_MODE 0)))
     ∷ with_file 10 1
 
 all_rows : (key : RowKey) (cell : Cell) → get rows key ≡ Some cell → IsRowAt key cell
@@ -332,7 +332,7 @@ root_at : node_row_at rows ROOT ≡ Some top
 unfolding rows_compute
 root_at = refl
 
-trash_at : node_row_at rows TRASH_ROOT ≡ Some (first_directory READ_ONLY_MODE 0)
+trash_at : node_row_at rows TRASH_ROOT ≡ Some (fresh_directory READ_ONLY_MODE 0)
 unfolding rows_compute
 trash_at = refl
 
@@ -346,7 +346,7 @@ only_file inode node is kind = elim (cases_eq inode 2) [
   | inr c ↦ elim (cases_eq inode ROOT) [
     | inl e ↦ let two = ap (λ (n : NodeRow). n.kind) (kind_of top node inode ROOT e root_at is) in absurd (omega (arith, two, kind))
     | inr a ↦ elim (cases_eq inode TRASH_ROOT) [
-      | inl e ↦ let two = ap (λ (n : NodeRow). n.kind) (kind_of (first_directory READ_ONLY_MODE 0) node inode TRASH_ROOT e trash_at is) in absurd
+      | inl e ↦ let two = ap (λ (n : NodeRow). n.kind) (kind_of (fresh_directory READ_ONLY_MODE 0) node inode TRASH_ROOT e trash_at is) in absurd
           (omega (arith, two, kind))
       | inr b ↦ absurd (none-some node (sym (ap (λ o. node_in (row_in o)) (no_node inode a b c)) ∙ is))
     ]

@@ -4,7 +4,8 @@ use Rattle.jv_model.specs.tree.Tree.{Tree, Content, content_at}
 use Rattle.jv_model.specs.tree.Changes.{empty_content}
 use Rattle.jv_volume.specs.Shape.{Regular, is_there, shape_of}
 
--- An inode that was given to a file: the file is there or gone, and no other node comes in its place.
+-- An inode that was given to a file: the file is there or gone, and no other node comes in its
+-- place.
 pub record IsHoldable (t : Tree) (inode : ℕ) : Type 0 where
   pub below : inode < t.next_inode
   pub file : IsTrue (is_there ((shape_of t).form inode)) → (shape_of t).form inode ≡ Regular

@@ -7,3 +7,4 @@ pub mod Stored
 pub mod Slices
 pub mod Whole
 pub mod Holding
+pub mod Fresh

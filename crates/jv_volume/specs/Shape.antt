@@ -1,4 +1,5 @@
--- What makes a tree whole. It sees no times, attributes or bytes, so it is a fact on the tree's shape alone.
+-- What makes a tree whole. It sees no times, attributes or bytes, so it is a fact on the tree's
+-- shape alone.
 use Rattle.std.specs.Prelude.{◌≡◌, ℕ, zero, suc, ◌<◌, ◌≤◌, Bool, true, false, ◌&&◌, ◌||◌, ◌==◌, nat_le, nat_lt, List, is_some, Option, None, Some, IsTrue}
 use Rattle.jv_model.specs.declared.limits.TheConstants.{FULL_COUNT, ROOT, TRASH_ROOT}
 use Rattle.jv_model.specs.declared.lifetimes.TheConstants.{FIRST_HOUR}
@@ -16,7 +17,12 @@ pub data Form : Type 0 where
 
 abbrev pub form_of : Option Node → Form
 form_of None = Absent
-form_of (Some node) = elim node.kind [ File content ↦ Regular | Directory parent ↦ Dir parent | Symlink target ↦ Link ]
+form_of (Some node) =
+    elim node.kind [
+      | File content ↦ Regular
+      | Directory parent ↦ Dir parent
+      | Symlink target ↦ Link
+    ]
 
 abbrev pub is_there : Form → Bool
 is_there Absent = false
@@ -76,7 +82,8 @@ pub record NamesHour (at : EntryKey) (inode : ℕ) : Type 0 where
   pub hour : IsTrue (is_hour inode)
   pub name : at.name ≡ hour_name (hour_of inode)
 
--- an entry of an hour is a file or a symlink, the last entry of its inode, named after where it stood and its inode
+-- an entry of an hour is a file or a symlink, the last entry of its inode, named after where it
+-- stood and its inode
 pub record NamesTrashed (s : Shape) (at : EntryKey) (inode : ℕ) : Type 0 where
   pub leaf : is_dir (s.form inode) ≡ false
   pub only : names s inode ≡ 1
@@ -114,12 +121,16 @@ pub record WholeShape (s : Shape) : Type 0 where
   pub root_there : s.form ROOT ≡ Dir ROOT
   pub trash_there : s.form TRASH_ROOT ≡ Dir ROOT
   pub entry : (at : EntryKey) (inode : ℕ) → named s at ≡ Some inode → Names s at inode
-  pub entered : (dir parent : ℕ) → s.form dir ≡ Dir parent → is_top dir ≡ false → Entered s dir parent
+  pub entered : (dir parent : ℕ) → s.form dir ≡ Dir parent → is_top dir ≡ false
+      → Entered s dir parent
   pub rooted : (dir parent : ℕ) → s.form dir ≡ Dir parent → (steps : ℕ) × Reaches s.form steps dir
-  pub held : (inode : ℕ) → IsTrue (is_there (s.form inode)) → is_dir (s.form inode) ≡ false → names s inode ≡ 0 → IsKept s inode
+  pub held : (inode : ℕ) → IsTrue (is_there (s.form inode)) → is_dir (s.form inode) ≡ false
+      → names s inode ≡ 0 → IsKept s inode
   pub sustains : (sid inode : ℕ) → IsTrue (keeps s sid inode) → Keeps s sid inode
-  pub hours : (inode : ℕ) → IsTrue (is_there (s.form inode)) → IsTrue (nat_lt TRASH_ROOT inode) → IsTrue (is_hour inode) × (s.form inode ≡ Dir TRASH_ROOT)
-  pub below : (inode : ℕ) → IsTrue (is_there (s.form inode)) → IsTrue (nat_lt inode TRASH_ROOT) → inode < s.next_inode
+  pub hours : (inode : ℕ) → IsTrue (is_there (s.form inode)) → IsTrue (nat_lt TRASH_ROOT inode)
+      → IsTrue (is_hour inode) × (s.form inode ≡ Dir TRASH_ROOT)
+  pub below : (inode : ℕ) → IsTrue (is_there (s.form inode)) → IsTrue (nat_lt inode TRASH_ROOT)
+      → inode < s.next_inode
   pub sessions : (sid : ℕ) → IsTrue (s.in_session sid) → (1 ≤ sid) × (sid < s.next_session)
   pub inodes_end : s.next_inode ≤ FULL_COUNT
   pub sessions_end : s.next_session ≤ FULL_COUNT

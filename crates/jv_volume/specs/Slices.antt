@@ -54,9 +54,11 @@ pub record WholeSlices (rows : Rows) : Type 0 where
   pub sizes : ℕ → ℕ
   pub records : ListsHave IsRecord rows
   pub sized : ListsHave (λ r. r.id ≢ 0 → r.size ≡ sizes r.id) rows
-  pub slice_size : (id : ℕ) (slice : SliceRow) → slice_row_at rows id ≡ Some slice → (slice.size ≡ sizes id) × (1 ≤ slice.size) × (slice.size ≤ WINDOW)
+  pub slice_size : (id : ℕ) (slice : SliceRow) → slice_row_at rows id ≡ Some slice
+      → (slice.size ≡ sizes id) × (1 ≤ slice.size) × (slice.size ≤ WINDOW)
   pub exact : (id : ℕ) → 0 < id → slice_count rows id ≡ named_by rows id
-  pub dead_size : (id : ℕ) (dead : Dead) → dead_at rows id ≡ Some dead → (1 ≤ dead.size) × (dead.size ≤ WINDOW)
+  pub dead_size : (id : ℕ) (dead : Dead) → dead_at rows id ≡ Some dead
+      → (1 ≤ dead.size) × (dead.size ≤ WINDOW)
   pub apart : (id : ℕ) → dead_at rows id ≢ None → slice_row_at rows id ≡ None
   pub below : (id : ℕ) → next_slice rows ≤ id → IsUnknown rows id
   pub none : slice_row_at rows 0 ≡ None
@@ -68,13 +70,17 @@ place_in lists position = stored_place (lists (position / WINDOW)) (position % W
 
 -- who may have lists: a file, or a removed one whose row is there
 pub data HasLists (rows : Rows) (inode : ℕ) : Type 0 where
-  OfFile : (node : NodeRow) → node_row_at rows inode ≡ Some node → node.kind ≡ 1 → HasLists rows inode
+  OfFile : (node : NodeRow) → node_row_at rows inode ≡ Some node → node.kind ≡ 1
+      → HasLists rows inode
   OfDropped : dropped_at rows inode ≢ None → HasLists rows inode
 
--- no file is longer than it may be, and none shows anything from its length on
+-- no file is longer than it may be, and none shows anything from its length on; only files and
+-- removed ones have lists, and no node has the number of a removed one, which was given before
 pub record WholeFiles (rows : Rows) : Type 0 where
-  pub small : (inode : ℕ) (node : NodeRow) → node_row_at rows inode ≡ Some node → node.kind ≡ 1 → node.length ≤ FILE_END
+  pub small : (inode : ℕ) (node : NodeRow) → node_row_at rows inode ≡ Some node → node.kind ≡ 1
+      → node.length ≤ FILE_END
   pub past : (inode : ℕ) (node : NodeRow) → node_row_at rows inode ≡ Some node → node.kind ≡ 1
       → (position : ℕ) → node.length ≤ position → place_in (lists_of rows inode) position ≡ Zero
   pub owned : (key : RowKey) → key.tab ≡ TABLE_OF_LISTS → get rows key ≢ None → HasLists rows key.a
-  pub gone : (inode : ℕ) → dropped_at rows inode ≢ None → (node_row_at rows inode ≡ None) × (inode < (counters_of rows).inode)
+  pub gone : (inode : ℕ) → dropped_at rows inode ≢ None
+      → (node_row_at rows inode ≡ None) × (inode < (counters_of rows).inode)

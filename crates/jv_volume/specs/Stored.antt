@@ -1,4 +1,5 @@
--- That rows are those of a tree: what stands at each key is what the tree has there, with its counts and sums.
+-- That rows are those of a tree: what stands at each key is what the tree has there, with its
+-- counts and sums.
 use Rattle.std.specs.Prelude.{◌≡◌, ℕ, ◌<◌, ◌^◌, ◌==◌, if◌then◌else◌, List, [], length, Option, None, Some, Ok}
 use Rattle.std.specs.Option.{option_map}
 use Rattle.jv_model.specs.declared.row.Counters.{Counters}
@@ -61,13 +62,25 @@ abbrev pub session_row : SessionEntry → Session
 session_row entry = record { client = entry.client; expiry = entry.expiry }
 
 abbrev pub counters_row : Tree → ℕ → Counters
-counters_row t slice = record { inode = t.next_inode; slice = slice; session = t.next_session; used_space = used_space t; used_inodes = used_inodes t }
+counters_row t slice =
+    record {
+      inode = t.next_inode;
+      slice = slice;
+      session = t.next_session;
+      used_space = used_space t;
+      used_inodes = used_inodes t;
+    }
 
 pub record Stored (rows : Rows) (t : Tree) : Type 0 where
   pub slice : ℕ  -- the next slice, which the tree doesn't have
   pub setting : get rows setting_key ≡ Some (Ok (OfSetting t.setting))
   pub counters : get rows counters_key ≡ Some (Ok (OfCounters (counters_row t slice)))
-  pub node : (inode : ℕ) → get rows (node_key inode) ≡ option_map (λ node. Ok (OfNode (node_row (link_count t inode) node))) (node_at t inode)
-  pub edge : (at : EntryKey) → get rows (edge_key at.dir at.name) ≡ option_map (λ inode. Ok (OfEdge (edge_row t inode))) (get t.entries at)
-  pub session : (sid : ℕ) → get rows (session_key sid) ≡ option_map (λ entry. Ok (OfSession (session_row entry))) (get t.sessions sid)
-  pub sustained : (sid inode : ℕ) → inode < 2 ^ 64 → get rows (sustained_key sid inode) ≡ option_map (λ unit. Ok OfSustained) (get t.sustained (record { sid = sid; inode = inode }))
+  pub node : (inode : ℕ) → get rows (node_key inode) ≡ option_map (λ node.
+      Ok (OfNode (node_row (link_count t inode) node))) (node_at t inode)
+  pub edge : (at : EntryKey) → get rows (edge_key at.dir at.name) ≡ option_map (λ inode.
+      Ok (OfEdge (edge_row t inode))) (get t.entries at)
+  pub session : (sid : ℕ) → get rows (session_key sid) ≡ option_map (λ entry.
+      Ok (OfSession (session_row entry))) (get t.sessions sid)
+  pub sustained : (sid inode : ℕ) → inode < 2 ^ 64
+      → get rows (sustained_key sid inode) ≡ option_map (λ unit. Ok OfSustained)
+      (get t.sustained (record { sid = sid; inode = inode }))

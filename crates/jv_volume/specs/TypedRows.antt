@@ -27,11 +27,13 @@ typed_entries entries = map (λ e. (e.0, cell_of e.0 e.1)) entries
 unfoldable pub typed : RowMap → Rows
 typed rows = map_of (typed_entries rows.list)
 
--- a name has 1 to 255 bytes, none of them a slash or 0
+-- a name has 1 to MAX_NAME bytes, none of them a slash or 0
 abbrev pub is_entry_name : List ℕ → Bool
-is_entry_name name = nat_le 1 (length name) && nat_le (length name) MAX_NAME && list_all (λ b. not (b == 47 || b == 0)) name
+is_entry_name name = nat_le 1 (length name) && nat_le (length name) MAX_NAME
+    && list_all (λ b. not (b == 47 || b == 0)) name
 
--- which keys the rows of a table have: one alone, a number, a number and a name, or a number and a number of 32 or 64 bits
+-- which keys the rows of a table have: one alone, a number, a number and a name, or a number and a
+-- number of 32 or 64 bits
 abbrev pub is_key : RowKey → Bool
 is_key key = (if nat_le key.tab TABLE_OF_COUNTERS then key.a == 0 && is_nil key.b
     else if key.tab == TABLE_OF_EDGES then is_entry_name key.b

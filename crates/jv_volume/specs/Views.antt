@@ -59,7 +59,8 @@ records_in _ = []
 
 -- The records of a window of a file, none where there is no list. Keys have windows of 32 bits.
 unfoldable pub lists_of : Rows → ℕ → ℕ → List Rec
-lists_of rows inode window = (if nat_lt window (2 ^ 32) then records_in (row_at rows (list_key inode window)) else [])
+lists_of rows inode window =
+    (if nat_lt window (2 ^ 32) then records_in (row_at rows (list_key inode window)) else [])
 
 abbrev pub slice_in : Option Row → Option SliceRow
 slice_in (Some (OfSlice slice)) = Some slice

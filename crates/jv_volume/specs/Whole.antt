@@ -1,4 +1,5 @@
--- When a volume's rows are whole: they are those of their tree, which is whole, and so are lists, slices and files.
+-- When a volume's rows are whole: they are those of their tree, which is whole, and so are lists,
+-- slices and files.
 use Rattle.std.specs.Prelude.{◌≡◌, ℕ, Bool, ◌||◌, ◌==◌, Some, IsTrue}
 use Rattle.jv_model.specs.declared.tables.TheConstants.{TABLE_OF_LISTS, TABLE_OF_SLICES, TABLE_OF_DEAD}
 use Rattle.jv_model.specs.declared.row.RowKey.{RowKey}
@@ -31,7 +32,8 @@ is_of_slices tab = (tab == TABLE_OF_LISTS) || (tab == TABLE_OF_SLICES) || (tab =
 
 -- lists, slices and dead slices stay as they are
 abbrev pub SlicesStay : Rows → Rows → Type 0
-SlicesStay rows after = (key : RowKey) → IsTrue (is_of_slices key.tab) → get after key ≡ get rows key
+SlicesStay rows after =
+    (key : RowKey) → IsTrue (is_of_slices key.tab) → get after key ≡ get rows key
 
 -- What a transaction on metadata leaves alone: lists, slices, and the next slice.
 pub record Quiet (rows after : Rows) : Type 0 where

@@ -16,7 +16,8 @@ use Rattle.jv_yard.specs.Staging.{staged_since}
 use Rattle.jv_yard.specs.YardValue.{YardValue}
 use Rattle.jv_yard.specs.Refusals.{Refuses}
 
--- a client's block as its shelf has it, where it is staged there since a moment, and else as the depot has it
+-- a client's block as its shelf has it, where it is staged there since a moment, and else as the
+-- depot has it
 abbrev pub IsBlockBy : Option ℕ → YardValue → ℕ → List ℕ → Option (List ℕ) → Type 0
 IsBlockBy None yard client name value =
     IfSome yard.depot.content (λ objects. value ≡ bytes_at name objects)
@@ -54,7 +55,8 @@ pub record IsPut (client : ℕ) (parcel : Parcel) (before after : YardValue) : T
       → after.log ≡ before.log ++ note_of client Put block ∷ []
   pub others : after ≡ record before { depot = after.depot; log = after.log }
 
--- putting a block into the depot, by the result: on error the parcel comes back, and it wasn't the shelf that failed
+-- putting a block into the depot, by the result: on error the parcel comes back, and it wasn't the
+-- shelf that failed
 abbrev pub PutsBlock : ℕ → Parcel → YardValue → YardValue → Result (Unit {0}) (Parcel × YardFault)
     → Type 0
 PutsBlock client parcel before after (Ok unit) = IsPut client parcel before after

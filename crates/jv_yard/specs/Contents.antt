@@ -13,7 +13,8 @@ is_block block_size block =
     nat_le 1 block.id && nat_lt block.id (2 ^ 64) && nat_lt block.index MAX_BLOCKS
     && nat_le 1 block.size && nat_le block.size block_size
 
--- the blocks of the volume among objects: names are spelled for other numbers too, which no block has
+-- the blocks of the volume among objects: names are spelled for other numbers too, which no block
+-- has
 abbrev pub blocks_in : Setting → ObjectMap → Blocks
 blocks_in setting objects block =
     (if is_block setting.block block then bytes_at (name_in setting block) objects else None)

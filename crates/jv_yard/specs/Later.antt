@@ -55,7 +55,8 @@ pub record IsLeft (before after : Contents) (name bytes : List ℕ) (at : ℕ) :
   pub is : get after.objects name ≡ Some (bytes, now)
   pub since : (now ≡ at) ⊎ WasStaged before name bytes now
 
--- Staged blocks were published, some of them more than once, and some of those that were are staged no more. All else is the same.
+-- Staged blocks were published, some of them more than once, and some of those that were are staged
+-- no more. All else is the same.
 pub record IsPublishedFrom (before after : Contents) : Type 0 where
   pub kept : (name bytes : List ℕ) (at : ℕ) → get before.objects name ≡ Some (bytes, at)
       → IsLeft before after name bytes at
@@ -80,8 +81,9 @@ abbrev pub contents_of : ObjectMap → StagedMap → YardValue → Contents
 contents_of objects blocks yard =
     record { objects = objects; blocks = blocks; staged = yard.staged }
 
--- A yard that main takes after it gave another one: workers have published staged blocks and noted what they did, and nothing else. What
--- this says of bytes stands where both devices are known and all copies of one name had equal bytes.
+-- A yard that main takes after it gave another one: workers have published staged blocks and noted
+-- what they did, and nothing else. What this says of bytes stands where both devices are known and
+-- all copies of one name had equal bytes.
 pub record Later (before after : YardValue) : Type 0 where
   pub notes : List Note
   pub log : after.log ≡ before.log ++ notes

@@ -18,7 +18,8 @@ abbrev pub LaterIsTransitive : Type 0
 LaterIsTransitive =
     (first second third : YardValue) → Later first second → Later second third → Later first third
 
--- an object of a block's name is that block among the depot's, and a new one leaves all others as they are
+-- an object of a block's name is that block among the depot's, and a new one leaves all others as
+-- they are
 abbrev pub PutsGrow : Type 0
 PutsGrow = (setting : Setting) → setting.block < 2 ^ 32
     → (objects : ObjectMap) (b : BlockId) (bytes : List ℕ) (at : ℕ) → IsBlock setting.block b

@@ -21,7 +21,8 @@ ListsPage before after client last (Err fault) = ShelfRefuses before after fault
 abbrev pub next_after : List (List ℕ) → Option (List ℕ)
 next_after names = (if nat_lt (length names) PAGE then None else slice_get names (length names - 1))
 
--- those of the names that are of blocks of the volume are staged since a moment that 0 stands for, and all others are as before
+-- those of the names that are of blocks of the volume are staged since a moment that 0 stands for,
+-- and all others are as before
 pub record AddsNames (setting : Setting) (names : List (List ℕ))
     (before after : ClientStaging) : Type 0 where
   pub added : (name : List ℕ) → Contains names name → NamesBlock setting name

@@ -12,8 +12,8 @@ use Rattle.jv_yard.specs.declared.faults.YardFault.TheVariants.{Depot, Shelf, Me
 use Rattle.jv_yard.specs.Staging.{ClientStaging, by_client}
 use Rattle.jv_yard.specs.YardValue.{YardValue, NamesBlock}
 
--- A client's staged blocks are those on its shelf, where that is known, whose names are of blocks of the volume. The moment of their
--- staging isn't known, and 0 stands for it.
+-- A client's staged blocks are those on its shelf, where that is known, whose names are of blocks
+-- of the volume. The moment of their staging isn't known, and 0 stands for it.
 pub record IsFound (setting : Setting) (content : Option StagedMap) (client : ℕ)
     (found : ClientStaging) : Type 0 where
   pub first : (name : List ℕ) (at : ℕ) → get found name ≡ Some at → at ≡ 0

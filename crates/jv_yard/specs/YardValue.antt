@@ -10,7 +10,8 @@ use Rattle.jv_outside.specs.Blocks.{StagedMap, staged_at}
 use Rattle.jv_yard.specs.declared.note.Note.{Note}
 use Rattle.jv_yard.specs.Staging.{Staging, staged_since}
 
--- what is seen of its depot and its shelf, the volume's setting, the staged blocks, the last moment, and the log
+-- what is seen of its depot and its shelf, the volume's setting, the staged blocks, the last
+-- moment, and the log
 pub record YardValue : Type 0 where
   pub depot : Holding ObjectMap
   pub shelf : Holding StagedMap
@@ -36,7 +37,8 @@ pub record NamesBlock (setting : Setting) (name : List ℕ) : Type 0 where
   pub block : BlockId
   pub is : IsBlockName setting block name
 
--- each staged block of a client has the name of a block of the volume, and the client's shelf has it where the shelf is known
+-- each staged block of a client has the name of a block of the volume, and the client's shelf has
+-- it where the shelf is known
 pub record IsKept (yard : YardValue) : Type 0 where
   pub names : (client : ℕ) (name : List ℕ) → client ≤ LAST_CLIENT
       → IsSome (staged_since client name yard.staged) → NamesBlock yard.setting name

@@ -12,7 +12,8 @@ upper_digit n = slice_index (codes "0123456789ABCDEF") n
 abbrev pub upper_pair : ℕ → List ℕ
 upper_pair byte = upper_digit (byte / 16) ∷ upper_digit (byte % 16) ∷ []
 
--- where the blocks of a slice lie without hash prefix: by millions of ids, and below that by thousands
+-- where the blocks of a slice lie without hash prefix: by millions of ids, and below that by
+-- thousands
 abbrev pub plain_folder : ℕ → List ℕ
 plain_folder id = decimal (id / 1000 / 1000) ++ codes "/" ++ decimal (id / 1000)
 
@@ -26,7 +27,8 @@ slice_folder hash id = (if hash == 1 then hashed_folder id else plain_folder id)
 
 -- the spelling of a block's name: the slice's id, the block's index in it and its length in bytes
 unfoldable pub block_name_of : Setting → ℕ → ℕ → ℕ → List ℕ
-block_name_of setting id index size = setting.name ++ codes "/chunks/" ++ slice_folder setting.hash id ++ codes "/"
+block_name_of setting id index size =
+    setting.name ++ codes "/chunks/" ++ slice_folder setting.hash id ++ codes "/"
     ++ decimal id ++ codes "_" ++ decimal index ++ codes "_" ++ decimal size
 
 -- the name of a block of the volume

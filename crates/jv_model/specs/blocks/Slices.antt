@@ -1,4 +1,5 @@
--- Which byte of which slice a position of a window shows, what a reader sees of a window, and which blocks that needs.
+-- Which byte of which slice a position of a window shows, what a reader sees of a window, and which
+-- blocks that needs.
 use Rattle.std.specs.Prelude.{◌≡◌, ◌≢◌, ℕ, ◌+◌, ◌-◌, ◌*◌, ◌/◌, ◌<◌, ◌≤◌, Bool, ◌&&◌, ◌==◌, nat_le, if◌then◌else◌, List, [], ◌∷◌, ◌++◌, map, reverse, find, fold, min, Option, None, Some, IsTrue}
 use Rattle.std.specs.List.{flat_map, list_any, range_with_len}
 use Rattle.jv_model.specs.declared.limits.TheConstants.{WINDOW}
@@ -31,7 +32,8 @@ visible list position = find (covers position) (reverse list)
 abbrev pub shown : Rec → ℕ → Spot
 shown r distance = (if r.id == 0 then Zero else Slice r.id r.size (r.off + distance))
 
--- where the byte lies that a record has for a position: a record without slice, and no record, read zero
+-- where the byte lies that a record has for a position: a record without slice, and no record, read
+-- zero
 abbrev pub place_by : Option Rec → ℕ → Spot
 place_by None position = Zero
 place_by (Some r) position = shown r (position - r.pos)
@@ -45,22 +47,27 @@ abbrev pub place_after : Spot → ℕ → Spot
 place_after Zero n = Zero
 place_after (Slice id size at) n = Slice id size (at + n)
 
--- positions that one record shows, or none, up to where that changes or to the end of the range that is read
+-- positions that one record shows, or none, up to where that changes or to the end of the range
+-- that is read
 pub record IsPiece (list : List Rec) (end : ℕ) (piece : Piece) : Type 0 where
   pub some : 0 < piece.len
   pub within : piece.from + piece.len ≤ end
   pub alike : (n : ℕ) → n < piece.len → visible list (piece.from + n) ≡ visible list piece.from
-  pub maximal : piece.from + piece.len < end → visible list (piece.from + piece.len) ≢ visible list piece.from
+  pub maximal : piece.from + piece.len < end
+      → visible list (piece.from + piece.len) ≢ visible list piece.from
   pub spot : piece.spot ≡ stored_place list piece.from
 
--- the pieces that a reader sees of the positions from one to another: they follow one another without a gap
+-- the pieces that a reader sees of the positions from one to another: they follow one another
+-- without a gap
 abbrev pub IsPlan : List Rec → ℕ → ℕ → List Piece → Type 0
 IsPlan list from to [] = from ≡ to
-IsPlan list from to (piece ∷ pieces) = (piece.from ≡ from) × IsPiece list to piece × IsPlan list (from + piece.len) to pieces
+IsPlan list from to (piece ∷ pieces) =
+    (piece.from ≡ from) × IsPiece list to piece × IsPlan list (from + piece.len) to pieces
 
 -- the places of a piece's positions are the stored ones
 abbrev pub IsAsStored : List Rec → Piece → Type 0
-IsAsStored list piece = (n : ℕ) → n < piece.len → place_after piece.spot n ≡ stored_place list (piece.from + n)
+IsAsStored list piece =
+    (n : ℕ) → n < piece.len → place_after piece.spot n ≡ stored_place list (piece.from + n)
 
 -- how many blocks a slice has, and the length of each
 abbrev pub block_count : ℕ → ℕ → ℕ
@@ -73,7 +80,8 @@ abbrev pub block_lengths : ℕ → ℕ → List ℕ
 block_lengths size block = map (block_length size block) (range_with_len 0 (block_count size block))
 
 abbrev pub block_at : ℕ → ℕ → ℕ → ℕ → BlockId
-block_at id size block index = record { id = id; index = index; size = block_length size block index }
+block_at id size block index =
+    record { id = id; index = index; size = block_length size block index }
 
 -- the part of a slice that a piece shows lies in the slice
 abbrev pub LiesIn : ℕ → Spot → Type 0

@@ -1,5 +1,5 @@
--- A client as the model has it: its session, its open files, what it saw of them, what it wrote and didn't commit, and
--- what it is doing.
+-- A client as the model has it: its session, its open files, what it saw of them, what it wrote and
+-- didn't commit, and what it is doing.
 use Rattle.std.specs.Prelude.{ℕ, ◌+◌, ◌-◌, Bool, true, false, ◌&&◌, not, ◌==◌, nat_le, if◌then◌else◌, List, [], ◌∷◌, ◌++◌, length, filter, slice_get, slice_set, unwrap_or, Option, None, Some}
 use Rattle.jv_model.specs.declared.op.Op.{Op}
 use Rattle.jv_model.specs.declared.op.Reply.{Reply}
@@ -36,8 +36,8 @@ pub record Compaction : Type 0 where
   pub missed : Option (List Owed)  -- what was owed when a block wasn't found
   pub has_replaced : Bool
 
--- How far a cleaning is: first sessions, then the trash, then files, then slices. Once it asked for a slice it has found none,
--- or removes the blocks of one that it found, one by one.
+-- How far a cleaning is: first sessions, then the trash, then files, then slices. Once it asked for
+-- a slice it has found none, or removes the blocks of one that it found, one by one.
 pub data CleaningPart : Type 0 where
   Sessions : CleaningPart
   Trash : CleaningPart
@@ -88,7 +88,16 @@ pub record ModelClient : Type 0 where
   pub doing : Option Doing
 
 abbrev pub unmounted : ModelClient
-unmounted = record { session = None; writeback = false; handles = []; sustained = []; views = []; pending = []; doing = None }
+unmounted =
+    record {
+      session = None;
+      writeback = false;
+      handles = [];
+      sustained = [];
+      views = [];
+      pending = [];
+      doing = None;
+    }
 
 -- the session's number, 0 where there is none
 abbrev pub session_of : ModelClient → ℕ
@@ -119,7 +128,8 @@ open_count (None ∷ files) = open_count files
 open_count (Some file ∷ files) = 1 + open_count files
 
 abbrev pub with_file : {X : Type 0} → ℕ → Option X → List (Option X) → List (Option X)
-with_file handle file handles = if nat_le handle (length handles) then slice_set handles (handle - 1) file else handles ++ file ∷ []
+with_file handle file handles = if nat_le handle (length handles)
+    then slice_set handles (handle - 1) file else handles ++ file ∷ []
 
 -- the inode of an open file, 0 for none
 abbrev pub inode_in : Option OpenFile → ℕ

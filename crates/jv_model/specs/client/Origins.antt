@@ -27,22 +27,28 @@ marked origin entry = record { origin = origin; stamp = entry }
 
 -- a commit brings its bytes
 abbrev pub marks_committed : ℕ → ℕ → ℕ → ℕ → Marks → Marks
-marks_committed entry inode from len marks = λ i position. if (i == inode) && in_range from len position then marked (Committed entry) entry else marks i position
+marks_committed entry inode from len marks = λ i position. if (i == inode)
+    && in_range from len position then marked (Committed entry) entry else marks i position
 
 -- a truncation leaves zeros from its length on
 abbrev pub marks_truncated : ℕ → ℕ → ℕ → Marks → Marks
-marks_truncated entry inode len marks = λ i position. if (i == inode) && nat_le len position then marked Zero entry else marks i position
+marks_truncated entry inode len marks = λ i position. if (i == inode) && nat_le len position
+    then marked Zero entry else marks i position
 
--- a copy takes each origin along; zeros fill what lies between the target's old length and its range
+-- a copy takes each origin along; zeros fill what lies between the target's old length and its
+-- range
 abbrev pub marks_copied : ℕ → ℕ → ℕ → ℕ → ℕ → ℕ → ℕ → Marks → Marks
-marks_copied entry source from target to len length marks = λ i position. if not (i == target) || (len == 0) then marks i position
-    else if in_range to len position then marked (marks source (from + (position - to))).origin entry
+marks_copied entry source from target to len length marks =
+    λ i position. if not (i == target) || (len == 0) then marks i position
+    else if in_range to len position
+    then marked (marks source (from + (position - to))).origin entry
     else if nat_le length position && nat_lt position to then marked Zero entry
     else marks i position
 
 -- a compaction puts into its new slice what is no younger than its last look at the list
 abbrev pub marks_compacted : ℕ → ℕ → ℕ → ℕ → ℕ → Marks → Marks
-marks_compacted entry look inode from to marks = λ i position. if (i == inode) && nat_le from position && nat_lt position to && nat_lt (marks i position).stamp look
+marks_compacted entry look inode from to marks = λ i position. if (i == inode)
+    && nat_le from position && nat_lt position to && nat_lt (marks i position).stamp look
     then marked Made entry
     else marks i position
 
@@ -55,9 +61,12 @@ pub record Owed : Type 0 where
 abbrev pub owes : ℕ → ℕ → Owed → Bool
 owes client commit owed = (owed.commit == commit) && not (owed.client == client)
 
--- the number of the Commit of another client, or 0 for a byte from before the run, that may be missing for this client
+-- the number of the Commit of another client, or 0 for a byte from before the run, that may be
+-- missing for this client
 abbrev pub missing_commit : (ℕ → ℕ → List ℕ) → List Owed → ℕ → Origin → Option ℕ
-missing_commit shelved owed client (Start inode position) = (if list_any (λ q. not (q == client)) (shelved inode position) then Some 0 else None)
+missing_commit shelved owed client (Start inode position) =
+    (if list_any (λ q. not (q == client)) (shelved inode position) then Some 0 else None)
 missing_commit shelved owed client Zero = None
-missing_commit shelved owed client (Committed entry) = (if list_any (owes client entry) owed then Some entry else None)
+missing_commit shelved owed client (Committed entry) =
+    (if list_any (owes client entry) owed then Some entry else None)
 missing_commit shelved owed client Made = None

@@ -1,5 +1,5 @@
--- Bytes that a client has written and not yet committed: a partial map from inode and position to byte, kept as
--- the list of its bytes in rising order of their places.
+-- Bytes that a client has written and not yet committed: a partial map from inode and position to
+-- byte, kept as the list of its bytes in rising order of their places.
 use Rattle.std.specs.Prelude.{ℕ, ◌+◌, ◌%◌, Bool, true, ◌&&◌, ◌||◌, not, ◌==◌, nat_lt, nat_le, if◌then◌else◌, List, [], ◌∷◌, map, filter, Option, None, Some}
 use Rattle.jv_model.specs.declared.limits.TheConstants.{WINDOW}
 
@@ -21,12 +21,14 @@ stands_at inode position b = (b.inode == inode) && (b.position == position)
 
 -- whether a place comes before a byte's
 abbrev pub comes_before : ℕ → ℕ → PendingByte → Bool
-comes_before inode position b = nat_lt inode b.inode || ((inode == b.inode) && nat_lt position b.position)
+comes_before inode position b =
+    nat_lt inode b.inode || ((inode == b.inode) && nat_lt position b.position)
 
 -- the pending byte at a place
 abbrev pub pending_at : ℕ → ℕ → List PendingByte → Option ℕ
 pending_at inode position [] = None
-pending_at inode position (b ∷ bs) = (if stands_at inode position b then Some b.byte else pending_at inode position bs)
+pending_at inode position (b ∷ bs) =
+    (if stands_at inode position b then Some b.byte else pending_at inode position bs)
 
 -- whether every byte's place is after this one
 abbrev pub all_after : ℕ → ℕ → List PendingByte → Bool
@@ -50,11 +52,13 @@ byte_set inode position byte (b ∷ bs) = (if stands_at inode position b
 -- a write sets the positions of its bytes
 abbrev pub written : ℕ → ℕ → List ℕ → List PendingByte → List PendingByte
 written inode from [] pending = pending
-written inode from (byte ∷ bytes) pending = byte_set inode from byte (written inode (from + 1) bytes pending)
+written inode from (byte ∷ bytes) pending =
+    byte_set inode from byte (written inode (from + 1) bytes pending)
 
 -- whether a byte stands in a range of an inode
 abbrev pub is_in_range : ℕ → ℕ → ℕ → PendingByte → Bool
-is_in_range inode from len b = (b.inode == inode) && nat_le from b.position && nat_lt b.position (from + len)
+is_in_range inode from len b =
+    (b.inode == inode) && nat_le from b.position && nat_lt b.position (from + len)
 
 -- the pending bytes without those of a range of an inode
 abbrev pub without_range : ℕ → ℕ → ℕ → List PendingByte → List PendingByte
@@ -74,19 +78,26 @@ run_length inode position (b ∷ bs) = (if stands_at inode position b
     then (if (position + 1) % WINDOW == 0 then 1 else 1 + run_length inode (position + 1) bs)
     else 0)
 
--- the least segment: pending positions in a row, as many as there are inside one window; a flush commits it first
+-- the least segment: pending positions in a row, as many as there are inside one window; a flush
+-- commits it first
 abbrev pub first_segment : List PendingByte → Option Segment
 first_segment [] = None
-first_segment (b ∷ bs) = Some (record { inode = b.inode; from = b.position; len = run_length b.inode b.position (b ∷ bs) })
+first_segment (b ∷ bs) =
+    Some (record {
+      inode = b.inode;
+      from = b.position;
+      len = run_length b.inode b.position (b ∷ bs);
+    })
 
--- the same of one inode alone, where one is given
-abbrev pub next_segment : Option ℕ → List PendingByte → Option Segment
-next_segment None pending = first_segment pending
-next_segment (Some inode) pending = first_segment (pending_of inode pending)
+-- the least segment of one inode alone where one is given, else of all
+abbrev pub first_segment_of : Option ℕ → List PendingByte → Option Segment
+first_segment_of None pending = first_segment pending
+first_segment_of (Some inode) pending = first_segment (pending_of inode pending)
 
 -- the bytes of a range of an inode, in order
 abbrev pub bytes_in_range : ℕ → ℕ → ℕ → List PendingByte → List ℕ
-bytes_in_range inode from len pending = map (λ b. b.byte) (filter (is_in_range inode from len) pending)
+bytes_in_range inode from len pending =
+    map (λ b. b.byte) (filter (is_in_range inode from len) pending)
 
 -- the position after an inode's last pending byte, 0 where it has none
 abbrev pub pending_end : List PendingByte → ℕ

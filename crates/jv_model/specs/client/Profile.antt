@@ -1,4 +1,5 @@
--- What each operation needs before its first step, what it commits first, and what it does then: one row an operation.
+-- What each operation needs before its first step, what it commits first, and what it does then:
+-- one row an operation.
 use Rattle.std.specs.Prelude.{ℕ, ◌+◌, true, false, ◌||◌, ◌==◌, nat_le, if◌then◌else◌, List, [], ◌∷◌, length}
 use Rattle.jv_model.specs.declared.limits.TheConstants.{FILE_END}
 use Rattle.jv_model.specs.declared.op.Op.{Op}
@@ -14,14 +15,22 @@ use Rattle.jv_model.specs.Lists.{first_number}
 
 -- one metadata transaction of a mounted client, on paths or on nothing
 abbrev pub transaction : Profile
-transaction = record { needs_mount = true; handles = handles.None; opens = false; end = 0; flushes = Nothing; does = Transacts }
+transaction =
+    record {
+      needs_mount = true;
+      handles = handles.None;
+      opens = false;
+      end = 0;
+      flushes = Nothing;
+      does = Transacts;
+    }
 
 -- another operation of a mounted client, and one of any client
-abbrev pub mounted : Does → Profile
-mounted does = record transaction { does = does }
+abbrev pub of_mounted : Does → Profile
+of_mounted does = record transaction { does = does }
 
-abbrev pub unmounted : Does → Profile
-unmounted does = record transaction { needs_mount = false; does = does }
+abbrev pub of_any_client : Does → Profile
+of_any_client does = record transaction { needs_mount = false; does = does }
 
 -- a transaction that commits all that is pending first, and one that opens a handle
 abbrev pub flushing_all : Profile
@@ -32,15 +41,18 @@ opening = record transaction { opens = true }
 
 -- a copy between the files of two handles
 abbrev pub on_files : ℕ → ℕ → Profile
-on_files source target = record transaction { handles = handles.Two source target; flushes = ItsFiles; does = Copies }
+on_files source target =
+    record transaction { handles = handles.Two source target; flushes = ItsFiles; does = Copies }
 
--- a step on the file of a handle, whose pending bytes are committed first
+-- an operation on the file of a handle, whose pending bytes are committed first
 abbrev pub on_file : ℕ → Does → Profile
-on_file handle does = record transaction { handles = handles.One handle; flushes = ItsFiles; does = does }
+on_file handle does =
+    record transaction { handles = handles.One handle; flushes = ItsFiles; does = does }
 
 -- a range of which no position lies before the end of the longest file has no byte
 abbrev pub read_does : ℕ → ℕ → Does
-read_does offset len = (if (len == 0) || nat_le FILE_END offset then Answers NoData else Reads offset len)
+read_does offset len =
+    (if (len == 0) || nat_le FILE_END offset then Answers NoData else Reads offset len)
 
 -- a number of bytes from an offset on
 abbrev pub write_profile : ℕ → ℕ → ℕ → Profile
@@ -52,7 +64,7 @@ write_profile handle offset len = record transaction {
 }
 
 abbrev pub profile : Op → Profile
-profile (op.Mount writeback) = unmounted (Mounts writeback)
+profile (op.Mount writeback) = of_any_client (Mounts writeback)
 profile op.Umount = flushing_all
 profile op.Beat = transaction
 profile (op.Lookup path) = transaction
@@ -79,11 +91,11 @@ profile (op.Unlink path) = transaction
 profile (op.Rmdir path) = transaction
 profile (op.Link path to) = transaction
 profile (op.Rename path to how) = transaction
-profile (op.Compact path window) = mounted Compacts
-profile op.Clean = mounted Cleans
-profile (op.Gc delete) = mounted (Collects delete)
-profile op.Upload = unmounted Uploads
-profile op.Stats = mounted (Answers CacheStats)
+profile (op.Compact path window) = of_mounted Compacts
+profile op.Clean = of_mounted Cleans
+profile (op.Gc delete) = of_mounted (Collects delete)
+profile op.Upload = of_any_client Uploads
+profile op.Stats = of_mounted (Answers CacheStats)
 
 -- the handles in the order of the operation's words
 abbrev pub handle_list : Handles → List ℕ

@@ -24,8 +24,8 @@ abbrev pub first_refusal : List (Bool × Fault) → Option Fault
 first_refusal [] = None
 first_refusal (test ∷ tests) = (if test.0 then Some test.1 else first_refusal tests)
 
--- The refusal by what a client is: whether it is busy, whether it is mounted, whether a handle that the operation names is
--- closed, and how many handles are open.
+-- The refusal by what a client is: whether it is busy, whether it is mounted, whether a handle that
+-- the operation names is closed, and how many handles are open.
 abbrev pub submission_of : (busy mounted closed : Bool) → (handles : ℕ) → Profile → Option Fault
 submission_of busy mounted closed handles row = first_refusal (
     (busy || (is_mount row.does && mounted), InProgress)
@@ -44,7 +44,9 @@ names_closed handles named = list_any (is_closed handles) (handle_list named)
 
 -- the refusal of an operation at its submission, before any step
 abbrev pub submission : ModelClient → Op → Option Fault
-submission c o = submission_of (is_some c.doing) (is_some c.session) (names_closed c.handles (profile o).handles) (open_count c.handles) (profile o)
+submission c o =
+    submission_of (is_some c.doing) (is_some c.session) (names_closed c.handles (profile o).handles)
+    (open_count c.handles) (profile o)
 
 -- what is committed first, with a buffer of `buffer` bytes
 abbrev pub flush_of : ℕ → ModelClient → Profile → Flush

@@ -1,4 +1,5 @@
--- When a journal is legal for one POSIX tree: every entry may stand where it stands, and every line has its entries.
+-- When a journal is legal for one POSIX tree: every entry may stand where it stands, and every line
+-- has its entries.
 use Rattle.std.specs.Prelude.{◌≡◌, ℕ, ◌+◌, ◌≤◌, min, max, Bool, true, false, ◌&&◌, ◌||◌, not, nat_le, nat_lt, ◌==◌, IsTrue, MatchBool, MatchOption, List, [], ◌∷◌, length}
 use Rattle.std.specs.List.{list_any}
 use Rattle.jv_model.specs.declared.limits.TheConstants.{LAST_MOMENT}
@@ -22,16 +23,18 @@ abbrev pub tick_of : ActKind → ℕ
 tick_of (Ticked by) = by
 tick_of _ = 0
 
--- The clock is asked before each step, and its answer counts with the ticks so far, the line's own too. A moment is the
--- larger of the last one and that, and at most the last moment there is. An answer has its step's moment. Entries of
--- uploading threads don't ask.
+-- The clock is asked before each step, and its answer counts with the ticks so far, the line's own
+-- too. A moment is the larger of the last one and that, and at most the last moment there is. An
+-- answer has its step's moment. Entries of uploading threads don't ask.
 abbrev pub IsMoment : Past → Act → Type 0
 IsMoment p act = MatchBool (is_workers p) ((p.at ≤ act.at) × (act.at ≤ LAST_MOMENT))
     (MatchBool (asks_clock p act)
-    (MatchOption p.run.clock ((p.at ≤ act.at) × (act.at ≤ LAST_MOMENT)) (λ answers. act.at ≡ clock_moment p (p.ticks + tick_of act.kind) answers))
+    (MatchOption p.run.clock ((p.at ≤ act.at) × (act.at ≤ LAST_MOMENT))
+    (λ answers. act.at ≡ clock_moment p (p.ticks + tick_of act.kind) answers))
     (act.at ≡ p.at))
 
--- the one entry of a refused submission, for which memory may run out too, but not where an operation goes on
+-- the one entry of a refused submission, for which memory may run out too, but not where an
+-- operation goes on
 pub data IsRefusal (busy : Bool) (fault : Fault) (kind : ActKind) : Type 0 where
   Refuses : kind ≡ Answered (ToldRefused fault) → IsRefusal busy fault kind
   LacksMemory : busy ≡ false → kind ≡ Answered (ToldRefused NoMemory) → IsRefusal busy fault kind
@@ -51,7 +54,8 @@ IsPublishOf s client (Settled commit) = IsTrue (is_owed_by s client commit)
 IsPublishOf s client Quiet = Unit {0}
 IsPublishOf s client _ = ⊥
 
--- an entry of a `drain`: a publish of a block of the client, or its end, when no commit of the client is owed
+-- an entry of a `drain`: a publish of a block of the client, or its end, when no commit of the
+-- client is owed
 pub data Drains (s : State) (client : ℕ) (kind : ActKind) : Type 0 where
   Sends : IsPublishOf s client kind → Drains s client kind
   Ends : IsTrue (owes_none s client) → kind ≡ Answered (Fine 0 0 0 0) → Drains s client kind
@@ -65,7 +69,8 @@ pub record OfClient (p : Past) (act : Act) (client : ℕ) (begins : Bool) : Type
 -- an entry of the present line
 abbrev pub OfLine : Past → Act → Due → Type 0
 OfLine p act NoMore = ⊥
-OfLine p act (Refusal client fault) = (act.client ≡ client) × IsRefusal (is_busy p client) fault act.kind
+OfLine p act (Refusal client fault) =
+    (act.client ≡ client) × IsRefusal (is_busy p client) fault act.kind
 OfLine p act (MayLack client) = (act.client ≡ client) × (act.kind ≡ Answered (ToldRefused NoMemory))
 OfLine p act (ToAnswer client) = OfClient p act client (begins_in (p.state.clients client) act.kind)
 OfLine p act (OneStep client) = OfClient p act client true
@@ -76,7 +81,8 @@ OfLine p act (DrainEntries client) = (act.client ≡ NO_CLIENT) × Drains p.stat
 
 -- an entry of an uploading thread, of which there are some, on a line of the script
 abbrev pub OfWorker : Past → Act → Type 0
-OfWorker p act = IsTrue (nat_lt 0 p.run.uploads) × (act.client ≡ NO_CLIENT) × IsPublish p.state act.kind × IsTrue (nat_le p.line (length p.run.script))
+OfWorker p act = IsTrue (nat_lt 0 p.run.uploads) × (act.client ≡ NO_CLIENT)
+    × IsPublish p.state act.kind × IsTrue (nat_le p.line (length p.run.script))
 
 -- an entry may stand, its line being the present one
 pub record Allowed (p : Past) (act : Act) : Type 0 where

@@ -1,5 +1,6 @@
--- A run so far: its lines, what the present one may still have, what is printed, and the clock, beside the state that its
--- entries have reached. A journal is folded over its entries; before an entry the lines up to its own are begun.
+-- A run so far: its lines, what the present one may still have, what is printed, and the clock,
+-- beside the state that its entries have reached. A journal is folded over its entries; before an
+-- entry the lines up to its own are begun.
 use Rattle.std.specs.Prelude.{ℕ, zero, suc, ◌+◌, ◌-◌, Bool, true, false, ◌&&◌, not, if◌then◌else◌, List, [], ◌∷◌, ◌++◌, length, is_some, Option, None, Some, codes, decimal, unwrap_or}
 use Rattle.jv_model.specs.declared.basics.Limits.{Limits}
 use Rattle.jv_model.specs.declared.act.Act.{Act}
@@ -86,7 +87,8 @@ ends_now (Some d) = must_answer d
 abbrev pub ends_in_step : ModelClient → Bool
 ends_in_step c = ends_now c.doing
 
--- whether a line may end here: an operation that goes on may be left after a step, or before it began
+-- whether a line may end here: an operation that goes on may be left after a step, or before it
+-- began
 abbrev pub is_over : Past → Bool
 is_over p = elim p.due [
   | NoMore ↦ true
@@ -103,7 +105,11 @@ is_over p = elim p.due [
 -- an operation submitted by a line: refused, or in progress
 abbrev pub begun_by_due : Due → Past → ℕ → Op → Option Fault → Past
 begun_by_due due p client o (Some fault) = record p { due = Refusal client fault; said = [] }
-begun_by_due due p client o None = record p { due = due; state = set_client p.state client (submitted p.run.limits o (p.state.clients client)) }
+begun_by_due due p client o None =
+    record p {
+      due = due;
+      state = set_client p.state client (submitted p.run.limits o (p.state.clients client));
+    }
 
 abbrev pub is_busy : Past → ℕ → Bool
 is_busy p client = is_some (p.state.clients client).doing
@@ -112,20 +118,27 @@ abbrev pub idle_text : List ℕ
 idle_text = with_feed (codes "idle")
 
 abbrev pub or_idle : Past → ℕ → Due → Past
-or_idle p client due = (if is_busy p client then record p { due = due } else record p { due = NoMore; said = idle_text })
+or_idle p client due =
+    (if is_busy p client then record p { due = due }
+    else record p { due = NoMore; said = idle_text })
 
 abbrev pub begun : Past → Line → Past
 begun p Empty = record p { due = NoMore }
-begun p (Do client o) = begun_by_due (ToAnswer client) p client o (submission (p.state.clients client) o)
-begun p (Begin client o) = begun_by_due (MayLack client) (record p { said = with_feed (codes "begun") }) client o (submission (p.state.clients client) o)
+begun p (Do client o) =
+    begun_by_due (ToAnswer client) p client o (submission (p.state.clients client) o)
+begun p (Begin client o) =
+    begun_by_due (MayLack client) (record p { said = with_feed (codes "begun") }) client o
+    (submission (p.state.clients client) o)
 begun p (Step client) = or_idle p client (OneStep client)
 begun p (Run client) = or_idle p client (ToAnswer client)
 begun p (Crash client) = record p { due = CrashEntry client }
 begun p (Drain client) = record p { due = DrainEntries client }
 begun p (Tick by) = record p { due = TickEntry by }
 
-abbrev pub turned : Past → List Line → Past
-turned p rest = record p {
+-- the line that was begun is over, and these are left: its text is printed, and whether it was
+-- complete is kept
+abbrev pub after_line : Past → List Line → Past
+after_line p rest = record p {
   rest = rest;
   line = p.line + 1;
   complete = p.complete && is_over p;
@@ -135,8 +148,8 @@ turned p rest = record p {
 
 -- past the last line there is none, and no entry may stand
 abbrev pub begin_from : List Line → Past → Past
-begin_from [] p = record (turned p []) { due = NoMore }
-begin_from (line ∷ rest) p = begun (turned p rest) line
+begin_from [] p = record (after_line p []) { due = NoMore }
+begin_from (line ∷ rest) p = begun (after_line p rest) line
 
 -- the next line begun
 unfoldable pub begin_next : Past → Past
@@ -168,7 +181,8 @@ abbrev answer_reply : Answer → ℕ → ℕ → ℕ → ℕ → Reply
 answer_reply answer.Done hits misses cached pending = reply.Done
 answer_reply (answer.Count bytes) hits misses cached pending = reply.Count bytes
 answer_reply answer.NoData hits misses cached pending = reply.Data []
-answer_reply answer.CacheStats hits misses cached pending = reply.CacheStats hits misses cached pending
+answer_reply answer.CacheStats hits misses cached pending =
+    reply.CacheStats hits misses cached pending
 
 -- the reply of an operation that is done, from the numbers of its answer
 abbrev pub fine_reply : Does → ℕ → ℕ → ℕ → ℕ → Reply
@@ -189,13 +203,14 @@ told_reply c doing (Fine a b e f) = fine_reply doing.does a b e f
 told_reply c doing (Looks first second len) = reply.Data (read_in c doing first second)
 told_reply c doing (ToldRefused fault) = reply.Refused fault
 
-abbrev pub settled_reply : Stage → Option Reply
-settled_reply (Replying r) = Some r
-settled_reply _ = None
+abbrev pub decided_reply : Stage → Option Reply
+decided_reply (Replying r) = Some r
+decided_reply _ = None
 
 -- the reply that an answer stands for: the one that is decided, or the one of the answer's numbers
 abbrev pub reply_of : ModelClient → Doing → Told → Reply
-reply_of c doing told = elim (settled_reply doing.stage) [ None ↦ told_reply c doing told | Some settled ↦ settled ]
+reply_of c doing told =
+    elim (decided_reply doing.stage) [ None ↦ told_reply c doing told | Some settled ↦ settled ]
 
 abbrev pub refusal_reply : Told → Reply
 refusal_reply (ToldRefused fault) = reply.Refused fault
@@ -247,7 +262,12 @@ says_more _ said = said
 abbrev pub lined : Past → Act → ActKind → Past
 lined p act (Answered told) = answered p (line_reply p told)
 lined p act Crashed = record p { due = NoMore; said = with_feed (codes "crashed") }
-lined p act (Ticked by) = record p { due = NoMore; said = with_feed (codes "now " ++ decimal act.at); ticks = p.ticks + by }
+lined p act (Ticked by) =
+    record p {
+      due = NoMore;
+      said = with_feed (codes "now " ++ decimal act.at);
+      ticks = p.ticks + by;
+    }
 lined p act _ = record p { due = requested p.due; said = says_more p.due p.said }
 
 abbrev begins_for : Option Doing → ActKind → Bool
@@ -277,7 +297,12 @@ is_workers p = p.run.by_worker (p.state.count + 1)
 
 -- an entry of an uploading thread belongs to no line
 abbrev pub of_line : Past → Act → Past
-of_line p act = (if is_workers p then p else record (lined p act act.kind) { asked = (if asks_clock p act then p.asked + 1 else p.asked) })
+of_line p act =
+    (if is_workers p then p
+    else record (lined p act act.kind) {
+      asked = (if asks_clock p act then p.asked + 1
+          else p.asked);
+    })
 
 -- where it leads with one more entry, whose line is begun
 unfoldable pub after : Past → Act → Past

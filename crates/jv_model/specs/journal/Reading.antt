@@ -24,7 +24,8 @@ pub record Asked : Type 0 where
   pub from : ℕ
   pub to : ℕ
 
--- The parts of a range, one for each window that it touches, at most two. No file goes past its greatest length.
+-- The parts of a range, one for each window that it touches, at most two. No file goes past its
+-- greatest length.
 abbrev pub asked_parts : ℕ → ℕ → List Asked
 asked_parts offset len =
     let stop = min (offset + len) FILE_END in
@@ -32,12 +33,17 @@ asked_parts offset len =
     let border = (window + 1) * WINDOW in
     if nat_le stop offset then []
     else if nat_le stop border then record { window = window; from = offset; to = stop } ∷ []
-    else record { window = window; from = offset; to = border } ∷ record { window = window + 1; from = border; to = stop } ∷ []
+    else record { window = window; from = offset; to = border } ∷ record {
+      window = window + 1;
+      from = border;
+      to = stop;
+    } ∷ []
 
--- A handle's view is fresh while the client keeps it, where it was taken after the file was opened: a client gives up its
--- views of a file when it changes the file.
+-- A handle's view is fresh while the client keeps it, where it was taken after the file was opened:
+-- a client gives up its views of a file when it changes the file.
 abbrev pub is_fresh : ℕ → OpenFile → ℕ → View → Bool
-is_fresh handle file window view = (view.handle == handle) && (view.inode == file.inode) && (view.window == window) && nat_lt file.opened view.entry
+is_fresh handle file window view = (view.handle == handle) && (view.inode == file.inode)
+    && (view.window == window) && nat_lt file.opened view.entry
 
 -- the latest fresh view of a window
 abbrev pub fresh_view : List View → ℕ → OpenFile → ℕ → Option View
@@ -45,7 +51,8 @@ fresh_view views handle file window = find (is_fresh handle file window) views
 
 -- the fresh view that was taken at an entry
 abbrev pub cited_view : List View → ℕ → OpenFile → ℕ → ℕ → Option View
-cited_view views handle file window entry = find (λ view. (view.entry == entry) && is_fresh handle file window view) views
+cited_view views handle file window entry =
+    find (λ view. (view.entry == entry) && is_fresh handle file window view) views
 
 -- what a part shows by the view taken at an entry, where that is fresh
 abbrev pub part_read : List View → ℕ → OpenFile → ℕ → Asked → Option (List ℕ)
@@ -63,22 +70,27 @@ joined bytes None = None
 joined bytes (Some more) = Some (bytes ++ more)
 
 -- the second window is read only where the first one returned all that was asked of it
-abbrev pub read_on : List View → ℕ → OpenFile → ℕ → Asked → List Asked → Option (List ℕ) → Option (List ℕ)
+abbrev pub read_on : List View → ℕ → OpenFile → ℕ → Asked → List Asked → Option (List ℕ)
+    → Option (List ℕ)
 read_on views handle file second asked others None = None
 read_on views handle file second asked [] (Some bytes) = provided (second == 0) bytes
-read_on views handle file second asked (other ∷ others) (Some bytes) = (if is_full asked bytes then joined bytes (part_read views handle file second other) else provided (second == 0) bytes)
+read_on views handle file second asked (other ∷ others) (Some bytes) =
+    (if is_full asked bytes then joined bytes (part_read views handle file second other)
+    else provided (second == 0) bytes)
 
--- what a read of these parts returns, citing one look for each part that was read and 0 for each that wasn't
+-- what a read of these parts returns, citing one look for each part that was read and 0 for each
+-- that wasn't
 abbrev pub reading : List View → ℕ → OpenFile → List Asked → ℕ → ℕ → Option (List ℕ)
 reading views handle file [] first second = provided ((first == 0) && (second == 0)) []
-reading views handle file (asked ∷ others) first second = read_on views handle file second asked others (part_read views handle file first asked)
+reading views handle file (asked ∷ others) first second =
+    read_on views handle file second asked others (part_read views handle file first asked)
 
 -- whether the present view of a part shows all that is asked of it
 abbrev pub shows_all : Asked → View → Bool
 shows_all asked view = nat_le asked.to view.content.length
 
--- The part whose window has to be looked at before the reading goes on: the first without a fresh view, where all parts
--- before it are full. None where nothing has to be looked at.
+-- The part whose window has to be looked at before the reading goes on: the first without a fresh
+-- view, where all parts before it are full. None where nothing has to be looked at.
 abbrev pub part_to_look : List View → ℕ → OpenFile → List Asked → Option Asked
 part_to_look views handle file [] = None
 part_to_look views handle file (asked ∷ others) = elim (fresh_view views handle file asked.window) [

@@ -1,5 +1,5 @@
--- What a journal has reached, and what one more entry does to it: the tree, the clients, and whose blocks are owed. It
--- knows no lines, clock or text.
+-- What a journal has reached, and what one more entry does to it: the tree, the clients, and whose
+-- blocks are owed. It knows no lines, clock or text.
 use Rattle.std.specs.Prelude.{ℕ, ◌+◌, ◌%◌, Bool, true, false, ◌&&◌, ◌||◌, not, ◌==◌, nat_lt, if◌then◌else◌, List, [], ◌∷◌, ◌++◌, map, filter, is_some, Option, None, Some, unwrap_or}
 use Rattle.jv_model.specs.declared.tables.TheConstants.{TABLE_OF_DROPPED}
 use Rattle.jv_model.specs.declared.limits.TheConstants.{TRASH_ROOT}
@@ -104,7 +104,9 @@ transacted s client now o = tree_act s.tree (caller (s.clients client) client no
 
 -- the client's open files that its own transaction took the last name of
 abbrev pub newly_sustained : Tree → Tree → ModelClient → List ℕ
-newly_sustained before after c = filter (λ inode. is_sustained after (session_of c) inode && not (is_sustained before (session_of c) inode)) (held_inodes c.handles)
+newly_sustained before after c =
+    filter (λ inode. is_sustained after (session_of c) inode
+    && not (is_sustained before (session_of c) inode)) (held_inodes c.handles)
 
 -- what a reply hands to the client
 pub data Gift : Type 0 where
@@ -137,7 +139,11 @@ is_writeback _ = false
 -- the client with what a reply handed to it, by the entry with this number
 abbrev pub given : ℕ → Does → Gift → ModelClient → ModelClient
 given entry does (NewSession sid) c = record c { session = Some sid; writeback = is_writeback does }
-given entry does (NewHandle handle inode) c = record c { handles = with_file handle (Some (record { inode = inode; opened = entry })) c.handles }
+given entry does (NewHandle handle inode) c =
+    record c {
+      handles = with_file handle
+          (Some (record { inode = inode; opened = entry })) c.handles;
+    }
 given entry does Nothing c = c
 
 -- the client after its transaction, whose reply is decided
@@ -146,14 +152,19 @@ replied entry does answer c = with_stage (Replying answer) (given entry does (gi
 
 -- the inodes that are in one tree and not in a later one
 abbrev pub gone_between : Tree → Tree → List ℕ
-gone_between before after = map (λ node. node.0) (filter (λ node. not (is_some (node_at after node.0))) before.nodes.list)
+gone_between before after =
+    map (λ node. node.0) (filter (λ node. not (is_some (node_at after node.0))) before.nodes.list)
 
 abbrev pub changed_at : ℕ → FileChangeKind → ℕ → FileChange
 changed_at entry kind inode = record { entry = entry; inode = inode; kind = kind }
 
 -- another tree, with the ends of the files that are in it no more
 abbrev pub with_tree : Tree → State → State
-with_tree tree s = record s { tree = tree; changes = map (changed_at (next_entry s) Ended) (gone_between s.tree tree) ++ s.changes }
+with_tree tree s =
+    record s {
+      tree = tree;
+      changes = map (changed_at (next_entry s) Ended) (gone_between s.tree tree) ++ s.changes;
+    }
 
 -- the operation's transaction
 abbrev pub after_transaction : State → ℕ → ℕ → Doing → State
@@ -161,7 +172,8 @@ after_transaction s client now d =
     let done = transacted s client now d.op in
     let c = s.clients client in
     set_client (with_tree done.tree s) client
-    (replied (next_entry s) d.does done.reply (record c { sustained = newly_sustained s.tree done.tree c ++ c.sustained }))
+    (replied (next_entry s) d.does done.reply
+    (record c { sustained = newly_sustained s.tree done.tree c ++ c.sustained }))
 
 -- requests
 
@@ -179,10 +191,11 @@ session_gone c = reply.Refused (Stale (Session (session_of c)))
 abbrev pub has_session : Tree → ModelClient → Bool
 has_session t c = is_some (get t.sessions (session_of c))
 
--- A request of the flush: the first takes a number for the slice, in a transaction that needs the session; the others
--- bring the blocks, from the moment of the second on.
+-- A request of the flush: the first takes a number for the slice, in a transaction that needs the
+-- session; the others bring the blocks, from the moment of the second on.
 abbrev pub flushing_on : State → ModelClient → ℕ → ℕ → ℕ → Stage
-flushing_on s c now quiets started = (if quiets == 0 then if has_session s.tree c then Working 1 0 else Replying (session_gone c)
+flushing_on s c now quiets started =
+    (if quiets == 0 then if has_session s.tree c then Working 1 0 else Replying (session_gone c)
     else if quiets == 1 then Working 2 now
     else Working (quiets + 1) started)
 
@@ -212,16 +225,20 @@ removes_block Slices = false
 removes_block Blocks = true
 removes_block MoreBlocks = true
 
--- A request of a cleaning that found nothing more in its part, or a slice, or that removed a block, which needs no session.
+-- A request of a cleaning that found nothing more in its part, or a slice, or that removed a block,
+-- which needs no session.
 abbrev pub cleaning_on : State → ModelClient → Cleaning → Stage
-cleaning_on s c k = (if has_session s.tree c || removes_block k.part then Cleans (record k { part = next_part k.part }) else Replying (session_gone c))
+cleaning_on s c k =
+    (if has_session s.tree c || removes_block k.part
+    then Cleans (record k { part = next_part k.part }) else Replying (session_gone c))
 
 abbrev pub is_collecting : Does → Bool
 is_collecting (Collects delete) = true
 is_collecting _ = false
 
--- A collection lists a page of names and judges them in a transaction, which needs the session. Where it removes none, every
--- second request is such a transaction; else the second one is, and others stand between removals.
+-- A collection lists a page of names and judges them in a transaction, which needs the session.
+-- Where it removes none, every second request is such a transaction; else the second one is, and
+-- others stand between removals.
 abbrev pub judges : Does → ℕ → Bool
 judges (Collects true) requests = requests == 1
 judges (Collects false) requests = requests % 2 == 1
@@ -229,10 +246,13 @@ judges _ requests = false
 
 -- a request of a collection or an upload
 abbrev pub requesting_on : State → ModelClient → Does → ℕ → Stage
-requesting_on s c does requests = (if judges does requests && not (has_session s.tree c) then Replying (session_gone c) else Requesting (requests + 1))
+requesting_on s c does requests =
+    (if judges does requests && not (has_session s.tree c) then Replying (session_gone c)
+    else Requesting (requests + 1))
 
 abbrev pub first_cleaning : Cleaning
-first_cleaning = record { part = Sessions; sessions = 0; trash = 0; hours = 0; files = 0; slices = 0 }
+first_cleaning =
+    record { part = Sessions; sessions = 0; trash = 0; hours = 0; files = 0; slices = 0 }
 
 -- the refusal of a look at a file: its session or its inode is gone
 abbrev pub look_refusal : Tree → ModelClient → ℕ → Option Reply
@@ -242,7 +262,8 @@ look_refusal t c inode = (if not (has_session t c) then Some (session_gone c)
 
 -- a look that is refused decides the answer
 abbrev pub refused_look : State → ModelClient → ℕ → Stage → Stage
-refused_look s c inode stage = elim (look_refusal s.tree c inode) [ None ↦ stage | Some answer ↦ Replying answer ]
+refused_look s c inode stage =
+    elim (look_refusal s.tree c inode) [ None ↦ stage | Some answer ↦ Replying answer ]
 
 abbrev pub sees : ModelClient → ℕ → Option OpenFile → List Asked → Bool
 sees c handle None parts = false
@@ -259,8 +280,11 @@ begun_quietly s client c now d (Answers told) = d.stage
 begun_quietly s client c now d (Mounts writeback) = d.stage
 begun_quietly s client c now d Transacts = d.stage
 begun_quietly s client c now d Releases = d.stage
-begun_quietly s client c now d (Reads offset len) = (if sees_first c d (asked_parts offset len) then Reading 0 else refused_look s c (inode_at c (handle_of d.op)) d.stage)
-begun_quietly s client c now d Truncates = Replying (refusal_in (transacted s client now d.op).reply)
+begun_quietly s client c now d (Reads offset len) =
+    (if sees_first c d (asked_parts offset len) then Reading 0
+    else refused_look s c (inode_at c (handle_of d.op)) d.stage)
+begun_quietly s client c now d Truncates =
+    Replying (refusal_in (transacted s client now d.op).reply)
 begun_quietly s client c now d Copies = Replying (refusal_in (transacted s client now d.op).reply)
 begun_quietly s client c now d Compacts = Replying (refusal_in (transacted s client now d.op).reply)
 begun_quietly s client c now d DoesClean = cleaning_on s c first_cleaning
@@ -273,7 +297,8 @@ quieted s client c now d (Working quiets started) = (if is_flushed d.flush c.pen
     then begun_quietly s client c now d d.does
     else flushing_on s c now quiets started)
 quieted s client c now d (Reading misses) = Reading misses
-quieted s client c now d (Missing misses window owed) = refused_look s c (inode_at c (handle_of d.op)) (Missing misses window owed)
+quieted s client c now d (Missing misses window owed) =
+    refused_look s c (inode_at c (handle_of d.op)) (Missing misses window owed)
 quieted s client c now d (LookedAgain misses window owed) = Reading misses
 quieted s client c now d (Compacting k) = (if is_some k.missed
     then refused_look s c k.view.inode (Compacting k)
@@ -289,7 +314,8 @@ is_cleaning _ = false
 abbrev pub after_quiet : State → ℕ → ℕ → Doing → State
 after_quiet s client now d =
     let c = s.clients client in
-    set_client (record s { swept = (if is_cleaning d.does then next_entry s else s.swept) }) client (with_stage (quieted s client c now d d.stage) c)
+    set_client (record s { swept = (if is_cleaning d.does then next_entry s else s.swept) }) client
+    (with_stage (quieted s client c now d d.stage) c)
 
 -- looks
 
@@ -321,7 +347,14 @@ looked (Replying answer) = Replying answer
 -- a look of a compaction, the first or the one after a missed block
 abbrev pub compaction_looked : View → Stage → Stage
 compaction_looked view (Compacting k) = Compacting (record k { view = view })
-compaction_looked view _ = Compacting (record { first = view.entry; view = view; quiets = []; missed = None; has_replaced = false })
+compaction_looked view _ =
+    Compacting (record {
+      first = view.entry;
+      view = view;
+      quiets = [];
+      missed = None;
+      has_replaced = false;
+    })
 
 abbrev pub is_compaction : Does → Bool
 is_compaction Compacts = true
@@ -329,7 +362,8 @@ is_compaction _ = false
 
 -- the client once its operation looked at a window of a file
 abbrev pub with_look : State → Doing → (inode window : ℕ) → ModelClient → ModelClient
-with_look s d inode window c = record c { views = view_now s (handle_of d.op) inode window ∷ c.views }
+with_look s d inode window c =
+    record c { views = view_now s (handle_of d.op) inode window ∷ c.views }
 
 abbrev pub after_look : State → ℕ → ℕ → ℕ → Doing → State
 after_look s client inode window d =
@@ -375,10 +409,15 @@ answer_then c d = elim d.does [
 
 -- after a commit: the next segment, what comes after the flush, or the answer
 abbrev pub committed_stage : ModelClient → Doing → Stage
-committed_stage c d = (if is_flushed d.flush c.pending then elim (answer_then c d) [ None ↦ Working 0 0 | Some answer ↦ Replying answer ] else Working 0 0)
+committed_stage c d =
+    (if is_flushed d.flush c.pending then elim (answer_then c d) [
+      | None ↦ Working 0 0
+      | Some answer ↦ Replying answer
+    ] else Working 0 0)
 
 abbrev owed_by : ℕ → ℕ → ℕ → List Owed
-owed_by entry client staged = (if staged == 0 then [] else record { commit = entry; client = client } ∷ [])
+owed_by entry client staged =
+    (if staged == 0 then [] else record { commit = entry; client = client } ∷ [])
 
 -- the client once it changed a file
 abbrev pub without_views : ℕ → ModelClient → ModelClient
@@ -416,7 +455,9 @@ after_copy s client now source from target to len d =
     let c = s.clients client in
     set_client (record s {
       tree = copied s.tree now source from target to len;
-      marks = marks_copied (next_entry s) source from target to len (or_empty (content_at s.tree target)).length s.marks;
+      marks =
+          marks_copied (next_entry s) source from target to len
+          (or_empty (content_at s.tree target)).length s.marks;
       copied = s.copied + len;
       changes = changed_at (next_entry s) Written target ∷ s.changes;
     }) client (with_stage (Replying (reply.Count len)) (without_views target c))
@@ -431,7 +472,9 @@ replaced stage = stage
 
 abbrev pub after_compaction : State → ℕ → ℕ → ℕ → ℕ → ℕ → Doing → State
 after_compaction s client inode window from to d = set_client (record s {
-  marks = marks_compacted (next_entry s) (last_look d.stage) inode (window_start window + from) (window_start window + to) s.marks;
+  marks =
+      marks_compacted (next_entry s) (last_look d.stage) inode (window_start window + from)
+      (window_start window + to) s.marks;
   changes = changed_at (next_entry s) Replaced inode ∷ s.changes;
 }) client (with_stage (replaced d.stage) (s.clients client))
 
@@ -453,22 +496,27 @@ abbrev pub after_purge : State → ℕ → ℕ → Doing → State
 after_purge s client inode d =
     let k = cleaning_of d.stage in
     after_item (with_tree (purged s.tree inode) s) client
-    (if nat_lt inode TRASH_ROOT then record k { part = Trash; trash = k.trash + 1 } else record k { part = Trash; hours = k.hours + 1 })
+    (if nat_lt inode TRASH_ROOT then record k { part = Trash; trash = k.trash + 1 }
+    else record k { part = Trash; hours = k.hours + 1 })
 
 -- a row of a removed file or of a dead slice went
 abbrev pub after_cleaning : State → ℕ → ℕ → ℕ → Doing → State
 after_cleaning s client table key d =
     let k = cleaning_of d.stage in
-    after_item (record s { dropped = (if table == TABLE_OF_DROPPED then key ∷ s.dropped else s.dropped) }) client
-    (if table == TABLE_OF_DROPPED then record k { files = k.files + 1 } else record k { part = Slices; slices = k.slices + 1 })
+    after_item (record s {
+      dropped = (if table == TABLE_OF_DROPPED then key ∷ s.dropped
+          else s.dropped);
+    }) client
+    (if table == TABLE_OF_DROPPED then record k { files = k.files + 1 }
+    else record k { part = Slices; slices = k.slices + 1 })
 
 abbrev pub settled : ℕ → State → State
 settled commit s = record s { owed = filter (λ o. not (o.commit == commit)) s.owed }
 
 -- answers
 
--- What a done operation leaves of its client: a write is pending, a closed handle is open no more, and after `umount` the
--- client is as before any mount.
+-- What a done operation leaves of its client: a write is pending, a closed handle is open no more,
+-- and after `umount` the client is as before any mount.
 abbrev pub finished : Op → ModelClient → ModelClient
 finished (op.Mount writeback) c = c
 finished op.Umount c = unmounted
@@ -482,11 +530,14 @@ finished (op.Create path mode) c = c
 finished (op.Open path) c = c
 finished (op.Close handle) c = record c {
   handles = with_file handle None c.handles;
-  sustained = (if is_last_of_removed c handle then filter (λ inode. not (inode == inode_at c handle)) c.sustained else c.sustained);
+  sustained =
+      (if is_last_of_removed c handle then filter (λ inode.
+      not (inode == inode_at c handle)) c.sustained else c.sustained);
 }
 finished (op.Flush handle) c = c
 finished (op.Read handle offset len) c = c
-finished (op.Write handle offset bytes) c = record c { pending = written (inode_at c handle) offset bytes c.pending }
+finished (op.Write handle offset bytes) c =
+    record c { pending = written (inode_at c handle) offset bytes c.pending }
 finished (op.Truncate handle len) c = c
 finished (op.Copy source from target to len) c = c
 finished (op.Readdir path) c = c
@@ -506,7 +557,8 @@ finished (op.Gc delete) c = c
 finished op.Upload c = c
 finished op.Stats c = c
 
--- a client whose session is gone is as before any mount; what is pending of an inode that is gone is dropped
+-- a client whose session is gone is as before any mount; what is pending of an inode that is gone
+-- is dropped
 abbrev pub refused_as : Fault → ModelClient → ModelClient
 refused_as (Stale (Session sid)) c = unmounted
 refused_as (Stale (Node inode)) c = record c { pending = pending_of_others inode c.pending }
@@ -535,16 +587,23 @@ after_step s act d (Mounted sid) = after_transaction s act.client act.at d
 after_step s act d Meta = after_transaction s act.client act.at d
 after_step s act d (Opened handle inode) = after_transaction s act.client act.at d
 after_step s act d (Look inode window) = after_look s act.client inode window d
-after_step s act d (Commit inode from len staged) = after_commit s act.client act.at inode from len staged d
+after_step s act d (Commit inode from len staged) =
+    after_commit s act.client act.at inode from len staged d
 after_step s act d (Truncated inode len) = after_truncation s act.client act.at inode len d
-after_step s act d (Copied source from target to len) = after_copy s act.client act.at source from target to len d
-after_step s act d (Compacted inode window from to) = after_compaction s act.client inode window from to d
-after_step s act d (Settled commit) = set_client (settled commit s) act.client (with_stage (quieted s act.client (s.clients act.client) act.at d d.stage) (s.clients act.client))
+after_step s act d (Copied source from target to len) =
+    after_copy s act.client act.at source from target to len d
+after_step s act d (Compacted inode window from to) =
+    after_compaction s act.client inode window from to d
+after_step s act d (Settled commit) =
+    set_client (settled commit s) act.client
+    (with_stage (quieted s act.client (s.clients act.client) act.at d d.stage)
+    (s.clients act.client))
 after_step s act d (Expired sid) = after_expiry s act.client sid d
 after_step s act d (Purged inode) = after_purge s act.client inode d
 after_step s act d (Cleaned table key) = after_cleaning s act.client table key d
 after_step s act d Quiet = after_quiet s act.client act.at d
-after_step s act d (Miss inode window) = set_client s act.client (with_stage (missed window s.owed d.stage) (s.clients act.client))
+after_step s act d (Miss inode window) =
+    set_client s act.client (with_stage (missed window s.owed d.stage) (s.clients act.client))
 after_step s act d Crashed = s
 after_step s act d (Ticked by) = s
 after_step s act d (Answered told) = s
@@ -560,7 +619,8 @@ of_doing s act (Some d) = after_step s act d act.kind
 
 abbrev pub changed : State → Act → ActKind → State
 changed s act Crashed = set_client s act.client unmounted
-changed s act (Answered told) = set_client s act.client (answered_client told (s.clients act.client))
+changed s act (Answered told) =
+    set_client s act.client (answered_client told (s.clients act.client))
 changed s act _ = of_doing s act (s.clients act.client).doing
 
 -- the state with one more entry

@@ -1,5 +1,5 @@
--- One step of a client's operation, which makes at most one transaction or one request: its entries, and whether it ends the
--- operation.
+-- One step of a client's operation, which makes at most one transaction or one request: its
+-- entries, and whether it ends the operation.
 use Rattle.std.specs.Prelude.{◌≡◌, ℕ, Bool, true, false, List, [], ◌∷◌, Option, None, Some}
 use Rattle.jv_model.specs.declared.act.Act.{Act}
 use Rattle.jv_model.specs.declared.act.ActKind.{ActKind}
@@ -34,15 +34,20 @@ is_answer _ = false
 abbrev pub answer_of : ModelClient → Told → Option Reply
 answer_of c told = elim c.doing [ None ↦ None | Some d ↦ Some (reply_of c d told) ]
 
--- A step is a request after which the operation goes on; or an answer that needs no request; or a request and its answer.
-pub data AllowsStep (start : Start) (alone : Bool) (s : State) (client now : ℕ) (kinds : List ActKind) (step : Step) : Type 0 where
+-- A step is a request after which the operation goes on; or an answer that needs no request; or a
+-- request and its answer.
+pub data AllowsStep (start : Start) (alone : Bool) (s : State) (client now : ℕ)
+    (kinds : List ActKind) (step : Step) : Type 0 where
   GoesOn : (kind : ActKind) → kinds ≡ kind ∷ [] → step ≡ More
-      → IsEntry start alone s client now kind true → is_answer kind ≡ false → ends_in_step ((stepped s client now kind).clients client) ≡ false
+      → IsEntry start alone s client now kind true → is_answer kind ≡ false
+      → ends_in_step ((stepped s client now kind).clients client) ≡ false
       → AllowsStep start alone s client now kinds step
   AnswersAlone : (told : Told) → (reply : Reply) → kinds ≡ Answered told ∷ [] → step ≡ Done reply
-      → IsEntry start alone s client now (Answered told) true → answer_of (s.clients client) told ≡ Some reply
+      → IsEntry start alone s client now (Answered told) true
+      → answer_of (s.clients client) told ≡ Some reply
       → AllowsStep start alone s client now kinds step
-  AnswersAfter : (kind : ActKind) → (told : Told) → (reply : Reply) → kinds ≡ kind ∷ Answered told ∷ [] → step ≡ Done reply
+  AnswersAfter : (kind : ActKind) → (told : Told) → (reply : Reply)
+      → kinds ≡ kind ∷ Answered told ∷ [] → step ≡ Done reply
       → IsEntry start alone s client now kind true → is_answer kind ≡ false
       → IsEntry start alone (stepped s client now kind) client now (Answered told) false
       → answer_of ((stepped s client now kind).clients client) told ≡ Some reply

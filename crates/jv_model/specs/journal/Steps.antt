@@ -1,5 +1,5 @@
--- What an entry of a client's operation may be, by the state alone: the requests of the operation in their order, each with
--- the operation's own numbers, and the answers with their causes.
+-- What an entry of a client's operation may be, by the state alone: the requests of the operation
+-- in their order, each with the operation's own numbers, and the answers with their causes.
 use Rattle.std.specs.Prelude.{◌≡◌, ℕ, ◌+◌, ◌%◌, ◌≤◌, ◌<◌, Bool, true, false, ◌&&◌, ◌||◌, not, ◌==◌, nat_le, nat_lt, if◌then◌else◌, IsTrue, MatchBool, IsSomeAnd, List, [], ◌∷◌, length, is_some, Option, None, Some, Result, Ok, Err}
 use Rattle.std.specs.List.{list_any}
 use Rattle.std.specs.Option.{option_map}
@@ -26,7 +26,7 @@ use Rattle.jv_model.specs.tree.Tree.{Tree, node_at, fits}
 use Rattle.jv_model.specs.tree.Caller.{Caller}
 use Rattle.jv_model.specs.tree.Attempt.{◌>>=◌}
 use Rattle.jv_model.specs.tree.FileBytes.{committed}
-use Rattle.jv_model.specs.tree.Reading.{compact_inode}
+use Rattle.jv_model.specs.tree.Reading.{file_inode}
 use Rattle.jv_model.specs.tree.Sessions.{due_session}
 use Rattle.jv_model.specs.tree.Trash.{due_purge}
 use Rattle.jv_model.specs.client.Pending.{Segment, bytes_in_range}
@@ -45,9 +45,11 @@ pub record Start : Type 0 where
   pub next_slice : ℕ
   pub records : ℕ  -- of all lists together
 
--- Stored numbers that the tree doesn't have may stand near their end: the next slice's, or how often a slice is named.
+-- Stored numbers that the tree doesn't have may stand near their end: the next slice's, or how
+-- often a slice is named.
 abbrev pub is_crowded : Start → State → Bool
-is_crowded start s = nat_le FULL_COUNT (start.next_slice + s.count) || nat_le FULL_COUNT (start.records + s.count + FILE_END + s.copied)
+is_crowded start s = nat_le FULL_COUNT (start.next_slice + s.count)
+    || nat_le FULL_COUNT (start.records + s.count + FILE_END + s.copied)
 
 -- the requests of the next segment that an operation made which works on its requests
 abbrev pub quiets_in : Stage → ℕ
@@ -89,7 +91,8 @@ entry_of_gift (NewHandle handle inode) = Opened handle inode
 entry_of_gift Nothing = Meta
 
 -- the transaction is the tree's own
-pub record Transaction (s : State) (client now : ℕ) (c : ModelClient) (d : Doing) (kind : ActKind) : Type 0 where
+pub record Transaction (s : State) (client now : ℕ) (c : ModelClient) (d : Doing)
+    (kind : ActKind) : Type 0 where
   pub ready : IsTrue (is_ready c d)
   pub transacts : IsTrue (transacts c d)
   pub same : kind ≡ entry_of_gift (gift_of (transacted s client now d.op).reply)
@@ -100,16 +103,19 @@ abbrev may_be_staged : Bool → ℕ → ℕ → Bool
 may_be_staged true quiets staged = nat_lt staged quiets
 may_be_staged false quiets staged = staged == 0
 
--- A commit is of the least segment that is left, after a request for its slice's number and one for each block. Its session
--- and its file are there, it comes in time, and the volume has room.
-pub record Commits (s : State) (now : ℕ) (c : ModelClient) (d : Doing) (inode from len staged : ℕ) : Type 0 where
+-- A commit is of the least segment that is left, after a request for its slice's number and one for
+-- each block. Its session and its file are there, it comes in time, and the volume has room.
+pub record Commits (s : State) (now : ℕ) (c : ModelClient) (d : Doing)
+    (inode from len staged : ℕ) : Type 0 where
   pub requests : 2 ≤ quiets_in d.stage
-  pub segment : next_segment d.flush c.pending ≡ Some (record { inode = inode; from = from; len = len })
+  pub segment : next_segment d.flush c.pending ≡ Some
+      (record { inode = inode; from = from; len = len })
   pub behind : IsTrue (may_be_staged c.writeback (quiets_in d.stage) staged)
   pub session : IsTrue (has_session s.tree c)
   pub file : IsTrue (is_some (node_at s.tree inode))
   pub in_time : now < started_in d.stage + UPLOAD_LIFE
-  pub room : IsTrue (fits s.tree (committed s.tree now inode from (bytes_in_range inode from len c.pending)))
+  pub room : IsTrue (fits s.tree (committed s.tree now inode from
+      (bytes_in_range inode from len c.pending)))
 
 -- reading
 
@@ -143,9 +149,11 @@ window_asked (Some asked) = Some asked.window
 abbrev pub window_to_look : ModelClient → Doing → OpenFile → Option ℕ
 window_to_look c d file = elim d.stage [
   | Missing misses window owed ↦ Some window
-  | Working quiets started ↦ window_asked (part_to_look c.views (handle_of d.op) file (asked_of d.does))
+  | Working quiets started ↦ window_asked
+      (part_to_look c.views (handle_of d.op) file (asked_of d.does))
   | Reading misses ↦ window_asked (part_to_look c.views (handle_of d.op) file (asked_of d.does))
-  | LookedAgain misses window owed ↦ window_asked (part_to_look c.views (handle_of d.op) file (asked_of d.does))
+  | LookedAgain misses window owed ↦ window_asked
+      (part_to_look c.views (handle_of d.op) file (asked_of d.does))
   | Compacting k ↦ None
   | Cleans k ↦ None
   | Requesting requests ↦ None
@@ -159,7 +167,8 @@ is_missing _ = false
 -- A reading looks at the window that comes next, of the file that it reads, which is there.
 pub record LooksAt (s : State) (c : ModelClient) (d : Doing) (inode window : ℕ) : Type 0 where
   pub goes_on : IsTrue (may_read_on c d || is_missing d.stage)
-  pub file : IsSomeAnd (file_in_use c d) (λ file. (inode ≡ file.inode) × (window_to_look c d file ≡ Some window))
+  pub file : IsSomeAnd (file_in_use c d)
+      (λ file. (inode ≡ file.inode) × (window_to_look c d file ≡ Some window))
   pub session : IsTrue (has_session s.tree c)
   pub there : IsTrue (is_some (node_at s.tree inode))
 
@@ -178,14 +187,20 @@ takes_blocks Written = false
 takes_blocks Replaced = true
 takes_blocks Ended = true
 
--- since the view was taken its file was cut, compacted or removed, and a cleaning went on after that
+-- since the view was taken its file was cut, compacted or removed, and a cleaning went on after
+-- that
 abbrev pub may_be_cleaned : State → View → Bool
-may_be_cleaned s view = list_any (λ change. (change.inode == view.inode) && takes_blocks change.kind && nat_lt view.entry change.entry && nat_lt change.entry s.swept) s.changes
+may_be_cleaned s view =
+    list_any (λ change. (change.inode == view.inode) && takes_blocks change.kind
+    && nat_lt view.entry change.entry && nat_lt change.entry s.swept) s.changes
 
--- why a block that a view shows may be missing: another client owes bytes of it, or it was cleaned away
-pub data MayBeGone (start : Start) (s : State) (client : ℕ) (view : View) (from to : ℕ) : Type 0 where
+-- why a block that a view shows may be missing: another client owes bytes of it, or it was cleaned
+-- away
+pub data MayBeGone (start : Start) (s : State) (client : ℕ) (view : View)
+    (from to : ℕ) : Type 0 where
   Owes : (position commit : ℕ) → from ≤ position → position < to
-      → missing_commit start.shelved s.owed client (view.origin position) ≡ Some commit → MayBeGone start s client view from to
+      → missing_commit start.shelved s.owed client (view.origin position) ≡ Some commit
+      → MayBeGone start s client view from to
   MayBeCleaned : IsTrue (may_be_cleaned s view) → MayBeGone start s client view from to
 
 -- the part at a window, where the parts before it are seen in full
@@ -198,7 +213,8 @@ part_in_use c handle file (asked ∷ others) window = (if asked.window == window
     ])
 
 -- A block of a window that the reading is at wasn't found.
-pub record MissesBlock (start : Start) (s : State) (client : ℕ) (c : ModelClient) (d : Doing) (inode window : ℕ) : Type 0 where
+pub record MissesBlock (start : Start) (s : State) (client : ℕ) (c : ModelClient) (d : Doing)
+    (inode window : ℕ) : Type 0 where
   pub goes_on : IsTrue (may_read_on c d)
   pub file : OpenFile
   pub opened : file_in_use c d ≡ Some file
@@ -211,24 +227,32 @@ pub record MissesBlock (start : Start) (s : State) (client : ℕ) (c : ModelClie
 
 -- the window that a compaction looks at first
 abbrev compaction_target : Tree → Caller → Op → Result (ℕ × ℕ) Fault
-compaction_target t who (op.Compact path window) = compact_inode t who path >>= λ inode. Ok (inode, window)
+compaction_target t who (op.Compact path window) =
+    file_inode t who path >>= λ inode. Ok (inode, window)
 compaction_target t who o = Err Invalid
 
 -- a block was missed, and the window wasn't looked at again yet
 abbrev pub has_to_look_again : Compaction → Bool
 has_to_look_again k = is_some k.missed && (k.view.entry == k.first)
 
--- A compaction looks at the window of its path's file first, and again after a block of it wasn't found.
-pub data CompactionLooks (s : State) (client now : ℕ) (c : ModelClient) (d : Doing) (inode window : ℕ) : Type 0 where
-  First : IsTrue (is_ready c d) → compaction_target s.tree (caller c client now d.op) d.op ≡ Ok (inode, window) → CompactionLooks s client now c d inode window
-  Again : (k : Compaction) → d.stage ≡ Compacting k → IsTrue (has_to_look_again k) → inode ≡ k.view.inode → window ≡ k.view.window
-      → IsTrue (has_session s.tree c) → IsTrue (is_some (node_at s.tree inode)) → CompactionLooks s client now c d inode window
+-- A compaction looks at the window of its path's file first, and again after a block of it wasn't
+-- found.
+pub data CompactionLooks (s : State) (client now : ℕ) (c : ModelClient) (d : Doing)
+    (inode window : ℕ) : Type 0 where
+  First : IsTrue (is_ready c d)
+      → compaction_target s.tree (caller c client now d.op) d.op ≡ Ok (inode, window)
+      → CompactionLooks s client now c d inode window
+  Again : (k : Compaction) → d.stage ≡ Compacting k → IsTrue (has_to_look_again k)
+      → inode ≡ k.view.inode → window ≡ k.view.window
+      → IsTrue (has_session s.tree c) → IsTrue (is_some (node_at s.tree inode))
+      → CompactionLooks s client now c d inode window
 
 -- a compaction that missed no block and replaced nothing goes on
 abbrev pub may_compact_on : Compaction → Bool
 may_compact_on k = not (is_some k.missed) && not k.has_replaced
 
-pub record CompactionMisses (start : Start) (s : State) (client : ℕ) (d : Doing) (inode window : ℕ) : Type 0 where
+pub record CompactionMisses (start : Start) (s : State) (client : ℕ) (d : Doing)
+    (inode window : ℕ) : Type 0 where
   pub k : Compaction
   pub stage : d.stage ≡ Compacting k
   pub goes_on : IsTrue (may_compact_on k)
@@ -240,8 +264,10 @@ abbrev is_in_time : ℕ → List ℕ → Bool
 is_in_time now [] = true
 is_in_time now (moment ∷ moments) = list_any (λ m. nat_lt now (m + UPLOAD_LIFE)) (moment ∷ moments)
 
--- the list of a window is replaced over a span of it, whose positions are counted from the window's start
-pub record Replaces (s : State) (now : ℕ) (c : ModelClient) (d : Doing) (inode window from to : ℕ) : Type 0 where
+-- the list of a window is replaced over a span of it, whose positions are counted from the window's
+-- start
+pub record Replaces (s : State) (now : ℕ) (c : ModelClient) (d : Doing)
+    (inode window from to : ℕ) : Type 0 where
   pub k : Compaction
   pub stage : d.stage ≡ Compacting k
   pub goes_on : IsTrue (may_compact_on k)
@@ -257,14 +283,16 @@ pub record Replaces (s : State) (now : ℕ) (c : ModelClient) (d : Doing) (inode
 -- the entry that an operation makes of the file that it changes, where the tree doesn't refuse it
 abbrev pub change_entry : ModelClient → Op → Reply → Option ActKind
 change_entry c (op.Truncate handle len) reply.Done = Some (Truncated (inode_at c handle) len)
-change_entry c (op.Copy source from target to len) (reply.Count copied) = Some (Copied (inode_at c source) from (inode_at c target) to copied)
+change_entry c (op.Copy source from target to len) (reply.Count copied) =
+    Some (Copied (inode_at c source) from (inode_at c target) to copied)
 change_entry c o answer = None
 
 abbrev pub changed_file : State → ℕ → ℕ → ModelClient → Doing → Option ActKind
 changed_file s client now c d = change_entry c d.op (transacted s client now d.op).reply
 
 -- the entry has the numbers of the operation, and its transaction isn't refused
-pub record Changes (s : State) (client now : ℕ) (c : ModelClient) (d : Doing) (kind : ActKind) : Type 0 where
+pub record Changes (s : State) (client now : ℕ) (c : ModelClient) (d : Doing)
+    (kind : ActKind) : Type 0 where
   pub ready : IsTrue (is_ready c d)
   pub same : changed_file s client now c d ≡ Some kind
 
@@ -277,7 +305,8 @@ items k = k.sessions + k.trash + k.hours + k.files + k.slices
 abbrev pub cleaning_in : ModelClient → Doing → Option Cleaning
 cleaning_in c d = elim d.stage [
   | Cleans k ↦ Some k
-  | Working quiets started ↦ (if is_ready c d && is_cleaning d.does then Some first_cleaning else None)
+  | Working quiets started ↦ (if is_ready c d && is_cleaning d.does then Some first_cleaning
+      else None)
   | Reading misses ↦ None
   | Missing misses window owed ↦ None
   | LookedAgain misses window owed ↦ None
@@ -301,9 +330,12 @@ pub record DropsFile (s : State) (inode : ℕ) : Type 0 where
   pub once : is_among inode s.dropped ≡ false
 
 abbrev pub CleansRow : State → ModelClient → Doing → ℕ → ℕ → Type 0
-CleansRow s c d table key = MatchBool (table == TABLE_OF_DROPPED) (CleansItem s c d Files × DropsFile s key) ((table ≡ TABLE_OF_DEAD) × CleansItem s c d MoreBlocks)
+CleansRow s c d table key =
+    MatchBool (table == TABLE_OF_DROPPED) (CleansItem s c d Files × DropsFile s key)
+    ((table ≡ TABLE_OF_DEAD) × CleansItem s c d MoreBlocks)
 
--- a request of a cleaning found nothing more in its part; blocks of slices are removed in any number
+-- a request of a cleaning found nothing more in its part; blocks of slices are removed in any
+-- number
 abbrev finds_none : State → ModelClient → ℕ → CleaningPart → Bool
 finds_none s c now Sessions = not (is_some (due_session s.tree (session_of c) now))
 finds_none s c now Trash = not (is_some (due_purge s.tree now))
@@ -321,7 +353,8 @@ may_begin_quietly start s client now c d = elim d.does [
   | Mounts writeback ↦ false
   | Transacts ↦ false
   | Releases ↦ false
-  | Reads offset len ↦ sees_first c d (asked_parts offset len) || is_some (look_refusal s.tree c (inode_at c (handle_of d.op)))
+  | Reads offset len ↦ sees_first c d (asked_parts offset len)
+      || is_some (look_refusal s.tree c (inode_at c (handle_of d.op)))
   | Truncates ↦ is_refused (transacted s client now d.op).reply || is_crowded start s
   | Copies ↦ is_refused (transacted s client now d.op).reply || is_crowded start s
   | Compacts ↦ is_refused (transacted s client now d.op).reply
@@ -331,12 +364,17 @@ may_begin_quietly start s client now c d = elim d.does [
 ]
 
 abbrev pub may_be_quiet : Start → State → ℕ → ℕ → ModelClient → Doing → Stage → Bool
-may_be_quiet start s client now c d (Working quiets started) = (if is_flushed d.flush c.pending then (quiets == 0) && may_begin_quietly start s client now c d else true)
+may_be_quiet start s client now c d (Working quiets started) =
+    (if is_flushed d.flush c.pending then (quiets == 0) && may_begin_quietly start s client now c d
+    else true)
 may_be_quiet start s client now c d (Reading misses) = true
-may_be_quiet start s client now c d (Missing misses window owed) = is_some (look_refusal s.tree c (inode_at c (handle_of d.op)))
+may_be_quiet start s client now c d (Missing misses window owed) =
+    is_some (look_refusal s.tree c (inode_at c (handle_of d.op)))
 may_be_quiet start s client now c d (LookedAgain misses window owed) = nat_lt misses MAX_MISSES
-may_be_quiet start s client now c d (Compacting k) = may_compact_on k || has_to_look_again k && is_some (look_refusal s.tree c k.view.inode)
-may_be_quiet start s client now c d (Cleans k) = nat_lt (items k) MAX_ITEMS && (finds_none s c now k.part || not (has_session s.tree c))
+may_be_quiet start s client now c d (Compacting k) =
+    may_compact_on k || has_to_look_again k && is_some (look_refusal s.tree c k.view.inode)
+may_be_quiet start s client now c d (Cleans k) =
+    nat_lt (items k) MAX_ITEMS && (finds_none s c now k.part || not (has_session s.tree c))
 may_be_quiet start s client now c d (Requesting requests) = is_collecting d.does
 may_be_quiet start s client now c d (Replying answer) = false
 
@@ -345,7 +383,8 @@ abbrev pub is_owed_by : State → ℕ → ℕ → Bool
 is_owed_by s client commit = list_any (λ o. (o.commit == commit) && (o.client == client)) s.owed
 
 -- the last staged block of a commit is published by an upload of the client that staged it
-pub record Publishes (s : State) (client : ℕ) (c : ModelClient) (d : Doing) (commit : ℕ) : Type 0 where
+pub record Publishes (s : State) (client : ℕ) (c : ModelClient) (d : Doing)
+    (commit : ℕ) : Type 0 where
   pub ready : IsTrue (is_ready c d)
   pub uploads : d.does ≡ Uploads
   pub owed : IsTrue (is_owed_by s client commit)
@@ -363,7 +402,8 @@ abbrev pub is_failure : Told → Bool
 is_failure (ToldRefused fault) = is_device_or_memory fault
 is_failure _ = false
 
--- whether the step that was made ends the operation: its answer comes in that step, and nothing else may
+-- whether the step that was made ends the operation: its answer comes in that step, and nothing
+-- else may
 abbrev pub must_answer : Doing → Bool
 must_answer d = elim d.stage [
   | Working quiets started ↦ false
@@ -405,7 +445,10 @@ told_of (reply.CacheStats hits misses cached pending) = Fine hits misses cached 
 abbrev asks_rows : ModelClient → Doing → Bool
 asks_rows c d = elim d.stage [
   | Working quiets started ↦ nat_le 3 quiets
-  | Reading misses ↦ elim (file_in_use c d) [ None ↦ false | Some file ↦ is_some (window_to_look c d file) ]
+  | Reading misses ↦ elim (file_in_use c d) [
+    | None ↦ false
+    | Some file ↦ is_some (window_to_look c d file)
+  ]
   | Missing misses window owed ↦ false
   | LookedAgain misses window owed ↦ false
   | Compacting k ↦ may_compact_on k
@@ -432,7 +475,9 @@ has_late_request started now quiets = is_among started quiets && nat_le (started
 
 -- since the compaction's first look others changed the list of its file
 abbrev found_another : State → Compaction → Bool
-found_another s k = list_any (λ change. (change.inode == k.view.inode) && nat_lt k.first change.entry && (is_replaced change.kind || is_some k.missed && is_written change.kind)) s.changes
+found_another s k =
+    list_any (λ change. (change.inode == k.view.inode) && nat_lt k.first change.entry
+    && (is_replaced change.kind || is_some k.missed && is_written change.kind)) s.changes
 
 -- the segment whose commit was asked for: it has its number and at least one block
 pub record CommitAsked (s : State) (c : ModelClient) (d : Doing) (segment : Segment) : Type 0 where
@@ -442,36 +487,58 @@ pub record CommitAsked (s : State) (c : ModelClient) (d : Doing) (segment : Segm
   pub there : IsTrue (is_some (node_at s.tree segment.inode))
 
 abbrev commit_fits : State → ℕ → ModelClient → Segment → Bool
-commit_fits s now c segment = fits s.tree (committed s.tree now segment.inode segment.from (bytes_in_range segment.inode segment.from segment.len c.pending))
+commit_fits s now c segment =
+    fits s.tree (committed s.tree now segment.inode segment.from
+    (bytes_in_range segment.inode segment.from segment.len c.pending))
 
--- A block was missed, and its window was looked at again just now: the view, what was owed when the block was missed, and
--- the part of the file that is asked for.
-pub data IsMissed (c : ModelClient) (d : Doing) (view : View) (owed : List Owed) (from to : ℕ) : Type 0 where
-  InReading : (misses window : ℕ) → (file : OpenFile) → (asked : Asked) → d.stage ≡ LookedAgain misses window owed → file_in_use c d ≡ Some file
-      → part_in_use c (handle_of d.op) file (asked_of d.does) window ≡ Some asked → fresh_view c.views (handle_of d.op) file window ≡ Some view
+-- A block was missed, and its window was looked at again just now: the view, what was owed when the
+-- block was missed, and the part of the file that is asked for.
+pub data IsMissed (c : ModelClient) (d : Doing) (view : View) (owed : List Owed)
+    (from to : ℕ) : Type 0 where
+  InReading : (misses window : ℕ) → (file : OpenFile) → (asked : Asked)
+      → d.stage ≡ LookedAgain misses window owed → file_in_use c d ≡ Some file
+      → part_in_use c (handle_of d.op) file (asked_of d.does) window ≡ Some asked
+      → fresh_view c.views (handle_of d.op) file window ≡ Some view
       → from ≡ asked.from → to ≡ asked.to → IsMissed c d view owed from to
-  InCompaction : (k : Compaction) → d.stage ≡ Compacting k → k.missed ≡ Some owed → k.first < k.view.entry → view ≡ k.view
-      → from ≡ window_start view.window → to ≡ window_start (view.window + 1) → IsMissed c d view owed from to
+  InCompaction : (k : Compaction) → d.stage ≡ Compacting k → k.missed ≡ Some owed
+      → k.first < k.view.entry → view ≡ k.view
+      → from ≡ window_start view.window → to ≡ window_start (view.window + 1)
+      → IsMissed c d view owed from to
 
 -- The refusal of a request that was just made, in this same step.
-pub data IsRefusedIn (start : Start) (s : State) (client now : ℕ) (c : ModelClient) (d : Doing) (fault : Fault) : Type 0 where
-  SessionGone : IsTrue (asks_rows c d) → has_session s.tree c ≡ false → fault ≡ Stale (Session (session_of c)) → IsRefusedIn start s client now c d fault
-  InodeGone : (inode : ℕ) → IsTrue (asks_rows c d) → IsTrue (has_session s.tree c) → inode_in_use c d ≡ Some inode → node_at s.tree inode ≡ None
+pub data IsRefusedIn (start : Start) (s : State) (client now : ℕ) (c : ModelClient) (d : Doing)
+    (fault : Fault) : Type 0 where
+  SessionGone : IsTrue (asks_rows c d) → has_session s.tree c ≡ false
+      → fault ≡ Stale (Session (session_of c)) → IsRefusedIn start s client now c d fault
+  InodeGone : (inode : ℕ) → IsTrue (asks_rows c d) → IsTrue (has_session s.tree c)
+      → inode_in_use c d ≡ Some inode → node_at s.tree inode ≡ None
       → fault ≡ Stale (Node inode) → IsRefusedIn start s client now c d fault
-  CommitLate : (segment : Segment) → CommitAsked s c d segment → started_in d.stage + UPLOAD_LIFE ≤ now → fault ≡ TimedOut (started_in d.stage) now
+  CommitLate : (segment : Segment) → CommitAsked s c d segment
+      → started_in d.stage + UPLOAD_LIFE ≤ now → fault ≡ TimedOut (started_in d.stage) now
       → IsRefusedIn start s client now c d fault
-  CommitTooLarge : (segment : Segment) → CommitAsked s c d segment → now < started_in d.stage + UPLOAD_LIFE
-      → IsTrue (is_crowded start s || not (commit_fits s now c segment)) → fault ≡ NoSpace → IsRefusedIn start s client now c d fault
-  NumberRefused : quiets_in d.stage ≡ 1 → IsTrue (is_crowded start s) → fault ≡ NoSpace → IsRefusedIn start s client now c d fault
-  CompactionCrowded : (k : Compaction) → d.stage ≡ Compacting k → IsTrue (may_compact_on k) → IsTrue (is_crowded start s) → fault ≡ NoSpace
+  CommitTooLarge : (segment : Segment) → CommitAsked s c d segment
+      → now < started_in d.stage + UPLOAD_LIFE
+      → IsTrue (is_crowded start s || not (commit_fits s now c segment)) → fault ≡ NoSpace
       → IsRefusedIn start s client now c d fault
-  CompactionLate : (k : Compaction) → (started : ℕ) → d.stage ≡ Compacting k → IsTrue (may_compact_on k) → IsTrue (has_session s.tree c)
-      → IsTrue (has_late_request started now k.quiets) → fault ≡ TimedOut started now → IsRefusedIn start s client now c d fault
-  AnotherList : (k : Compaction) → (looked found : ℕ) → d.stage ≡ Compacting k → k.has_replaced ≡ false → IsTrue (found_another s k)
-      → IsTrue (not (is_some k.missed) || nat_lt k.first k.view.entry) → fault ≡ Contended (Lists looked found) → IsRefusedIn start s client now c d fault
-  BlockOwed : (position commit from to : ℕ) → (view : View) → (owed : List Owed) → IsMissed c d view owed from to → from ≤ position → position < to
-      → missing_commit start.shelved owed client (view.origin position) ≡ Some commit → fault ≡ TryAgain commit → IsRefusedIn start s client now c d fault
-  MissedTooOften : (window : ℕ) → (owed : List Owed) → d.stage ≡ LookedAgain MAX_MISSES window owed → fault ≡ Contended (TooManyMisses MAX_MISSES)
+  NumberRefused : quiets_in d.stage ≡ 1 → IsTrue (is_crowded start s) → fault ≡ NoSpace
+      → IsRefusedIn start s client now c d fault
+  CompactionCrowded : (k : Compaction) → d.stage ≡ Compacting k → IsTrue (may_compact_on k)
+      → IsTrue (is_crowded start s) → fault ≡ NoSpace
+      → IsRefusedIn start s client now c d fault
+  CompactionLate : (k : Compaction) → (started : ℕ) → d.stage ≡ Compacting k
+      → IsTrue (may_compact_on k) → IsTrue (has_session s.tree c)
+      → IsTrue (has_late_request started now k.quiets) → fault ≡ TimedOut started now
+      → IsRefusedIn start s client now c d fault
+  AnotherList : (k : Compaction) → (looked found : ℕ) → d.stage ≡ Compacting k
+      → k.has_replaced ≡ false → IsTrue (found_another s k)
+      → IsTrue (not (is_some k.missed) || nat_lt k.first k.view.entry)
+      → fault ≡ Contended (Lists looked found) → IsRefusedIn start s client now c d fault
+  BlockOwed : (position commit from to : ℕ) → (view : View) → (owed : List Owed)
+      → IsMissed c d view owed from to → from ≤ position → position < to
+      → missing_commit start.shelved owed client (view.origin position) ≡ Some commit
+      → fault ≡ TryAgain commit → IsRefusedIn start s client now c d fault
+  MissedTooOften : (window : ℕ) → (owed : List Owed) → d.stage ≡ LookedAgain MAX_MISSES window owed
+      → fault ≡ Contended (TooManyMisses MAX_MISSES)
       → IsRefusedIn start s client now c d fault
 
 -- A collection has judged the page that it listed last, so that it may end.
@@ -494,7 +561,8 @@ pub record AnswersAtOnce (c : ModelClient) (d : Doing) (told : Told) : Type 0 wh
   pub first : d.moved ≡ false
   pub same : option_map told_of (answer_then c d) ≡ Some told
 
--- A read returns the bytes of the fresh views that it cites, and a view of each window that it needs.
+-- A read returns the bytes of the fresh views that it cites, and a view of each window that it
+-- needs.
 pub record ReadsFresh (c : ModelClient) (d : Doing) (told : Told) : Type 0 where
   pub goes_on : IsTrue (may_read_on c d)
   pub file : OpenFile
@@ -515,50 +583,74 @@ pub record EndsCleaning (s : State) (c : ModelClient) (d : Doing) (told : Told) 
 
 -- a compaction of fewer than two records ends after its look, and another one with its replacement
 pub data EndsCompaction (d : Doing) (told : Told) : Type 0 where
-  TooShort : (k : Compaction) → (records : ℕ) → d.stage ≡ Compacting k → k.quiets ≡ [] → IsTrue (may_compact_on k) → records < 2
+  TooShort : (k : Compaction) → (records : ℕ) → d.stage ≡ Compacting k → k.quiets ≡ []
+      → IsTrue (may_compact_on k) → records < 2
       → told ≡ Fine records records 0 0 → EndsCompaction d told
-  HasReplaced : (k : Compaction) → (before after : ℕ) → d.stage ≡ Compacting k → k.has_replaced ≡ true → 2 ≤ before
+  HasReplaced : (k : Compaction) → (before after : ℕ) → d.stage ≡ Compacting k
+      → k.has_replaced ≡ true → 2 ≤ before
       → told ≡ Fine before after 0 0 → EndsCompaction d told
 
--- an upload sent a block, or found none that is free to take; where no threads upload, none is staged then
-pub data EndsUpload (alone : Bool) (s : State) (client : ℕ) (c : ModelClient) (d : Doing) (told : Told) : Type 0 where
-  Sent : (id index size : ℕ) → d.stage ≡ Requesting 1 → told ≡ Fine id index size 1 → EndsUpload alone s client c d told
-  FoundNone : IsTrue (is_ready c d) → d.moved ≡ false → IsTrue (not alone || owes_none s client) → told ≡ Fine 0 0 0 0 → EndsUpload alone s client c d told
+-- an upload sent a block, or found none that is free to take; where no threads upload, none is
+-- staged then
+pub data EndsUpload (alone : Bool) (s : State) (client : ℕ) (c : ModelClient) (d : Doing)
+    (told : Told) : Type 0 where
+  Sent : (id index size : ℕ) → d.stage ≡ Requesting 1 → told ≡ Fine id index size 1
+      → EndsUpload alone s client c d told
+  FoundNone : IsTrue (is_ready c d) → d.moved ≡ false → IsTrue (not alone || owes_none s client)
+      → told ≡ Fine 0 0 0 0 → EndsUpload alone s client c d told
 
 -- The answers of an operation, each with what it needs.
-pub data MayAnswer (start : Start) (alone : Bool) (s : State) (client now : ℕ) (c : ModelClient) (d : Doing) (told : Told) : Type 0 where
-  Fails : must_answer d ≡ false → IsTrue (is_failure told) → MayAnswer start alone s client now c d told
-  Settles : (answer : Reply) → d.stage ≡ Replying answer → told ≡ told_of answer → MayAnswer start alone s client now c d told
+pub data MayAnswer (start : Start) (alone : Bool) (s : State) (client now : ℕ) (c : ModelClient)
+    (d : Doing) (told : Told) : Type 0 where
+  Fails : must_answer d ≡ false → IsTrue (is_failure told)
+      → MayAnswer start alone s client now c d told
+  Settles : (answer : Reply) → d.stage ≡ Replying answer → told ≡ told_of answer
+      → MayAnswer start alone s client now c d told
   AtOnce : AnswersAtOnce c d told → MayAnswer start alone s client now c d told
-  CountsCache : (hits misses cached : ℕ) → IsTrue (is_ready c d) → d.moved ≡ false → d.does ≡ Answers answer.CacheStats
+  CountsCache : (hits misses cached : ℕ) → IsTrue (is_ready c d) → d.moved ≡ false
+      → d.does ≡ Answers answer.CacheStats
       → told ≡ Fine hits misses cached (length c.pending)
       → MayAnswer start alone s client now c d told
   ReadsViews : ReadsFresh c d told → MayAnswer start alone s client now c d told
   CleanedUp : EndsCleaning s c d told → MayAnswer start alone s client now c d told
   HasCompacted : EndsCompaction d told → MayAnswer start alone s client now c d told
-  HasCollected : (count bytes : ℕ) → IsTrue (has_judged d.does d.stage) → told ≡ Fine count bytes 0 0 → MayAnswer start alone s client now c d told
-  HasUploaded : d.does ≡ Uploads → EndsUpload alone s client c d told → MayAnswer start alone s client now c d told
-  Refuses : (fault : Fault) → d.moved ≡ true → IsRefusedIn start s client now c d fault → told ≡ ToldRefused fault → MayAnswer start alone s client now c d told
+  HasCollected : (count bytes : ℕ) → IsTrue (has_judged d.does d.stage)
+      → told ≡ Fine count bytes 0 0 → MayAnswer start alone s client now c d told
+  HasUploaded : d.does ≡ Uploads → EndsUpload alone s client c d told
+      → MayAnswer start alone s client now c d told
+  Refuses : (fault : Fault) → d.moved ≡ true → IsRefusedIn start s client now c d fault
+      → told ≡ ToldRefused fault → MayAnswer start alone s client now c d told
 
 abbrev pub MayLook : State → ℕ → ℕ → ModelClient → Doing → ℕ → ℕ → Type 0
-MayLook s client now c d inode window = MatchBool (is_compaction d.does) (CompactionLooks s client now c d inode window) (LooksAt s c d inode window)
+MayLook s client now c d inode window =
+    MatchBool (is_compaction d.does) (CompactionLooks s client now c d inode window)
+    (LooksAt s c d inode window)
 
 abbrev pub MayMiss : Start → State → ℕ → ModelClient → Doing → ℕ → ℕ → Type 0
-MayMiss start s client c d inode window = MatchBool (is_compaction d.does) (CompactionMisses start s client d inode window) (MissesBlock start s client c d inode window)
+MayMiss start s client c d inode window =
+    MatchBool (is_compaction d.does) (CompactionMisses start s client d inode window)
+    (MissesBlock start s client c d inode window)
 
 -- what an entry of the operation may be
 abbrev pub MayStep : Start → Bool → State → ℕ → ℕ → ModelClient → Doing → ActKind → Type 0
 MayStep start alone s client now c d (Mounted sid) = Transaction s client now c d (Mounted sid)
 MayStep start alone s client now c d Meta = Transaction s client now c d Meta
-MayStep start alone s client now c d (Opened handle inode) = Transaction s client now c d (Opened handle inode)
+MayStep start alone s client now c d (Opened handle inode) =
+    Transaction s client now c d (Opened handle inode)
 MayStep start alone s client now c d (Look inode window) = MayLook s client now c d inode window
-MayStep start alone s client now c d (Commit inode from len staged) = Commits s now c d inode from len staged
-MayStep start alone s client now c d (Truncated inode len) = Changes s client now c d (Truncated inode len)
-MayStep start alone s client now c d (Copied source from target to len) = Changes s client now c d (Copied source from target to len)
-MayStep start alone s client now c d (Compacted inode window from to) = Replaces s now c d inode window from to
+MayStep start alone s client now c d (Commit inode from len staged) =
+    Commits s now c d inode from len staged
+MayStep start alone s client now c d (Truncated inode len) =
+    Changes s client now c d (Truncated inode len)
+MayStep start alone s client now c d (Copied source from target to len) =
+    Changes s client now c d (Copied source from target to len)
+MayStep start alone s client now c d (Compacted inode window from to) =
+    Replaces s now c d inode window from to
 MayStep start alone s client now c d (Settled commit) = Publishes s client c d commit
-MayStep start alone s client now c d (Expired sid) = CleansItem s c d Sessions × (due_session s.tree (session_of c) now ≡ Some sid)
-MayStep start alone s client now c d (Purged inode) = CleansItem s c d Trash × (due_purge s.tree now ≡ Some inode)
+MayStep start alone s client now c d (Expired sid) =
+    CleansItem s c d Sessions × (due_session s.tree (session_of c) now ≡ Some sid)
+MayStep start alone s client now c d (Purged inode) =
+    CleansItem s c d Trash × (due_purge s.tree now ≡ Some inode)
 MayStep start alone s client now c d (Cleaned table key) = CleansRow s c d table key
 MayStep start alone s client now c d Quiet = IsTrue (may_be_quiet start s client now c d d.stage)
 MayStep start alone s client now c d (Miss inode window) = MayMiss start s client c d inode window
@@ -567,7 +659,8 @@ MayStep start alone s client now c d (Ticked by) = ⊥
 MayStep start alone s client now c d (Answered told) = MayAnswer start alone s client now c d told
 
 -- an entry of an operation in progress: it may stand, and begins a step or not
-pub record IsEntry (start : Start) (alone : Bool) (s : State) (client now : ℕ) (kind : ActKind) (begins : Bool) : Type 0 where
+pub record IsEntry (start : Start) (alone : Bool) (s : State) (client now : ℕ) (kind : ActKind)
+    (begins : Bool) : Type 0 where
   pub doing : Doing
   pub busy : (s.clients client).doing ≡ Some doing
   pub begins_is : begins_step doing kind ≡ begins

@@ -1,4 +1,5 @@
--- The fields of rows: how each is spelled, and how it is read from the first bytes. Numbers are big-endian.
+-- The fields of rows: how each is spelled, and how it is read from the first bytes. Numbers are
+-- big-endian.
 use Rattle.std.specs.Prelude.{ℕ, Bool, ◌&&◌, nat_lt, if◌then◌else◌, List, [], ◌∷◌, length, take, drop, Option, None, Some}
 use Rattle.std.specs.Int.{w16, w32, w64, Width, byte_len, from_be_bytes, to_be_bytes}
 pub use Rattle.jv_model.specs.Optional.{◌>>=◌}
@@ -27,7 +28,8 @@ abbrev pub front_at : ℕ → List ℕ → Option (List ℕ × List ℕ)
 front_at n bytes = if nat_lt (length bytes) n then None else Some (take n bytes, drop n bytes)
 
 abbrev pub number_at : Width → List ℕ → Option (ℕ × List ℕ)
-number_at w bytes = if nat_lt (length bytes) (byte_len w) then None else Some (from_be_bytes w (take (byte_len w) bytes), drop (byte_len w) bytes)
+number_at w bytes = if nat_lt (length bytes) (byte_len w) then None
+    else Some (from_be_bytes w (take (byte_len w) bytes), drop (byte_len w) bytes)
 
 abbrev pub half_at : List ℕ → Option (ℕ × List ℕ)
 half_at bytes = number_at w16 bytes

@@ -1,10 +1,11 @@
--- The grammar of rows, version 1: what a value of each table may be, its one spelling, and the value that bytes spell, if they do.
+-- The grammar of rows, version 1: what a value of each table may be, its one spelling, and the
+-- value that bytes spell, if they do.
 use Rattle.std.specs.Prelude.{ℕ, ◌-◌, ◌*◌, ◌/◌, zero, suc, Bool, true, ◌&&◌, ◌||◌, not, ◌==◌, nat_le, if◌then◌else◌, List, [], ◌∷◌, ◌++◌, length, slice_index, Option, None, Some}
 use Rattle.std.specs.List.{flat_map, list_all}
 use Rattle.std.specs.Option.{option_map}
 use Rattle.std.specs.Str.{is_utf8}
 use Rattle.jv_model.specs.declared.tables.TheConstants.{TABLE_OF_SETTING, TABLE_OF_COUNTERS, TABLE_OF_NODES, TABLE_OF_EDGES, TABLE_OF_LISTS, TABLE_OF_SLICES, TABLE_OF_SESSIONS, TABLE_OF_SUSTAINED, TABLE_OF_DROPPED, TABLE_OF_DEAD, RECORD_LENGTH}
-use Rattle.jv_model.specs.declared.limits.TheConstants.{MIN_BLOCK, MAX_BLOCK, MIN_VOLUME_NAME, MAX_VOLUME_NAME, MAX_BUCKET, MAX_TRASH_DAYS, MAX_CAPACITY, FULL_COUNT, SPACE_UNIT, MAX_PATH, MAX_MODE, LAST_CLIENT}
+use Rattle.jv_model.specs.declared.limits.TheConstants.{MIN_BLOCK, MAX_BLOCK, MIN_VOLUME_NAME, MAX_VOLUME_NAME, MAX_BUCKET, MAX_TRASH_DAYS, MAX_CAPACITY, FULL_COUNT, DIRECTORY_LENGTH, MAX_PATH, MAX_MODE, LAST_CLIENT}
 use Rattle.jv_model.specs.declared.setting.Setting.{Setting}
 use Rattle.jv_model.specs.declared.slice.Rec.{Rec}
 use Rattle.jv_model.specs.declared.row.Counters.{Counters}
@@ -24,7 +25,8 @@ use Rattle.jv_model.specs.Lists.{is_nil, is_among, has_no_zero}
 
 -- the powers of two from 64 KiB to 16 MiB
 abbrev pub block_sizes : List ℕ
-block_sizes = MIN_BLOCK ∷ 2 * MIN_BLOCK ∷ 4 * MIN_BLOCK ∷ 8 * MIN_BLOCK ∷ 16 * MIN_BLOCK ∷ 32 * MIN_BLOCK ∷ 64 * MIN_BLOCK ∷ 128 * MIN_BLOCK ∷ MAX_BLOCK ∷ []
+block_sizes = MIN_BLOCK ∷ 2 * MIN_BLOCK ∷ 4 * MIN_BLOCK ∷ 8 * MIN_BLOCK ∷ 16 * MIN_BLOCK
+    ∷ 32 * MIN_BLOCK ∷ 64 * MIN_BLOCK ∷ 128 * MIN_BLOCK ∷ MAX_BLOCK ∷ []
 
 abbrev pub is_block : ℕ → Bool
 is_block size = is_among size block_sizes
@@ -33,19 +35,25 @@ is_block size = is_among size block_sizes
 abbrev pub is_name_byte : ℕ → Bool
 is_name_byte c = (nat_le 97 c && nat_le c 122) || (nat_le 48 c && nat_le c 57) || c == 45
 
--- a volume's name has 3 to 63 of these, and `-` neither first nor last
+-- a volume's name has MIN_VOLUME_NAME to MAX_VOLUME_NAME of these, and `-` neither first nor last
 abbrev pub is_volume_name : List ℕ → Bool
-is_volume_name name = nat_le MIN_VOLUME_NAME (length name) && nat_le (length name) MAX_VOLUME_NAME && list_all is_name_byte name && not (slice_index name 0 == 45) && not (slice_index name (length name - 1) == 45)
+is_volume_name name = nat_le MIN_VOLUME_NAME (length name) && nat_le (length name) MAX_VOLUME_NAME
+    && list_all is_name_byte name && not (slice_index name 0 == 45)
+    && not (slice_index name (length name - 1) == 45)
 
 abbrev pub is_bucket : List ℕ → Bool
 is_bucket bucket = nat_le 1 (length bucket) && nat_le (length bucket) MAX_BUCKET && is_utf8 bucket
 
 -- of any version from 1 on
 abbrev pub is_setting : Setting → Bool
-is_setting s = nat_le 1 s.version && is_block s.block && nat_le s.trash_days MAX_TRASH_DAYS && nat_le s.capacity MAX_CAPACITY && nat_le s.inodes FULL_COUNT && nat_le s.hash 1 && is_volume_name s.name && is_bucket s.bucket
+is_setting s = nat_le 1 s.version && is_block s.block && nat_le s.trash_days MAX_TRASH_DAYS
+    && nat_le s.capacity MAX_CAPACITY && nat_le s.inodes FULL_COUNT && nat_le s.hash 1
+    && is_volume_name s.name && is_bucket s.bucket
 
 unfoldable pub setting_bytes : Setting → List ℕ
-setting_bytes s = word s.version ++ word s.block ++ word s.trash_days ++ long s.capacity ++ long s.inodes ++ byte s.hash ++ byte (length s.name) ++ s.name ++ half (length s.bucket) ++ s.bucket
+setting_bytes s = word s.version ++ word s.block ++ word s.trash_days ++ long s.capacity
+    ++ long s.inodes ++ byte s.hash ++ byte (length s.name) ++ s.name ++ half (length s.bucket)
+    ++ s.bucket
 
 unfoldable pub setting_of : List ℕ → Option Setting
 setting_of bytes = do
@@ -59,7 +67,16 @@ setting_of bytes = do
   name ← front_at name_length.0 name_length.1
   bucket_length ← half_at name.1
   bucket ← front_at bucket_length.0 bucket_length.1
-  whole is_setting (record { version = version.0; block = block.0; trash_days = trash_days.0; capacity = capacity.0; inodes = inodes.0; hash = hash.0; name = name.0; bucket = bucket.0 }) bucket.1
+  whole is_setting (record {
+    version = version.0;
+    block = block.0;
+    trash_days = trash_days.0;
+    capacity = capacity.0;
+    inodes = inodes.0;
+    hash = hash.0;
+    name = name.0;
+    bucket = bucket.0;
+  }) bucket.1
 
 -- ---- table 1: the next numbers, and the running totals
 
@@ -67,7 +84,8 @@ abbrev pub is_counters : Counters → Bool
 is_counters c = nat_le 1 c.inode && nat_le 1 c.slice && nat_le 1 c.session
 
 unfoldable pub counters_bytes : Counters → List ℕ
-counters_bytes c = long c.inode ++ long c.slice ++ long c.session ++ long c.used_space ++ long c.used_inodes
+counters_bytes c =
+    long c.inode ++ long c.slice ++ long c.session ++ long c.used_space ++ long c.used_inodes
 
 unfoldable pub counters_of : List ℕ → Option Counters
 counters_of bytes = do
@@ -76,7 +94,13 @@ counters_of bytes = do
   session ← long_at slice.1
   used_space ← long_at session.1
   used_inodes ← long_at used_space.1
-  whole is_counters (record { inode = inode.0; slice = slice.0; session = session.0; used_space = used_space.0; used_inodes = used_inodes.0 }) used_inodes.1
+  whole is_counters (record {
+    inode = inode.0;
+    slice = slice.0;
+    session = session.0;
+    used_space = used_space.0;
+    used_inodes = used_inodes.0;
+  }) used_inodes.1
 
 -- ---- table 2: an inode
 
@@ -85,7 +109,7 @@ abbrev pub is_file : Node → Bool
 is_file n = n.parent == 0 && is_nil n.target
 
 abbrev pub is_directory : Node → Bool
-is_directory n = n.length == SPACE_UNIT && is_nil n.target
+is_directory n = n.length == DIRECTORY_LENGTH && is_nil n.target
 
 -- 1 to 4,096 bytes without the byte 0
 abbrev pub is_target : List ℕ → Bool
@@ -95,13 +119,15 @@ abbrev pub is_symlink : Node → Bool
 is_symlink n = n.parent == 0 && n.length == length n.target && is_target n.target
 
 abbrev pub is_of_kind : Node → Bool
-is_of_kind n = if n.kind == 1 then is_file n else if n.kind == 2 then is_directory n else n.kind == 3 && is_symlink n
+is_of_kind n = if n.kind == 1 then is_file n else if n.kind == 2 then is_directory n
+    else n.kind == 3 && is_symlink n
 
 abbrev pub is_node : Node → Bool
 is_node n = nat_le n.mode MAX_MODE && is_of_kind n
 
 unfoldable pub node_bytes : Node → List ℕ
-node_bytes n = byte n.kind ++ half n.mode ++ word n.uid ++ word n.gid ++ word n.nlink ++ long n.mtime ++ long n.ctime ++ long n.length ++ long n.parent ++ n.target
+node_bytes n = byte n.kind ++ half n.mode ++ word n.uid ++ word n.gid ++ word n.nlink
+    ++ long n.mtime ++ long n.ctime ++ long n.length ++ long n.parent ++ n.target
 
 -- the target is all that is left
 unfoldable pub node_of : List ℕ → Option Node
@@ -115,7 +141,18 @@ node_of bytes = do
   ctime ← long_at mtime.1
   length ← long_at ctime.1
   parent ← long_at length.1
-  whole is_node (record { kind = kind.0; mode = mode.0; uid = uid.0; gid = gid.0; nlink = nlink.0; mtime = mtime.0; ctime = ctime.0; length = length.0; parent = parent.0; target = parent.1 }) []
+  whole is_node (record {
+    kind = kind.0;
+    mode = mode.0;
+    uid = uid.0;
+    gid = gid.0;
+    nlink = nlink.0;
+    mtime = mtime.0;
+    ctime = ctime.0;
+    length = length.0;
+    parent = parent.0;
+    target = parent.1;
+  }) []
 
 -- ---- table 3: an entry of a directory
 

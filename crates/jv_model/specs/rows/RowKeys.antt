@@ -13,11 +13,15 @@ use Rattle.jv_model.specs.FiniteMap.{KeyOrder, Map, map_of, map_code}
 
 -- keys go by table, then by number, then by bytes as words in a dictionary
 abbrev pub row_cmp : RowKey → RowKey → Ordering
-row_cmp x y = ordering_then (nat_cmp x.tab y.tab) (ordering_then (nat_cmp x.a y.a) (slice_cmp nat_cmp x.b y.b))
+row_cmp x y =
+    ordering_then (nat_cmp x.tab y.tab) (ordering_then (nat_cmp x.a y.a)
+    (slice_cmp nat_cmp x.b y.b))
 
 pub row_cmp_total : IsTotalOrder row_cmp
 row_cmp_total =
-    then_total (on_total (λ (k : RowKey). k.tab) nat_cmp_total) (then_total (on_total (λ (k : RowKey). k.a) nat_cmp_total) (on_total (λ (k : RowKey). k.b) nat_list_cmp_total))
+    then_total (on_total (λ (k : RowKey). k.tab) nat_cmp_total)
+    (then_total (on_total (λ (k : RowKey). k.a) nat_cmp_total)
+    (on_total (λ (k : RowKey). k.b) nat_list_cmp_total))
 
 -- both parts tie where one after the other does
 pub both_tie : (o p : Ordering) → ordering_then o p ≡ Equal → (o ≡ Equal) × (p ≡ Equal)
@@ -53,7 +57,8 @@ row_map rows = map_of rows
 -- a key is stored as its parts
 abbrev pub row_key_code : Coded RowKey
 row_key_code =
-    code_by ((ℕ × ℕ) × List ℕ) (coded× (coded× coded_ℕ coded_ℕ) (coded_list coded_ℕ)) (λ k. ((k.tab, k.a), k.b)) (λ p. record { tab = p.0.0; a = p.0.1; b = p.1 }) (λ _. refl)
+    code_by ((ℕ × ℕ) × List ℕ) (coded× (coded× coded_ℕ coded_ℕ) (coded_list coded_ℕ))
+    (λ k. ((k.tab, k.a), k.b)) (λ p. record { tab = p.0.0; a = p.0.1; b = p.1 }) (λ _. refl)
 
 abbrev pub row_map_code : Coded RowMap
 row_map_code = map_code row_key_code (coded_list coded_ℕ)

@@ -1,4 +1,5 @@
--- The whole grammar of a script: which line a text is, if it is one. A text is the bytes of a line without its line feed.
+-- The whole grammar of a script: which line a text is, if it is one. A text is the bytes of a line
+-- without its line feed.
 use Rattle.std.specs.Prelude.{ℕ, ◌+◌, ◌%◌, Bool, true, false, ◌&&◌, not, ◌==◌, nat_lt, nat_le, if◌then◌else◌, List, [], ◌∷◌, ◌++◌, length, replicate, Option, None, Some, option_map, codes, bytes_eq, sum_by}
 use Rattle.std.specs.List.{list_all, flat_map}
 use Rattle.jv_model.specs.declared.limits.TheConstants.{MAX_TICK, MAX_DATA, LAST_MOMENT}
@@ -31,9 +32,11 @@ seconds_of text = do
 abbrev pub is_plain : ℕ → Bool
 is_plain c = nat_le 33 c && nat_le c 126 && not (c == 37)
 
--- what may stand between a `%` and the next: the two digits of a byte other than 0, and bytes that are written as themselves
+-- what may stand between a `%` and the next: the two digits of a byte other than 0, and bytes that
+-- are written as themselves
 abbrev pub is_escape : List ℕ → Bool
-is_escape (high ∷ low ∷ plain) = is_hex_digit high && is_hex_digit low && nat_lt 0 (byte_of high low) && list_all is_plain plain
+is_escape (high ∷ low ∷ plain) =
+    is_hex_digit high && is_hex_digit low && nat_lt 0 (byte_of high low) && list_all is_plain plain
 is_escape _ = false
 
 -- what it spells
@@ -44,7 +47,9 @@ escape_bytes _ = []
 -- the bytes that a text spells, given its parts between the `%`
 abbrev pub bytes_between : List (List ℕ) → Option (List ℕ)
 bytes_between [] = None
-bytes_between (plain ∷ escapes) = provided (list_all is_plain plain && list_all is_escape escapes) (plain ++ flat_map escape_bytes escapes)
+bytes_between (plain ∷ escapes) =
+    provided (list_all is_plain plain && list_all is_escape escapes)
+    (plain ++ flat_map escape_bytes escapes)
 
 -- the bytes that a text with escapes spells
 unfoldable pub unescaped : List ℕ → Option (List ℕ)
@@ -70,7 +75,8 @@ is_pairs text = nat_lt 0 (length text) && (length text % 2 == 0) && list_all is_
 unfoldable pub repeated_of : List ℕ → Option DataPart
 repeated_of (high ∷ low ∷ x ∷ digits) = do
   count ← number_of digits
-  provided (is_hex_digit high && is_hex_digit low && (x == 120) && nat_lt 0 count) (Repeated (record { byte = byte_of high low; count = count }))
+  provided (is_hex_digit high && is_hex_digit low && (x == 120) && nat_lt 0 count)
+      (Repeated (record { byte = byte_of high low; count = count }))
 repeated_of _ = None
 
 -- a part of the bytes of a write
@@ -119,7 +125,8 @@ operation_of_none name = (if bytes_eq name (codes "mount") then Some (Mount fals
 
 -- operations on a path alone
 unfoldable pub operation_of_path : List ℕ → List ℕ → Option Op
-operation_of_path name word = (if bytes_eq name (codes "lookup") then option_map Lookup (path_of word)
+operation_of_path name word =
+    (if bytes_eq name (codes "lookup") then option_map Lookup (path_of word)
     else if bytes_eq name (codes "stat") then option_map Stat (path_of word)
     else if bytes_eq name (codes "lstat") then option_map Lstat (path_of word)
     else if bytes_eq name (codes "open") then option_map Open (path_of word)
@@ -131,7 +138,8 @@ operation_of_path name word = (if bytes_eq name (codes "lookup") then option_map
 
 -- operations of one word
 unfoldable pub operation_of_one : List ℕ → List ℕ → Option Op
-operation_of_one name word = (if bytes_eq name (codes "mount") then provided (bytes_eq word (codes "writeback")) (Mount true)
+operation_of_one name word =
+    (if bytes_eq name (codes "mount") then provided (bytes_eq word (codes "writeback")) (Mount true)
     else if bytes_eq name (codes "gc") then provided (bytes_eq word (codes "delete")) (Gc true)
     else if bytes_eq name (codes "fstat") then option_map Fstat (number_of word)
     else if bytes_eq name (codes "close") then option_map Close (number_of word)
@@ -179,15 +187,22 @@ compact_of first second = do
 
 -- operations of two words: those of two paths, or of a target and a path, behind the others
 unfoldable pub operation_of_two_names : List ℕ → List ℕ → List ℕ → Option Op
-operation_of_two_names name first second = (if bytes_eq name (codes "symlink") then symlink_of first second
-    else if bytes_eq name (codes "link") then option_map (λ both. Link both.0 both.1) (two_paths_of first second)
-    else if bytes_eq name (codes "rename") then option_map (λ both. Rename both.0 both.1 how.Plain) (two_paths_of first second)
+operation_of_two_names name first second =
+    (if bytes_eq name (codes "symlink") then symlink_of first second
+    else if bytes_eq name (codes "link")
+    then option_map (λ both. Link both.0 both.1) (two_paths_of first second)
+    else if bytes_eq name (codes "rename")
+    then option_map (λ both. Rename both.0 both.1 how.Plain) (two_paths_of first second)
     else None)
 
 unfoldable pub operation_of_two : List ℕ → List ℕ → List ℕ → Option Op
-operation_of_two name first second = (if bytes_eq name (codes "mkdir") then option_map (λ both. Mkdir both.0 both.1) (path_and_mode_of first second)
-    else if bytes_eq name (codes "create") then option_map (λ both. Create both.0 both.1) (path_and_mode_of first second)
-    else if bytes_eq name (codes "chmod") then option_map (λ both. Chmod both.0 both.1) (path_and_mode_of first second)
+operation_of_two name first second =
+    (if bytes_eq name (codes "mkdir") then option_map (λ both.
+    Mkdir both.0 both.1) (path_and_mode_of first second)
+    else if bytes_eq name (codes "create")
+    then option_map (λ both. Create both.0 both.1) (path_and_mode_of first second)
+    else if bytes_eq name (codes "chmod")
+    then option_map (λ both. Chmod both.0 both.1) (path_and_mode_of first second)
     else if bytes_eq name (codes "truncate") then truncate_of first second
     else if bytes_eq name (codes "utimes") then utimes_of first second
     else if bytes_eq name (codes "compact") then compact_of first second
@@ -228,7 +243,8 @@ rename_of first second third = do
 
 -- operations of three words
 unfoldable pub operation_of_three : List ℕ → List ℕ → List ℕ → List ℕ → Option Op
-operation_of_three name first second third = (if bytes_eq name (codes "read") then read_of first second third
+operation_of_three name first second third =
+    (if bytes_eq name (codes "read") then read_of first second third
     else if bytes_eq name (codes "write") then write_of first second third
     else if bytes_eq name (codes "chown") then chown_of first second third
     else if bytes_eq name (codes "rename") then rename_of first second third
@@ -251,7 +267,8 @@ operation_of name (a ∷ []) = operation_of_one name a
 operation_of name (a ∷ b ∷ []) = operation_of_two name a b
 operation_of name (a ∷ b ∷ c ∷ []) = operation_of_three name a b c
 operation_of name (_ ∷ _ ∷ _ ∷ _ ∷ []) = None
-operation_of name (a ∷ b ∷ c ∷ d ∷ e ∷ []) = (if bytes_eq name (codes "copy") then copy_of a b c d e else None)
+operation_of name (a ∷ b ∷ c ∷ d ∷ e ∷ []) =
+    (if bytes_eq name (codes "copy") then copy_of a b c d e else None)
 operation_of name (_ ∷ _ ∷ _ ∷ _ ∷ _ ∷ _ ∷ _) = None
 
 -- an operation that is submitted alone
@@ -266,7 +283,8 @@ where_last (_ ∷ _) line = None
 
 -- what follows a client's letter
 unfoldable pub client_line_of : ℕ → List ℕ → List (List ℕ) → Option Line
-client_line_of client name arguments = (if bytes_eq name (codes "begin") then begin_of client arguments
+client_line_of client name arguments =
+    (if bytes_eq name (codes "begin") then begin_of client arguments
     else if bytes_eq name (codes "step") then where_last arguments (Some (Step client))
     else if bytes_eq name (codes "run") then where_last arguments (Some (Run client))
     else if bytes_eq name (codes "crash") then where_last arguments (Some (Crash client))
@@ -276,7 +294,8 @@ client_line_of client name arguments = (if bytes_eq name (codes "begin") then be
 unfoldable pub command_of : List (List ℕ) → Option Line
 command_of [] = None
 command_of (_ ∷ []) = None
-command_of (first ∷ second ∷ rest) = (if bytes_eq first (codes "drain") then where_last rest (option_map Drain (client_of second))
+command_of (first ∷ second ∷ rest) =
+    (if bytes_eq first (codes "drain") then where_last rest (option_map Drain (client_of second))
     else if bytes_eq first (codes "tick") then where_last rest (option_map Tick (seconds_of second))
     else client_of first >>= (λ client. client_line_of client second rest))
 

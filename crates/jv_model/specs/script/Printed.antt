@@ -19,26 +19,26 @@ abbrev pub hex_pair : ℕ → List ℕ
 hex_pair byte = hex_digit (byte / 16) ∷ hex_digit (byte % 16) ∷ []
 
 -- a maximal run of equal bytes
-pub record Run : Type 0 where
+pub record ByteRun : Type 0 where
   pub byte : ℕ
   pub count : ℕ
 
 -- the runs after one more byte in front
-abbrev pub with_byte : ℕ → List Run → List Run
+abbrev pub with_byte : ℕ → List ByteRun → List ByteRun
 with_byte byte [] = record { byte = byte; count = 1 } ∷ []
 with_byte byte (run ∷ runs) = (if byte == run.byte
     then record { byte = byte; count = run.count + 1 } ∷ runs
     else record { byte = byte; count = 1 } ∷ run ∷ runs)
 
 -- bytes as their maximal runs
-abbrev pub runs_of : List ℕ → List Run
+abbrev pub runs_of : List ℕ → List ByteRun
 runs_of [] = []
 runs_of (byte ∷ bytes) = with_byte byte (runs_of bytes)
 
 -- a part of printed bytes: plain digits, or a byte and how often it stands
 pub data DataPart : Type 0 where
   Plain : List ℕ → DataPart
-  Repeated : Run → DataPart
+  Repeated : ByteRun → DataPart
 
 -- the parts after one more short run in front, which goes into a plain part that is first
 abbrev pub with_short : List ℕ → List DataPart → List DataPart
@@ -47,7 +47,7 @@ with_short bytes (Plain more ∷ parts) = Plain (bytes ++ more) ∷ parts
 with_short bytes (Repeated run ∷ parts) = Plain bytes ∷ Repeated run ∷ parts
 
 -- a run of four or more is a part of its own, and shorter ones that stand side by side are one part
-abbrev pub parts_of : List Run → List DataPart
+abbrev pub parts_of : List ByteRun → List DataPart
 parts_of [] = []
 parts_of (run ∷ runs) = (if nat_le 4 run.count
     then Repeated run ∷ parts_of runs

@@ -12,7 +12,8 @@ use Rattle.jv_model.specs.blocks.BlockNames.{upper_pair, name_in}
 use Rattle.jv_model.specs.script.Spelling.{is_letter_or_digit}
 use Rattle.jv_model.specs.script.Printed.{number_word, ok_text, data_text, fault_text}
 
--- names, paths and targets: letters, digits and a few others stand for themselves, all else is `%` and two upper-case digits
+-- names, paths and targets: letters, digits and a few others stand for themselves, all else is `%`
+-- and two upper-case digits
 abbrev pub is_kept_in_name : ℕ → Bool
 is_kept_in_name c = is_letter_or_digit c || (c == 46) || (c == 95) || (c == 45) || (c == 126)
 
@@ -37,12 +38,15 @@ kind_letter kind.Symlink = 108
 
 -- the four octal digits of a mode
 abbrev pub mode_digits : ℕ → List ℕ
-mode_digits mode = (48 + mode / 512 % 8) ∷ (48 + mode / 64 % 8) ∷ (48 + mode / 8 % 8) ∷ (48 + mode % 8) ∷ []
+mode_digits mode =
+    (48 + mode / 512 % 8) ∷ (48 + mode / 64 % 8) ∷ (48 + mode / 8 % 8) ∷ (48 + mode % 8) ∷ []
 
 -- `INO KIND MODE NLINK UID GID SIZE MTIME CTIME`, each with a space before it
 unfoldable pub attr_words : Attr → List ℕ
-attr_words attr = number_word attr.inode ++ (32 ∷ kind_letter attr.kind ∷ 32 ∷ mode_digits attr.mode)
-    ++ flat_map number_word (attr.nlink ∷ attr.uid ∷ attr.gid ∷ attr.size ∷ attr.mtime ∷ attr.ctime ∷ [])
+attr_words attr =
+    number_word attr.inode ++ (32 ∷ kind_letter attr.kind ∷ 32 ∷ mode_digits attr.mode)
+    ++ flat_map number_word
+    (attr.nlink ∷ attr.uid ∷ attr.gid ∷ attr.size ∷ attr.mtime ∷ attr.ctime ∷ [])
 
 -- `NAME:INO`
 abbrev pub entry_text : List ℕ × ℕ → List ℕ
@@ -66,11 +70,14 @@ reply_text setting (reply.Found inode) = ok_text (inode ∷ [])
 reply_text setting (reply.FileOpened handle inode) = ok_text (handle ∷ inode ∷ [])
 reply_text setting (reply.Data bytes) = codes "ok " ++ data_text bytes
 reply_text setting (reply.Count bytes) = ok_text (bytes ∷ [])
-reply_text setting (reply.Usage space) = ok_text (space.used ∷ space.capacity ∷ space.inodes ∷ space.limit ∷ [])
+reply_text setting (reply.Usage space) =
+    ok_text (space.used ∷ space.capacity ∷ space.inodes ∷ space.limit ∷ [])
 reply_text setting (reply.Compaction before after) = ok_text (before ∷ after ∷ [])
-reply_text setting (reply.Cleanup sessions trash files slices) = ok_text (sessions ∷ trash ∷ files ∷ slices ∷ [])
+reply_text setting (reply.Cleanup sessions trash files slices) =
+    ok_text (sessions ∷ trash ∷ files ∷ slices ∷ [])
 reply_text setting (reply.Leaked count bytes) = ok_text (count ∷ bytes ∷ [])
-reply_text setting (reply.CacheStats hits misses cached pending) = ok_text (hits ∷ misses ∷ cached ∷ pending ∷ [])
+reply_text setting (reply.CacheStats hits misses cached pending) =
+    ok_text (hits ∷ misses ∷ cached ∷ pending ∷ [])
 reply_text setting (reply.Described attr) = codes "ok" ++ attr_words attr
 reply_text setting (reply.Entries entries) = codes "ok " ++ entries_text entries
 reply_text setting (reply.Target target) = codes "ok " ++ path_text target

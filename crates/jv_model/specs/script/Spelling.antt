@@ -25,7 +25,8 @@ is_decimal_digit c = nat_le 48 c && nat_le c 57
 abbrev pub is_numeral : List ℕ → Bool
 is_numeral [] = false
 is_numeral (digit ∷ []) = is_decimal_digit digit
-is_numeral (digit ∷ more ∷ digits) = not (digit == 48) && list_all is_decimal_digit (digit ∷ more ∷ digits)
+is_numeral (digit ∷ more ∷ digits) =
+    not (digit == 48) && list_all is_decimal_digit (digit ∷ more ∷ digits)
 
 -- a number, at most the greatest of 64 bits
 unfoldable pub number_of : List ℕ → Option ℕ
@@ -42,19 +43,17 @@ is_octal_digit c = nat_le 48 c && nat_le c 55
 
 -- a mode: four octal digits
 unfoldable pub mode_of : List ℕ → Option ℕ
-mode_of text = (if length text == 4 && list_all is_octal_digit text then Some (value_of 8 text) else None)
+mode_of text =
+    (if length text == 4 && list_all is_octal_digit text then Some (value_of 8 text) else None)
 
 abbrev pub is_letter_or_digit : ℕ → Bool
-is_letter_or_digit c = is_decimal_digit c || (nat_le 65 c && nat_le c 90) || (nat_le 97 c && nat_le c 122)
+is_letter_or_digit c =
+    is_decimal_digit c || (nat_le 65 c && nat_le c 90) || (nat_le 97 c && nat_le c 122)
 
--- the name of a file: 1 to 255 letters and digits
+-- the name of a file: 1 to MAX_NAME letters and digits
 abbrev pub is_name : List ℕ → Bool
-is_name name = nat_lt 0 (length name) && nat_le (length name) MAX_NAME && list_all is_letter_or_digit name
-
--- whether a text is the path of a file in the root: a slash and a name
-unfoldable pub is_root_path : List ℕ → Bool
-is_root_path [] = false
-is_root_path (slash ∷ name) = (slash == 47) && is_name name
+is_name name =
+    nat_lt 0 (length name) && nat_le (length name) MAX_NAME && list_all is_letter_or_digit name
 
 -- hexadecimal digits of either case
 abbrev pub is_hex_digit : ℕ → Bool
@@ -76,7 +75,8 @@ bytes_of_digits (high ∷ low ∷ digits) = byte_of high low ∷ bytes_of_digits
 
 -- a client's letter, A to H
 unfoldable pub client_of : List ℕ → Option ℕ
-client_of (letter ∷ []) = (if nat_le 65 letter && nat_le letter (65 + LAST_CLIENT) then Some (letter - 65) else None)
+client_of (letter ∷ []) =
+    (if nat_le 65 letter && nat_le letter (65 + LAST_CLIENT) then Some (letter - 65) else None)
 client_of _ = None
 
 -- an empty text or a comment

@@ -5,8 +5,8 @@ use Rattle.jv_model.specs.FiniteMap.{insert, remove}
 use Rattle.jv_model.specs.tree.Tree.{Tree, Node, File, Content, EntryKey, node_at}
 use Rattle.jv_model.specs.Ranges.{in_range}
 
--- A node whose content or entries changed has both times at the moment (POSIX.1-2017, 4.9 "File Times Update": last data
--- modification and last file status change).
+-- A node whose content or entries changed has both times at the moment (POSIX.1-2017, 4.9 "File
+-- Times Update": last data modification and last file status change).
 abbrev pub touched : ℕ → Node → Node
 touched now node = record node { mtime = now; ctime = now }
 
@@ -35,7 +35,8 @@ touch t now dir = change_node t dir (touched now)
 
 -- an entry that names this inode
 abbrev pub put_entry : Tree → ℕ → EntryKey → ℕ → Tree
-put_entry t now place inode = record (touch t now place.dir) { entries = insert t.entries place inode }
+put_entry t now place inode =
+    record (touch t now place.dir) { entries = insert t.entries place inode }
 
 -- without an entry
 abbrev pub take_entry : Tree → ℕ → EntryKey → Tree
@@ -56,14 +57,19 @@ byte_within content position = (if nat_lt position content.length then content.b
 
 -- a file's bytes, none from its length on
 abbrev pub content_of : ℕ → (ℕ → ℕ) → Content
-content_of length byte = record { length = length; byte = λ position. if nat_lt position length then byte position else 0 }
+content_of length byte =
+    record {
+      length = length;
+      byte = λ position. if nat_lt position length then byte position
+          else 0;
+    }
 
 -- A file cut to a length, or with zeros up to it (POSIX.1-2017, "ftruncate").
 abbrev pub resized : Content → ℕ → Content
 resized content len = content_of len (byte_within content)
 
--- A file with a number of bytes put at a place, each by its distance from there. Zeros fill what lies between the file's
--- end and them (POSIX.1-2017, "write" behind an "lseek" past the end).
+-- A file with a number of bytes put at a place, each by its distance from there. Zeros fill what
+-- lies between the file's end and them (POSIX.1-2017, "write" behind an "lseek" past the end).
 abbrev pub patched : Content → ℕ → ℕ → (ℕ → ℕ) → Content
 patched content from len byte = record {
   length = max content.length (from + len);
@@ -77,8 +83,10 @@ overwritten content from bytes = patched content from (length bytes) (slice_inde
 
 -- a file with bytes of another, or of its own, put at a place
 abbrev pub copied_over : Content → ℕ → Content → ℕ → ℕ → Content
-copied_over source from target to len = patched target to len (λ distance. byte_within source (from + distance))
+copied_over source from target to len =
+    patched target to len (λ distance. byte_within source (from + distance))
 
 -- the tree with a file's bytes replaced, which sets its times
 abbrev pub with_content : Tree → ℕ → ℕ → Content → Tree
-with_content t now inode content = change_node t inode (λ (node : Node). record (touched now node) { kind = File content })
+with_content t now inode content =
+    change_node t inode (λ (node : Node). record (touched now node) { kind = File content })

@@ -26,10 +26,12 @@ truncated t now inode len = elim (content_at t inode) [
 ]
 
 abbrev pub copied_between : Tree → ℕ → Option Content → ℕ → ℕ → Option Content → ℕ → ℕ → Tree
-copied_between t now (Some source) from target (Some content) to len = with_content t now target (copied_over source from content to len)
+copied_between t now (Some source) from target (Some content) to len =
+    with_content t now target (copied_over source from content to len)
 copied_between t now _ from target _ to len = t
 
--- The tree with bytes of a file, as they were, put into a file, which may be the same. No byte is no change.
+-- The tree with bytes of a file, as they were, put into a file, which may be the same. No byte is
+-- no change.
 abbrev pub copied : Tree → ℕ → ℕ → ℕ → ℕ → ℕ → ℕ → Tree
 copied t now source from target to len = elim (len == 0) [
   | true ↦ t

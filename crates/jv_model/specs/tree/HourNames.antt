@@ -2,8 +2,8 @@
 use Rattle.std.specs.Prelude.{ℕ, ◌+◌, ◌-◌, ◌*◌, ◌/◌, ◌%◌, nat_lt, if◌then◌else◌, List, [], ◌∷◌, ◌++◌}
 use Rattle.jv_model.specs.declared.lifetimes.TheConstants.{HOUR, DAY}
 
--- The calendar repeats after 400 years. Here its years begin on the first of March, so that a leap day ends its year,
--- and its eras of 400 years on the first of March of a year that 400 divides.
+-- The calendar repeats after 400 years. Here its years begin on the first of March, so that a leap
+-- day ends its year, and its eras of 400 years on the first of March of a year that 400 divides.
 abbrev pub era_days : ℕ
 era_days = 146097
 
@@ -11,8 +11,9 @@ era_days = 146097
 abbrev pub days_before_1970 : ℕ
 days_before_1970 = 719468
 
--- The year of a day in its era, both from 0. What is left once the leap days before are taken out is 365 days a year:
--- there is one more every 4 years (1,460 days and it), none after 100 (36,524 days), and one after 400.
+-- The year of a day in its era, both from 0. What is left once the leap days before are taken out
+-- is 365 days a year: there is one more every 4 years (1,460 days and it), none after 100 (36,524
+-- days), and one after 400.
 abbrev pub year_in_era : ℕ → ℕ
 year_in_era day = (day - day / 1460 + day / 36524 - day / 146096) / 365
 
@@ -20,7 +21,8 @@ year_in_era day = (day - day / 1460 + day / 36524 - day / 146096) / 365
 abbrev pub days_before_year : ℕ → ℕ
 days_before_year year = 365 * year + year / 4 - year / 100
 
--- The month of a day in its year, 0 for March. Five months from March on have 153 days, and so have the five from August.
+-- The month of a day in its year, 0 for March. Five months from March on have 153 days, and so have
+-- the five from August.
 abbrev pub month_in_year : ℕ → ℕ
 month_in_year day = (5 * day + 2) / 153
 
@@ -42,14 +44,16 @@ date_in_era era year month day = record {
 }
 
 abbrev date_by_year : ℕ → ℕ → ℕ → Date
-date_by_year era year day = date_in_era era year (month_in_year day) (day - days_before_month (month_in_year day))
+date_by_year era year day =
+    date_in_era era year (month_in_year day) (day - days_before_month (month_in_year day))
 
 abbrev date_by_era : ℕ → ℕ → Date
 date_by_era era day = date_by_year era (year_in_era day) (day - days_before_year (year_in_era day))
 
 -- the date of a day, counted from 1970-01-01
 abbrev pub date_of : ℕ → Date
-date_of day = date_by_era ((day + days_before_1970) / era_days) ((day + days_before_1970) % era_days)
+date_of day =
+    date_by_era ((day + days_before_1970) / era_days) ((day + days_before_1970) % era_days)
 
 abbrev pub two_digits : ℕ → List ℕ
 two_digits n = (48 + n / 10 % 10) ∷ (48 + n % 10) ∷ []

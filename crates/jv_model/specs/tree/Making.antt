@@ -1,5 +1,5 @@
--- New entries, by POSIX.1-2017's "mkdirat", "openat" with O_CREAT and O_EXCL, "symlinkat" and "linkat" (without
--- AT_SYMLINK_FOLLOW).
+-- New entries, by POSIX.1-2017's "mkdirat", "openat" with O_CREAT and O_EXCL, "symlinkat" and
+-- "linkat" (without AT_SYMLINK_FOLLOW).
 use Rattle.std.specs.Prelude.{ℕ, ◌+◌, Bool, not, ◌||◌, nat_lt, nat_le, List, length, is_some, Result, Ok}
 use Rattle.jv_model.specs.declared.limits.TheConstants.{MAX_PATH, FULL_MODE, FULL_COUNT}
 use Rattle.jv_model.specs.declared.fault.Fault.{Fault}
@@ -27,7 +27,8 @@ new_place t path = do
 
 -- the tree with the next inode under a new entry
 abbrev pub with_next : Tree → ℕ → EntryKey → Node → Tree
-with_next t now place node = record (with_node t now place t.next_inode node) { next_inode = t.next_inode + 1 }
+with_next t now place node =
+    record (with_node t now place t.next_inode node) { next_inode = t.next_inode + 1 }
 
 -- the same, where the limits of the volume allow it
 abbrev pub entered : Tree → ℕ → EntryKey → Node → Result Tree Fault

@@ -1,5 +1,6 @@
--- Look-ups and attributes of nodes, by POSIX.1-2017's "fstatat", "readdir", "readlink", "fstatvfs", "fchmodat",
--- "fchownat" and "utimensat"; without permissions, and without the time of the last access.
+-- Look-ups and attributes of nodes, by POSIX.1-2017's "fstatat", "readdir", "readlink", "fstatvfs",
+-- "fchmodat", "fchownat" and "utimensat"; without permissions, and without the time of the last
+-- access.
 use Rattle.std.specs.Prelude.{ℕ, not, ◌==◌, List, length, map, Result, Ok}
 use Rattle.jv_model.specs.declared.limits.TheConstants.{DIRECTORY_LENGTH}
 use Rattle.jv_model.specs.declared.fault.Fault.{Fault}
@@ -42,9 +43,11 @@ attr_of t inode node = record {
   ctime = node.ctime;
 }
 
--- The entries of a directory in the order of their names' bytes. `.` and `..` aren't listed, nor `.trash` in the root.
+-- The entries of a directory in the order of their names' bytes. `.` and `..` aren't listed, nor
+-- `.trash` in the root.
 abbrev pub entries_of : Tree → ℕ → List (List ℕ × ℕ)
-entries_of t dir = map (λ e. (e.0.name, e.1)) (entries_where (λ key inode. key.dir == dir) t.entries)
+entries_of t dir =
+    map (λ e. (e.0.name, e.1)) (entries_where (λ key inode. key.dir == dir) t.entries)
 
 -- what `statfs` returns; the two limits are as they were set
 abbrev pub usage_of : Tree → Space
@@ -95,14 +98,10 @@ file_inode t who path = do
   _ ← require (not (is_directory t inode)) IsADirectory
   Ok inode
 
--- the file that a compaction looks at first
-abbrev pub compact_inode : Tree → Caller → List ℕ → Result ℕ Fault
-compact_inode = file_inode
-
--- a compaction leaves the tree, and is refused by its walk
+-- a compaction looks at this file first; it leaves the tree, and is refused by its walk
 unfoldable pub compact : Tree → Caller → List ℕ → Result Outcome Fault
 compact t who path = do
-  inode ← compact_inode t who path
+  inode ← file_inode t who path
   done t
 
 -- an open for reading and writing
@@ -143,7 +142,9 @@ unfoldable pub chmod : Tree → Caller → List ℕ → ℕ → Result Outcome F
 chmod t who path mode = with_attributes t who path (λ (node : Node). record node { mode = mode })
 
 unfoldable pub chown : Tree → Caller → List ℕ → ℕ → ℕ → Result Outcome Fault
-chown t who path uid gid = with_attributes t who path (λ (node : Node). record node { uid = uid; gid = gid })
+chown t who path uid gid =
+    with_attributes t who path (λ (node : Node). record node { uid = uid; gid = gid })
 
 unfoldable pub utimes : Tree → Caller → List ℕ → ℕ → Result Outcome Fault
-utimes t who path mtime = with_attributes t who path (λ (node : Node). record node { mtime = mtime })
+utimes t who path mtime =
+    with_attributes t who path (λ (node : Node). record node { mtime = mtime })

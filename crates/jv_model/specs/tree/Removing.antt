@@ -1,5 +1,5 @@
--- Entries removed, by POSIX.1-2017's "unlinkat" and "rmdir", with the trash (JuiceFS, "Trash"), and with files that stay
--- without an entry while a session has them open.
+-- Entries removed, by POSIX.1-2017's "unlinkat" and "rmdir", with the trash (JuiceFS, "Trash"), and
+-- with files that stay without an entry while a session has them open.
 use Rattle.std.specs.Prelude.{ℕ, ◌&&◌, ◌||◌, Bool, not, ◌==◌, nat_lt, if◌then◌else◌, List, Result}
 use Rattle.jv_model.specs.declared.limits.TheConstants.{TRASH_ROOT}
 use Rattle.jv_model.specs.declared.fault.Fault.{Fault}
@@ -24,8 +24,8 @@ pub data Fate : Type 0 where
   Sustained : Fate  -- the caller's session keeps it
   Dropped : Fate
 
--- The last entry that isn't in the trash leaves the node to the trash, where the volume has one; else the node is kept
--- where the caller has it open.
+-- The last entry that isn't in the trash leaves the node to the trash, where the volume has one;
+-- else the node is kept where the caller has it open.
 abbrev pub fate_of : Tree → Caller → EntryKey → ℕ → Fate
 fate_of t who place inode = (if nat_lt 1 (entry_count t inode) then Linked
     else if nat_lt 0 t.setting.trash_days && not (in_trash place.dir) then Trashed
@@ -47,7 +47,8 @@ with_fate Dropped t who place inode = drop_node t inode
 
 -- the tree without an entry of a file or a symlink
 unfoldable pub remove_entry : Tree → Caller → EntryKey → ℕ → Tree
-remove_entry t who place inode = with_fate (fate_of t who place inode) (take_entry t who.now place) who place inode
+remove_entry t who place inode =
+    with_fate (fate_of t who place inode) (take_entry t who.now place) who place inode
 
 -- the tree without an empty directory: directories don't go to the trash
 abbrev pub remove_directory : Tree → ℕ → EntryKey → ℕ → Tree

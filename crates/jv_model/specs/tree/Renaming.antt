@@ -1,4 +1,5 @@
--- Entries renamed, by POSIX.1-2017's "renameat" and Linux's "renameat2" with RENAME_NOREPLACE and RENAME_EXCHANGE.
+-- Entries renamed, by POSIX.1-2017's "renameat" and Linux's "renameat2" with RENAME_NOREPLACE and
+-- RENAME_EXCHANGE.
 use Rattle.std.specs.Prelude.{ℕ, zero, suc, Bool, true, false, ◌&&◌, ◌||◌, not, ◌==◌, List, is_some, Option, None, Some, Result}
 use Rattle.jv_model.specs.declared.limits.TheConstants.{ROOT}
 use Rattle.jv_model.specs.declared.basics.How.{How}
@@ -29,8 +30,8 @@ is_within (suc steps) t dir above = (dir == above) || elim (parent_at t dir) [
   | Some parent ↦ not (dir == ROOT) && is_within steps t parent above
 ]
 
--- whether an inode is a directory that another one is, or lies below; no way up to the root is longer than the number of
--- nodes
+-- whether an inode is a directory that another one is, or lies below; no way up to the root is
+-- longer than the number of nodes
 abbrev pub is_inside : Tree → ℕ → ℕ → Bool
 is_inside t dir inode = is_directory t inode && is_within (key_count t.nodes) t dir inode
 
@@ -45,7 +46,8 @@ moved_node now dir node = record (status_changed now node) { kind = kind_under d
 
 -- an entry that names an inode from elsewhere
 abbrev pub move_in : Tree → ℕ → EntryKey → ℕ → Tree
-move_in t now place inode = change_node (put_entry t now place inode) inode (moved_node now place.dir)
+move_in t now place inode =
+    change_node (put_entry t now place inode) inode (moved_node now place.dir)
 
 -- an inode moved from one entry to another
 abbrev pub moved : Tree → ℕ → EntryKey → ℕ → EntryKey → Tree
@@ -91,12 +93,14 @@ exchanging t who from source to other = do
 
 -- Where both entries name one inode, nothing changes.
 abbrev pub unless_same : Tree → ℕ → ℕ → (Unit {0} → Result Outcome Fault) → Result Outcome Fault
-unless_same t source other otherwise = elim (source == other) [ true ↦ done t | false ↦ otherwise tt ]
+unless_same t source other otherwise =
+    elim (source == other) [ true ↦ done t | false ↦ otherwise tt ]
 
 -- by what the target names
 abbrev pub renamed_over : Tree → Caller → EntryKey → ℕ → EntryKey → Option ℕ → Result Outcome Fault
 renamed_over t who from source to None = renamed t who from source to
-renamed_over t who from source to (Some other) = unless_same t source other (λ _. replacing t who from source to other)
+renamed_over t who from source to (Some other) =
+    unless_same t source other (λ _. replacing t who from source to other)
 
 abbrev pub renamed_by : How → Tree → Caller → EntryKey → ℕ → EntryKey → Result Outcome Fault
 renamed_by Plain t who from source to = renamed_over t who from source to (get t.entries to)

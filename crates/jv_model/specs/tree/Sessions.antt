@@ -1,5 +1,6 @@
--- Sessions (JuiceFS, "Sessions" of its internals): a mount makes one, a beat keeps it alive, and an umount ends it; one
--- that expired is ended by a cleaning. A session keeps files without entries that its client has open.
+-- Sessions (JuiceFS, "Sessions" of its internals): a mount makes one, a beat keeps it alive, and an
+-- umount ends it; one that expired is ended by a cleaning. A session keeps files without entries
+-- that its client has open.
 use Rattle.std.specs.Prelude.{ℕ, ◌+◌, true, false, ◌&&◌, not, ◌==◌, nat_lt, nat_le, Option, Result}
 use Rattle.std.specs.Option.{option_map}
 use Rattle.jv_model.specs.declared.limits.TheConstants.{FULL_COUNT}
@@ -17,7 +18,11 @@ use Rattle.jv_model.specs.tree.Caller.{Caller, Outcome, answered, done, in_sessi
 -- the tree with the next session, which is the caller's
 abbrev pub with_session : Tree → Caller → Tree
 with_session t who = record t {
-  sessions = insert t.sessions t.next_session (record { client = who.client; expiry = who.now + SESSION_LIFE });
+  sessions =
+      insert t.sessions t.next_session (record {
+        client = who.client;
+        expiry = who.now + SESSION_LIFE;
+      });
   next_session = t.next_session + 1;
 }
 
@@ -53,7 +58,12 @@ umount t who = do
 -- the tree without a file that a session kept
 abbrev pub released : Tree → ℕ → ℕ → Tree
 released t sid inode = elim (is_sustained t sid inode) [
-  | true ↦ record (drop_node t inode) { sustained = remove t.sustained (record { sid = sid; inode = inode }) }
+  | true ↦ record (drop_node t inode) {
+    sustained = remove t.sustained (record {
+      sid = sid;
+      inode = inode;
+    });
+  }
   | false ↦ t
 ]
 

@@ -1,6 +1,7 @@
--- The tree of a file system (POSIX.1-2017, 4.6 "File Hierarchy" and 4.9 "File Times Update", and "Directory" of chapter 3):
--- nodes by inode, and one map of all entries, keyed by directory and name. Sessions, and files that stay without a name
--- while a session has them open, are JuiceFS's ("Sessions" of its internals).
+-- The tree of a file system (POSIX.1-2017, 4.6 "File Hierarchy" and 4.9 "File Times Update", and
+-- "Directory" of chapter 3): nodes by inode, and one map of all entries, keyed by directory and
+-- name. Sessions, and files that stay without a name while a session has them open, are JuiceFS's
+-- ("Sessions" of its internals).
 use Rattle.std.specs.Prelude.{ℕ, ◌+◌, ◌-◌, ◌*◌, ◌/◌, max, Bool, ◌&&◌, ◌||◌, not, ◌==◌, nat_lt, nat_le, if◌then◌else◌, List, []}
 use Rattle.std.specs.Prelude.{◌∷◌, is_some, Option, None, Some}
 use Rattle.std.proofs.Common.{ap}
@@ -30,7 +31,8 @@ pub record Node : Type 0 where
   pub mtime : ℕ
   pub ctime : ℕ
 
--- where an entry stands: entries are in the order of their directories, and then of their names' bytes
+-- where an entry stands: entries are in the order of their directories, and then of their names'
+-- bytes
 pub record EntryKey : Type 0 where
   pub dir : ℕ
   pub name : List ℕ
@@ -88,7 +90,8 @@ abbrev pub in_trash : ℕ → Bool
 in_trash dir = nat_le TRASH_ROOT dir
 
 abbrev pub new_node : Kind → ℕ → ℕ → Node
-new_node kind mode now = record { kind = kind; mode = mode; uid = 0; gid = 0; mtime = now; ctime = now }
+new_node kind mode now =
+    record { kind = kind; mode = mode; uid = 0; gid = 0; mtime = now; ctime = now }
 
 -- the tree of a volume that was just formatted
 abbrev pub fresh_tree : Setting → ℕ → Tree
@@ -103,7 +106,8 @@ fresh_tree setting now = record {
   next_session = 1;
 }
 
--- Used space and used inodes count neither the root nor the trash's own directories, whose inodes begin at the trash root.
+-- Used space and used inodes count neither the root nor the trash's own directories, whose inodes
+-- begin at the trash root.
 abbrev pub is_counted : ℕ → Bool
 is_counted inode = not (inode == ROOT) && nat_lt inode TRASH_ROOT
 
@@ -128,7 +132,7 @@ used_space t = sum_over node_space t.nodes
 abbrev pub used_inodes : Tree → ℕ
 used_inodes t = sum_over node_count t.nodes
 
--- the limits in bytes and inodes; a limit of 0 in the setting stands for 2^62
+-- the limits in bytes and inodes; a limit of 0 in the setting stands for FULL_COUNT
 abbrev pub space_limit : Setting → ℕ
 space_limit s = (if s.capacity == 0 then FULL_COUNT else s.capacity * GIB)
 
@@ -146,17 +150,19 @@ fits old new = sum_fits (space_limit old.setting) (used_space old) (used_space n
 abbrev pub node_at : Tree → ℕ → Option Node
 node_at t inode = get t.nodes inode
 
-abbrev pub content_of : Option Node → Option Content
-content_of None = None
-content_of (Some node) = elim node.kind [ File content ↦ Some content | Directory parent ↦ None | Symlink target ↦ None ]
+abbrev pub content_in : Option Node → Option Content
+content_in None = None
+content_in (Some node) =
+    elim node.kind [ File content ↦ Some content | Directory parent ↦ None | Symlink target ↦ None ]
 
 -- the bytes of a file, where the inode is one
 abbrev pub content_at : Tree → ℕ → Option Content
-content_at t inode = content_of (node_at t inode)
+content_at t inode = content_in (node_at t inode)
 
 abbrev pub parent_of : Option Node → Option ℕ
 parent_of None = None
-parent_of (Some node) = elim node.kind [ File content ↦ None | Directory parent ↦ Some parent | Symlink target ↦ None ]
+parent_of (Some node) =
+    elim node.kind [ File content ↦ None | Directory parent ↦ Some parent | Symlink target ↦ None ]
 
 -- the parent of a directory, where the inode is one
 abbrev pub parent_at : Tree → ℕ → Option ℕ
@@ -167,7 +173,8 @@ is_directory t inode = is_some (parent_at t inode)
 
 abbrev pub target_in : Option Node → Option (List ℕ)
 target_in None = None
-target_in (Some node) = elim node.kind [ File content ↦ None | Directory parent ↦ None | Symlink target ↦ Some target ]
+target_in (Some node) =
+    elim node.kind [ File content ↦ None | Directory parent ↦ None | Symlink target ↦ Some target ]
 
 -- the target of a symlink, where the inode is one
 abbrev pub target_at : Tree → ℕ → Option (List ℕ)
@@ -202,10 +209,12 @@ entry_count t inode = name_count t.entries inode
 abbrev directory_within : Tree → ℕ → EntryKey → ℕ → ℕ
 directory_within t dir key inode = (if key.dir == dir && is_directory t inode then 1 else 0)
 
--- The link count (POSIX.1-2017, chapter 3 "Link Count"): of a directory 2 and one for each directory in it, of any other
--- inode the number of the entries that name it.
+-- The link count (POSIX.1-2017, chapter 3 "Link Count"): of a directory 2 and one for each
+-- directory in it, of any other inode the number of the entries that name it.
 abbrev pub link_count : Tree → ℕ → ℕ
-link_count t inode = (if is_directory t inode then 2 + sum_over (directory_within t inode) t.entries else entry_count t inode)
+link_count t inode =
+    (if is_directory t inode then 2 + sum_over (directory_within t inode) t.entries
+    else entry_count t inode)
 
 -- whether the link count of an inode can be stored
 abbrev pub links_fit : Tree → ℕ → Bool

@@ -1,4 +1,5 @@
--- What an operation does to the tree, and what it is answered: one definition an operation, its refusals in their order.
+-- What an operation does to the tree, and what it is answered: one definition an operation, its
+-- refusals in their order.
 use Rattle.jv_model.specs.declared.op.Op.{Op}
 use Rattle.jv_model.specs.declared.op.Op.TheVariants as op
 use Rattle.jv_model.specs.declared.op.Reply.TheVariants.{Done}
@@ -20,7 +21,8 @@ pub use Rattle.jv_model.specs.tree.FileBytes.{committed}
 abbrev unchanged : Tree → Outcome
 unchanged t = record { tree = t; reply = Done }
 
--- The reads, writes and cleanings at the end make no transaction on the tree, but a compaction walks its path.
+-- The reads, writes and cleanings at the end make no transaction on the tree, but a compaction
+-- walks its path.
 abbrev pub tree_act : Tree → Caller → Op → Outcome
 tree_act t who (op.Mount writeback) = outcome t (mount t who)
 tree_act t who op.Umount = outcome t (umount t who)

@@ -1,5 +1,5 @@
--- How a path is resolved (POSIX.1-2017, 4.13 "Pathname Resolution"). Several slashes count as one, and a slash at the
--- end is ignored, also behind a symlink, where POSIX would follow it.
+-- How a path is resolved (POSIX.1-2017, 4.13 "Pathname Resolution"). Several slashes count as one,
+-- and a slash at the end is ignored, also behind a symlink, where POSIX would follow it.
 use Rattle.std.specs.Prelude.{ℕ, zero, suc, Bool, true, false, ◌&&◌, ◌||◌, not, ◌==◌, nat_le, if◌then◌else◌, List, []}
 use Rattle.std.specs.Prelude.{◌∷◌, ◌++◌, filter, length, Option, None, Some, Result, Ok, Err, codes, bytes_eq}
 use Rattle.jv_model.specs.declared.limits.TheConstants.{MAX_NAME, MAX_PATH, ROOT, TRASH_ROOT}
@@ -48,12 +48,14 @@ stepped t inode name = do
   _ ← require (nat_le (length name) MAX_NAME) NameTooLong
   named_from t inode parent name
 
--- The target of a symlink that a walk goes on by: one that names are left behind, or the last one where that is followed.
+-- The target of a symlink that a walk goes on by: one that names are left behind, or the last one
+-- where that is followed.
 abbrev pub way_on : Tree → Bool → List (List ℕ) → ℕ → Option (List ℕ)
 way_on t follow names inode = (if follow || not (is_nil names) then target_at t inode else None)
 
 -- a walk from a directory, which goes on at a symlink by what `again` says of a directory and names
-unfoldable pub walk_names : (ℕ → List (List ℕ) → Result ℕ Fault) → Tree → Bool → ℕ → List (List ℕ) → Result ℕ Fault
+unfoldable pub walk_names : (ℕ → List (List ℕ) → Result ℕ Fault) → Tree → Bool → ℕ → List (List ℕ)
+    → Result ℕ Fault
 walk_names again t follow inode [] = Ok inode
 walk_names again t follow inode (name ∷ names) = do
   next ← stepped t inode name
@@ -62,13 +64,15 @@ walk_names again t follow inode (name ∷ names) = do
     | Some target ↦ again (if is_absolute target then ROOT else inode) (names_of target ++ names)
   ]
 
--- A walk that may still follow `left` symlinks. A symlink is replaced by its target, which is walked from the root where
--- it begins with a slash, and else from the symlink's directory.
+-- A walk that may still follow `left` symlinks. A symlink is replaced by its target, which is
+-- walked from the root where it begins with a slash, and else from the symlink's directory.
 unfoldable pub walk : ℕ → Tree → Bool → ℕ → List (List ℕ) → Result ℕ Fault
 walk zero t follow inode names = walk_names (λ at rest. Err SymlinkLoop) t follow inode names
-walk (suc left) t follow inode names = walk_names (λ at rest. walk left t follow at rest) t follow inode names
+walk (suc left) t follow inode names =
+    walk_names (λ at rest. walk left t follow at rest) t follow inode names
 
--- the inode that a path leads to from the root, where a symlink that comes last is followed, or isn't
+-- the inode that a path leads to from the root, where a symlink that comes last is followed, or
+-- isn't
 abbrev pub inode_by : Bool → Tree → List ℕ → Result ℕ Fault
 inode_by follow t path = do
   _ ← require (nat_le (length path) MAX_PATH) NameTooLong
@@ -82,14 +86,14 @@ inode_of = inode_by true
 abbrev pub unfollowed_inode_of : Tree → List ℕ → Result ℕ Fault
 unfollowed_inode_of = inode_by false
 
--- all names but the last one, and the last one
+-- all names but the last one
 abbrev pub all_but_last : List (List ℕ) → List (List ℕ)
 all_but_last [] = []
 all_but_last (name ∷ []) = []
 all_but_last (name ∷ other ∷ names) = name ∷ all_but_last (other ∷ names)
 
--- The entry that a path names, whether it is there or not. A path without a last name is refused; POSIX has several
--- answers there.
+-- The entry that a path names, whether it is there or not. A path without a last name is refused;
+-- POSIX has several answers there.
 abbrev pub entry_of : Tree → List ℕ → Result EntryKey Fault
 entry_of t path = do
   _ ← require (nat_le (length path) MAX_PATH) NameTooLong

@@ -1,7 +1,7 @@
 use Rattle.std.proofs.Common.{◌≡◌, refl, Bool, true, false, Option, Ok, sym, ap, subst, ◌∙◌}
 use Rattle.std.specs.Prelude.{◌&&◌, ◌==◌, nat_lt}
 use Rattle.std.proofs.lemmas.Bool.{le-ltb, lt-ltb}
-use Rattle.std.specs.List.{list_any}
+use Rattle.jv_model.specs.Lists.{is_among}
 use Rattle.jv_model.specs.declared.limits.TheConstants.{TRASH_ROOT}
 use Rattle.jv_model.specs.declared.fault.Fault.TheVariants.{Stale}
 use Rattle.jv_model.specs.declared.fault.Gone.TheVariants.{Node as GoneNode}
@@ -82,7 +82,7 @@ returns-then-contains-clause-says g c caller place in_dir is_for =
       | else-setting-gt0-via-else-setting-gt0 w ↦ ap (λ b. b && nat_lt c.args.dir TRASH_ROOT)
           (le-ltb 0 c.in_ok-setting.setting.trash_days w.if-setting-gt0.false)
     ])
-    (ap (list_any (λ h. h == c.args.inode)) (sym c.as_slice.ensures) ∙ sym c.contains.ensures.value
+    (ap (is_among c.args.inode) (sym c.as_slice.ensures) ∙ sym c.contains.ensures.value
     ∙ c.if-contains.true)
 
 pub returns-clause-does : goal.returns-clause-does
@@ -108,5 +108,5 @@ returns-clause-says g c caller place in_dir is_for =
       | else-setting-gt0-via-else-setting-gt0 w ↦ ap (λ b. b && nat_lt c.args.dir TRASH_ROOT)
           (le-ltb 0 c.in_ok-setting.setting.trash_days w.if-setting-gt0.false)
     ])
-    (ap (list_any (λ h. h == c.args.inode)) (sym c.as_slice.ensures) ∙ sym c.contains.ensures.value
+    (ap (is_among c.args.inode) (sym c.as_slice.ensures) ∙ sym c.contains.ensures.value
     ∙ c.if-contains.false)

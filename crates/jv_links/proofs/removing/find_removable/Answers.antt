@@ -1,6 +1,5 @@
-use Rattle.std.proofs.Common.{ℕ, List, sym, ap, ◌∙◌}
+use Rattle.std.proofs.Common.{sym, ◌∙◌}
 use Rattle.std.proofs.lemmas.Result.{err_from_is_err_and}
-use Rattle.jv_model.specs.tree.Removing.{may_go}
 use Rattle.jv_links.proofs.RemovableLaws.{removable-no_place, removable-found}
 use Rattle.jv_links.proofs.removing.find_removable.Goals as goal
 
@@ -15,8 +14,7 @@ returns-in_err-place g c =
 pub returns : goal.returns
 returns g c =
     let place = c.in_ok-place.place in
-    let may = ap (λ (n : List ℕ). may_go (record { dir = place.dir.inode; name = n })) (sym c.as_slice.ensures)
-    ∙ sym c.may_go.ensures ∙ c.if-not-may_go.false in
+    let may = sym c.may_go.ensures ∙ c.if-not-may_go.false in
     removable-found c.args.sid c.args.path.now (g.K.Keeper.seen c.args.k.now) (g.K.Keeper.seen c.in_session.new.k)
     c.in_ok-in_session.ensures
     (g.K.Keeper.seen c.walk_to_entry.new.k) place c.in_ok-place.ensures may (g.K.Keeper.seen c.child.new.k)

@@ -1,6 +1,6 @@
 use Rattle.std.proofs.Common.{◌∙◌, Option, Some, ℕ, ap, sym, arith}
 use Rattle.std.specs.Option.{option_map}
-use Rattle.jv_model.specs.client.Pending.{Segment, next_segment, first_segment}
+use Rattle.jv_model.specs.client.Pending.{Segment, first_segment_of, first_segment}
 use Rattle.jv_pending.specs.At.{segment_at}
 use Rattle.jv_pending.specs.Runs.{pending_bytes}
 use Rattle.jv_pending.proofs.PartLaws.{Rise-order}
@@ -23,17 +23,17 @@ pub returns-in_err-start-in-None-clause-least : goal.returns-in_err-start-in-Non
 returns-in_err-start-in-None-clause-least c =
     ap (option_map segment_at) c.from_residual.ensures
     ∙ ap first_segment (sym (none_of_all c.args.runs.now.entries c.requires c.in_err-start-in-None.ensures))
-    ∙ ap (λ (i : Option ℕ). next_segment i (pending_bytes c.args.runs.now.entries)) (sym c.in-None.is)
+    ∙ ap (λ (i : Option ℕ). first_segment_of i (pending_bytes c.args.runs.now.entries)) (sym c.in-None.is)
 
 pub returns-in_ok-start-in-None-clause-least : goal.returns-in_ok-start-in-None-clause-least
 returns-in_ok-start-in-None-clause-least c =
     ap Some c.segment.ensures.same
     ∙ sym (first_of_all c.args.runs.now.entries (c.in_ok-start-in-None.start, c.in_ok-start-in-None.bytes.now) c.requires c.in_ok-start-in-None.ensures)
-    ∙ ap (λ (i : Option ℕ). next_segment i (pending_bytes c.args.runs.now.entries)) (sym c.in-None.is)
+    ∙ ap (λ (i : Option ℕ). first_segment_of i (pending_bytes c.args.runs.now.entries)) (sym c.in-None.is)
 
 pub returns-in_ok-start-in-None-clause-own : goal.returns-in_ok-start-in-None-clause-own
 returns-in_ok-start-in-None-clause-own c =
-    ap (λ (s : Segment). next_segment (Some s.inode) (pending_bytes c.args.runs.now.entries)) c.segment.ensures.same
+    ap (λ (s : Segment). first_segment_of (Some s.inode) (pending_bytes c.args.runs.now.entries)) c.segment.ensures.same
     ∙ first_is_own c.args.runs.now.entries (c.in_ok-start-in-None.start, c.in_ok-start-in-None.bytes.now) c.requires c.in_ok-start-in-None.ensures
     ∙ ap Some (sym c.segment.ensures.same)
 
@@ -48,18 +48,18 @@ pub returns-in_err-start-in-Some-clause-least : goal.returns-in_err-start-in-Som
 returns-in_err-start-in-Some-clause-least c =
     ap (option_map segment_at) c.from_residual-in_err-start-in-Some.ensures
     ∙ ap first_segment (sym (own_none c.in-Some.inode c.args.runs.now.entries c.requires c.in_err-start-in-Some.ensures))
-    ∙ ap (λ (i : Option ℕ). next_segment i (pending_bytes c.args.runs.now.entries)) (sym c.in-Some.is)
+    ∙ ap (λ (i : Option ℕ). first_segment_of i (pending_bytes c.args.runs.now.entries)) (sym c.in-Some.is)
 
 pub returns-then-start-inode-clause-least : goal.returns-then-start-inode-clause-least
 returns-then-start-inode-clause-least c =
     ap Some c.segment-then-start-inode.ensures.same
     ∙ sym (own_first c.in-Some.inode c.args.runs.now.entries (c.in_ok-start-in-Some.start, c.in_ok-start-in-Some.bytes.now) c.requires c.in_ok-start-in-Some.ensures c.if-start-inode.true)
-    ∙ ap (λ (i : Option ℕ). next_segment i (pending_bytes c.args.runs.now.entries)) (sym c.in-Some.is)
+    ∙ ap (λ (i : Option ℕ). first_segment_of i (pending_bytes c.args.runs.now.entries)) (sym c.in-Some.is)
 
 pub returns-then-start-inode-clause-own : goal.returns-then-start-inode-clause-own
 returns-then-start-inode-clause-own c =
-    ap (λ (s : Segment). next_segment (Some s.inode) (pending_bytes c.args.runs.now.entries)) c.segment-then-start-inode.ensures.same
-    ∙ ap (λ i. next_segment (Some i) (pending_bytes c.args.runs.now.entries)) c.if-start-inode.true
+    ap (λ (s : Segment). first_segment_of (Some s.inode) (pending_bytes c.args.runs.now.entries)) c.segment-then-start-inode.ensures.same
+    ∙ ap (λ i. first_segment_of (Some i) (pending_bytes c.args.runs.now.entries)) c.if-start-inode.true
     ∙ own_first c.in-Some.inode c.args.runs.now.entries (c.in_ok-start-in-Some.start, c.in_ok-start-in-Some.bytes.now) c.requires c.in_ok-start-in-Some.ensures c.if-start-inode.true
     ∙ ap Some (sym c.segment-then-start-inode.ensures.same)
 
@@ -73,4 +73,4 @@ returns-then-start-inode-clause-some c =
 pub returns-else-start-inode-clause-least : goal.returns-else-start-inode-clause-least
 returns-else-start-inode-clause-least c =
     ap first_segment (sym (own_other c.in-Some.inode c.args.runs.now.entries (c.in_ok-start-in-Some.start, c.in_ok-start-in-Some.bytes.now) c.requires c.in_ok-start-in-Some.ensures c.if-start-inode.false))
-    ∙ ap (λ (i : Option ℕ). next_segment i (pending_bytes c.args.runs.now.entries)) (sym c.in-Some.is)
+    ∙ ap (λ (i : Option ℕ). first_segment_of i (pending_bytes c.args.runs.now.entries)) (sym c.in-Some.is)

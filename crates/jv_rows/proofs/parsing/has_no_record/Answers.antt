@@ -1,0 +1,5 @@
+use Rattle.jv_rows.proofs.RecordLaws.{no_record}
+use Rattle.jv_rows.proofs.parsing.has_no_record.Goals as goal
+
+pub returns : goal.returns
+returns c = no_record c.args.bytes.now c.requires
