@@ -13,7 +13,7 @@ use Rattle.jv_model.specs.tree.Changes.{byte_within}
 use Rattle.jv_model.specs.tree.Caller.{Caller, Outcome}
 use Rattle.jv_model.specs.tree.FileBytes.{committed}
 use Rattle.jv_model.specs.tree.Trash.{due_purge, purged}
-use Rattle.jv_model.specs.tree.Sessions.{due_session, expired}
+use Rattle.jv_model.specs.tree.Sessions.{due_session, without_session}
 use Rattle.jv_model.specs.tree.TreeAct.{tree_act}
 use Rattle.jv_model.specs.script.ReplyText.{reply_text}
 use Rattle.jv_model.specs.script.Printed.{number_word}
@@ -114,7 +114,7 @@ turn s (Asks client ask) = asked s client ask (outcome_of s.tree (caller s clien
 turn s (Ticks by) = record { state = record s { now = s.now + by }; text = codes "-" }
 turn s (Expires client) = elim (due_session s.tree (s.clients client).sid s.now) [
   | None ↦ record { state = s; text = codes "none" }
-  | Some sid ↦ record { state = record s { tree = expired s.tree sid }; text = codes "expired" ++ number_word sid }
+  | Some sid ↦ record { state = record s { tree = without_session s.tree sid }; text = codes "expired" ++ number_word sid }
 ]
 turn s Purges = elim (due_purge s.tree s.now) [
   | None ↦ record { state = s; text = codes "none" }

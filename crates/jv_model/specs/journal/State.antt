@@ -25,7 +25,7 @@ use Rattle.jv_model.specs.tree.Caller.{Caller, Outcome}
 use Rattle.jv_model.specs.tree.Changes.{empty_content}
 use Rattle.jv_model.specs.tree.TreeAct.{tree_act}
 use Rattle.jv_model.specs.tree.FileBytes.{committed, truncated, copied}
-use Rattle.jv_model.specs.tree.Sessions.{expired}
+use Rattle.jv_model.specs.tree.Sessions.{without_session}
 use Rattle.jv_model.specs.tree.Trash.{purged}
 use Rattle.jv_model.specs.client.Pending.{written, without_range, bytes_in_range, pending_of_others}
 use Rattle.jv_model.specs.client.Origins.{Marks, Owed, first_marks, marks_committed, marks_truncated, marks_copied, marks_compacted}
@@ -490,7 +490,7 @@ after_item s client k = set_client s client (with_stage (Cleans k) (s.clients cl
 abbrev pub after_expiry : State → ℕ → ℕ → Doing → State
 after_expiry s client sid d =
     let k = cleaning_of d.stage in
-    after_item (with_tree (expired s.tree sid) s) client (record k { sessions = k.sessions + 1 })
+    after_item (with_tree (without_session s.tree sid) s) client (record k { sessions = k.sessions + 1 })
 
 abbrev pub after_purge : State → ℕ → ℕ → Doing → State
 after_purge s client inode d =

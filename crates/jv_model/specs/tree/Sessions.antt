@@ -73,10 +73,6 @@ release t who = do
   _ ← in_session t who
   done (released t who.sid who.inode)
 
--- what a cleaning does to a session that expired
-abbrev pub expired : Tree → ℕ → Tree
-expired = without_session
-
 -- the session that a cleaning ends next: the least one other than the cleaner's whose time has come
 abbrev pub due_session : Tree → ℕ → ℕ → Option ℕ
 due_session t cleaner now = option_map (λ e. e.0)
