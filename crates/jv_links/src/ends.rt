@@ -7,13 +7,13 @@ ghost use Rattle.jv_model.specs.tree.Attempt.{some_or};
 ghost use Rattle.jv_model.specs.tree.Making as model_making;
 ghost use Rattle.jv_model.specs.tree.Removing as model_removing;
 ghost use Rattle.jv_model.specs.tree.Renaming as model;
-ghost use Rattle.jv_model.specs.tree.Walk as model_walk;
 ghost use Rattle.jv_rows.specs.Walks.{Comes};
 ghost use Rattle.jv_volume.specs.Shape.{is_top};
 
-use jv_model::{Fault, How, Path, ROOT, TRASH_ROOT, TxFault};
+use jv_model::{Fault, How, Path, TRASH_ROOT, TxFault};
 use jv_outside::Keeper;
-use jv_rows::{EntryPlace, Place, child, in_session, is_top, walk_to_entry};
+use jv_rows::{EntryPlace, Place, child, in_session, is_top, is_trash_of, walk_to_entry};
+use jv_tree::may_be_new;
 use std::alloc::Global;
 
 /// An entry that is to be renamed, the node that it names, and the entry that it is to be.
@@ -24,25 +24,11 @@ pub(crate) struct Ends {
     pub(crate) to: EntryPlace,
 }
 
-// Whether a name leads from a directory to the trash.
-fn is_trash(entry: &EntryPlace) -> bool
-    ensures { result ≡ model_walk.is_trash entry.now.dir.inode entry.now.name }
-{
-    entry.dir.inode == ROOT && entry.name.as_slice() == b".trash".as_slice()
-}
-
 // Whether an entry may go: neither `.trash` nor one of its hours.
 pub(crate) fn may_go(entry: &EntryPlace) -> bool
     ensures { result ≡ model_removing.may_go (place_of entry.now) }
 {
-    entry.dir.inode != TRASH_ROOT && !is_trash(entry)
-}
-
-// Whether an entry may come: not in the trash, and not in the place of `.trash`.
-fn may_be_new(entry: &EntryPlace) -> bool
-    ensures { result ≡ model_making.may_be_new (place_of entry.now) }
-{
-    entry.dir.inode < TRASH_ROOT && !is_trash(entry)
+    entry.dir.inode != TRASH_ROOT && !is_trash_of(entry.dir.inode, entry.name.as_slice())
 }
 
 // Whether an entry may be renamed: nothing changes places with an entry of the trash.

@@ -11,8 +11,7 @@ use Rattle.jv_model.specs.declared.op.Reply.{Reply}
 use Rattle.jv_model.specs.declared.op.Reply.TheVariants.{Done}
 use Rattle.jv_model.specs.rows.RowKeys.{RowMap}
 use Rattle.jv_model.specs.tree.Tree.{Tree}
-use Rattle.jv_model.specs.tree.TreeAct.{tree_act}
-use Rattle.jv_model.specs.tree.Caller.{Caller, Outcome, outcome}
+use Rattle.jv_model.specs.tree.Caller.{Caller, Outcome}
 use Rattle.jv_model.specs.tree.Removing.{unlink}
 use Rattle.jv_model.specs.tree.Renaming.{rename}
 use Rattle.jv_outside.specs.Store.{Store}
@@ -23,42 +22,7 @@ use Rattle.jv_volume.specs.TreeOf.{tree_of}
 use Rattle.jv_links.specs.declared.fates.Removed.{Removed}
 use Rattle.jv_links.specs.Removals.{HoldsFiles, SaysSustained, kept_of, removed_in, renamed_in}
 use Rattle.jv_metadata.specs.declared.answers.Answer.{Answer}
-use Rattle.jv_metadata.specs.Attempts.{AnswersPlainly, mapped, attempt, SaysKept}
-
--- what the tree does for an operation is its transaction
-pub tree_act-attempt : (t : Tree) (who : Caller) (o : Op) → tree_act t who o ≡ outcome t (attempt t who o)
-tree_act-attempt t who (op.Mount writeback) = refl
-tree_act-attempt t who op.Umount = refl
-tree_act-attempt t who op.Beat = refl
-tree_act-attempt t who (op.Lookup path) = refl
-tree_act-attempt t who (op.Stat path) = refl
-tree_act-attempt t who (op.Lstat path) = refl
-tree_act-attempt t who (op.Fstat handle) = refl
-tree_act-attempt t who (op.Mkdir path mode) = refl
-tree_act-attempt t who (op.Create path mode) = refl
-tree_act-attempt t who (op.Open path) = refl
-tree_act-attempt t who (op.Close handle) = refl
-tree_act-attempt t who (op.Readdir path) = refl
-tree_act-attempt t who (op.Chmod path mode) = refl
-tree_act-attempt t who (op.Chown path uid gid) = refl
-tree_act-attempt t who (op.Utimes path mtime) = refl
-tree_act-attempt t who op.Statfs = refl
-tree_act-attempt t who (op.Symlink target path) = refl
-tree_act-attempt t who (op.Readlink path) = refl
-tree_act-attempt t who (op.Unlink path) = refl
-tree_act-attempt t who (op.Rmdir path) = refl
-tree_act-attempt t who (op.Link path to) = refl
-tree_act-attempt t who (op.Rename path to how) = refl
-tree_act-attempt t who (op.Flush handle) = refl
-tree_act-attempt t who (op.Read handle offset len) = refl
-tree_act-attempt t who (op.Write handle offset bytes) = refl
-tree_act-attempt t who (op.Truncate handle len) = refl
-tree_act-attempt t who (op.Copy source from target to len) = refl
-tree_act-attempt t who (op.Compact path window) = refl
-tree_act-attempt t who op.Clean = refl
-tree_act-attempt t who (op.Gc delete) = refl
-tree_act-attempt t who op.Upload = refl
-tree_act-attempt t who op.Stats = refl
+use Rattle.jv_metadata.specs.Attempts.{AnswersPlainly, mapped, SaysKept}
 
 -- ---- a call's transaction, with another answer
 

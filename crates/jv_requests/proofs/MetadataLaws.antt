@@ -32,7 +32,6 @@ use Rattle.jv_contents.specs.Bytes.{bytes_of, tree_with}
 use Rattle.jv_contents.proofs.KeepLaws.{bytes-stay, keeps-quiet}
 use Rattle.jv_links.specs.Removals.{HoldsFiles, is_inode}
 use Rattle.jv_metadata.specs.Attempts.{KeepsOne, attempt}
-use Rattle.jv_metadata.proofs.AttemptLaws.{tree_act-attempt}
 use Rattle.jv_shared.specs.Keeping.{HoldsSame}
 use Rattle.jv_shared.specs.Shared.{HasStore, Known, Shared}
 use Rattle.jv_shared.proofs.SameLaws.{same-rows}
@@ -104,7 +103,7 @@ module _ (s : State) (client now : ℕ) (d : Doing) (busy : (s.clients client).d
 
   acted : (result : Result Outcome Fault) → act (tree_with (known_in s.tree g v has) (typed has.rows)) ≡ result
       → transacted s client now d.op ≡ outcome s.tree result
-  acted result e = tree_act-attempt s.tree who d.op ∙ ap (outcome s.tree) (ap act has.tree ∙ e)
+  acted result e = ap (outcome s.tree) (ap act has.tree ∙ e)
 
   -- what is made of the model's transaction
   abbrev IsMade : Outcome → Type 0
@@ -179,8 +178,6 @@ module _ (s : State) (client now : ℕ) (d : Doing) (busy : (s.clients client).d
       let rows_tree = tree_with (known_in s.tree g v has) (typed has.rows) in
       let told = keeps has.rows has.rows_are has.whole (bytes_of (known_in s.tree g v has) (typed has.rows))
       (subst (HoldsFiles who.held) has.tree holds) inode in
-      ap (λ (done : Outcome). is_sustained done.tree who.sid inode && not (is_sustained s.tree who.sid inode))
-      (tree_act-attempt s.tree who d.op)
-      ∙ ap (λ (t : Tree). is_sustained (outcome t (attempt t who d.op)).tree who.sid inode && not
+      ap (λ (t : Tree). is_sustained (outcome t (attempt t who d.op)).tree who.sid inode && not
       (is_sustained t who.sid inode)) has.tree
       ∙ told

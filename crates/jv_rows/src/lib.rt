@@ -51,7 +51,7 @@ pub use spelling::{
     spell_setting, spell_slice,
 };
 pub use walking::{
-    EntryPlace, Place, child, is_top, parent, walk, walk_entry, walk_to, walk_to_entry,
+    EntryPlace, Place, child, is_top, is_trash_of, parent, walk, walk_entry, walk_to, walk_to_entry,
 };
 pub use writing::{
     put_counters, put_dead, put_dropped, put_edge, put_list, put_node, put_session, put_setting,

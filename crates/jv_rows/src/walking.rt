@@ -258,8 +258,8 @@ fn is_dots(name: &[u8]) -> bool
     is_here(name) || is_up(name)
 }
 
-// Whether a name leads from a directory to the trash.
-fn is_trash_of(dir: u64, name: &[u8]) -> bool
+/// Whether a name leads from a directory to the trash.
+pub fn is_trash_of(dir: u64, name: &[u8]) -> bool
     ensures { result ≡ is_trash dir name.now }
 {
     dir == ROOT && name == b".trash".as_slice()

@@ -9,5 +9,5 @@ mod making;
 mod reading;
 
 pub use attributes::{chmod, chown, utimes};
-pub use making::{create, mkdir, new_place, symlink};
+pub use making::{create, may_be_new, mkdir, new_place, symlink};
 pub use reading::{fstat, lookup, open_node, readdir, readlink, stat, statfs};

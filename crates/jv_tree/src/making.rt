@@ -13,19 +13,20 @@ ghost use Rattle.jv_tree.specs.Entering.{has_no_zero, new_pair, place_of, IsFree
 
 use jv_model::{
     Bytes, Counters, DIRECTORY_LENGTH, Edge, FULL_COUNT, FULL_MODE, Fault, MAX_PATH, Moment, Node,
-    Path, ROOT, RowFault, SPACE_UNIT, Sequence, Setting, TRASH_ROOT, TxFault, Who, copied,
+    Path, RowFault, SPACE_UNIT, Sequence, Setting, TRASH_ROOT, TxFault, Who, copied,
 };
 use jv_outside::Keeper;
 use jv_rows::{
-    Draft, EntryPlace, in_session, needed_counters, needed_setting, read_edge, walk_to_entry,
+    Draft, EntryPlace, in_session, is_trash_of, needed_counters, needed_setting, read_edge,
+    walk_to_entry,
 };
 use std::alloc::Global;
 
-// Whether a new entry may stand there: not in the trash, and not in the place of `.trash`.
-fn may_be_new(dir: u64, name: &[u8]) -> bool
-    ensures { result ≡ model.may_be_new (record { dir = dir; name = name.now }) }
+/// Whether a new entry may stand there: not in the trash, and not in the place of `.trash`.
+pub fn may_be_new(place: &EntryPlace) -> bool
+    ensures { result ≡ model.may_be_new (place_of place.now) }
 {
-    dir < TRASH_ROOT && !(dir == ROOT && name == b".trash".as_slice())
+    place.dir.inode < TRASH_ROOT && !is_trash_of(place.dir.inode, place.name.as_slice())
 }
 
 /// Where a new entry may stand: not in the trash, not in the place of `.trash`, and not where an entry is. No row
@@ -39,7 +40,7 @@ pub fn new_place<K: Keeper>(alloc: Global, k: &mut K, path: &Path) -> Result<Ent
     ensures { ComesToEntry (K.seen k.old) (K.seen k.new) result (λ t. new_pair t path.now) }
 {
     let place = walk_to_entry(alloc, k, path)?;
-    if !may_be_new(place.dir.inode, place.name.as_slice()) {
+    if !may_be_new(&place) {
         return Err(TxFault::Refused(Fault::NotPermitted));
     }
     match read_edge(alloc, k, place.dir.inode, &place.name)? {

@@ -1,8 +1,9 @@
 -- What an operation does to the tree, and what it is answered: one definition an operation, its
 -- refusals in their order.
+use Rattle.std.specs.Prelude.{Result}
+use Rattle.jv_model.specs.declared.fault.Fault.{Fault}
 use Rattle.jv_model.specs.declared.op.Op.{Op}
 use Rattle.jv_model.specs.declared.op.Op.TheVariants as op
-use Rattle.jv_model.specs.declared.op.Reply.TheVariants.{Done}
 use Rattle.jv_model.specs.tree.Tree.{Tree}
 use Rattle.jv_model.specs.tree.Reading.{lookup, stat, lstat, fstat, readdir, readlink, statfs, chmod, chown, utimes, compact}
 use Rattle.jv_model.specs.tree.Removing.{unlink, rmdir}
@@ -10,6 +11,7 @@ use Rattle.jv_model.specs.tree.Renaming.{rename}
 use Rattle.jv_model.specs.tree.Sessions.{beat, umount, release}
 use Rattle.jv_model.specs.tree.FileBytes.{truncate, copy}
 pub use Rattle.jv_model.specs.tree.Changes.{empty_content, overwritten, with_content, set_node, touch}
+use Rattle.jv_model.specs.tree.Caller.{done}
 pub use Rattle.jv_model.specs.tree.Caller.{Caller, Outcome, outcome, in_session}
 pub use Rattle.jv_model.specs.tree.Reading.{open_file}
 pub use Rattle.jv_model.specs.tree.Making.{new_place, create}
@@ -17,42 +19,42 @@ use Rattle.jv_model.specs.tree.Making.{mkdir, symlink, link}
 pub use Rattle.jv_model.specs.tree.Sessions.{mount}
 pub use Rattle.jv_model.specs.tree.FileBytes.{committed}
 
--- the answer of an operation that makes no transaction on the tree
-abbrev unchanged : Tree → Outcome
-unchanged t = record { tree = t; reply = Done }
+-- The transaction of an operation. The reads, writes and cleanings at the end make none, but a
+-- compaction walks its path.
+abbrev pub attempt : Tree → Caller → Op → Result Outcome Fault
+attempt t who (op.Mount writeback) = mount t who
+attempt t who op.Umount = umount t who
+attempt t who op.Beat = beat t who
+attempt t who (op.Lookup path) = lookup t who path
+attempt t who (op.Stat path) = stat t who path
+attempt t who (op.Lstat path) = lstat t who path
+attempt t who (op.Fstat handle) = fstat t who
+attempt t who (op.Mkdir path mode) = mkdir t who path mode
+attempt t who (op.Create path mode) = create t who path mode
+attempt t who (op.Open path) = open_file t who path
+attempt t who (op.Close handle) = release t who
+attempt t who (op.Truncate handle len) = truncate t who len
+attempt t who (op.Copy source from target to len) = copy t who from to len
+attempt t who (op.Readdir path) = readdir t who path
+attempt t who (op.Chmod path mode) = chmod t who path mode
+attempt t who (op.Chown path uid gid) = chown t who path uid gid
+attempt t who (op.Utimes path mtime) = utimes t who path mtime
+attempt t who op.Statfs = statfs t who
+attempt t who (op.Symlink target path) = symlink t who target path
+attempt t who (op.Readlink path) = readlink t who path
+attempt t who (op.Unlink path) = unlink t who path
+attempt t who (op.Rmdir path) = rmdir t who path
+attempt t who (op.Link path to) = link t who path to
+attempt t who (op.Rename path to how) = rename t who path to how
+attempt t who (op.Compact path window) = compact t who path
+attempt t who (op.Flush handle) = done t
+attempt t who (op.Read handle offset len) = done t
+attempt t who (op.Write handle offset bytes) = done t
+attempt t who op.Clean = done t
+attempt t who (op.Gc delete) = done t
+attempt t who op.Upload = done t
+attempt t who op.Stats = done t
 
--- The reads, writes and cleanings at the end make no transaction on the tree, but a compaction
--- walks its path.
+-- the tree after an operation, and its answer
 abbrev pub tree_act : Tree → Caller → Op → Outcome
-tree_act t who (op.Mount writeback) = outcome t (mount t who)
-tree_act t who op.Umount = outcome t (umount t who)
-tree_act t who op.Beat = outcome t (beat t who)
-tree_act t who (op.Lookup path) = outcome t (lookup t who path)
-tree_act t who (op.Stat path) = outcome t (stat t who path)
-tree_act t who (op.Lstat path) = outcome t (lstat t who path)
-tree_act t who (op.Fstat handle) = outcome t (fstat t who)
-tree_act t who (op.Mkdir path mode) = outcome t (mkdir t who path mode)
-tree_act t who (op.Create path mode) = outcome t (create t who path mode)
-tree_act t who (op.Open path) = outcome t (open_file t who path)
-tree_act t who (op.Close handle) = outcome t (release t who)
-tree_act t who (op.Truncate handle len) = outcome t (truncate t who len)
-tree_act t who (op.Copy source from target to len) = outcome t (copy t who from to len)
-tree_act t who (op.Readdir path) = outcome t (readdir t who path)
-tree_act t who (op.Chmod path mode) = outcome t (chmod t who path mode)
-tree_act t who (op.Chown path uid gid) = outcome t (chown t who path uid gid)
-tree_act t who (op.Utimes path mtime) = outcome t (utimes t who path mtime)
-tree_act t who op.Statfs = outcome t (statfs t who)
-tree_act t who (op.Symlink target path) = outcome t (symlink t who target path)
-tree_act t who (op.Readlink path) = outcome t (readlink t who path)
-tree_act t who (op.Unlink path) = outcome t (unlink t who path)
-tree_act t who (op.Rmdir path) = outcome t (rmdir t who path)
-tree_act t who (op.Link path to) = outcome t (link t who path to)
-tree_act t who (op.Rename path to how) = outcome t (rename t who path to how)
-tree_act t who (op.Compact path window) = outcome t (compact t who path)
-tree_act t who (op.Flush handle) = unchanged t
-tree_act t who (op.Read handle offset len) = unchanged t
-tree_act t who (op.Write handle offset bytes) = unchanged t
-tree_act t who op.Clean = unchanged t
-tree_act t who (op.Gc delete) = unchanged t
-tree_act t who op.Upload = unchanged t
-tree_act t who op.Stats = unchanged t
+tree_act t who o = outcome t (attempt t who o)

@@ -1,6 +1,5 @@
-use Rattle.std.proofs.Common.{ℕ, List, sym, ap, ◌∙◌}
+use Rattle.std.proofs.Common.{sym, ◌∙◌}
 use Rattle.std.proofs.lemmas.Result.{err_from_is_err_and}
-use Rattle.jv_model.specs.tree.Making.{may_be_new}
 use Rattle.jv_tree.proofs.NewPlaceLaws.{new_place-stops, new_place-unread, new_place-taken, new_place-free}
 use Rattle.jv_tree.proofs.making.new_place.Goals as goal
 
@@ -12,7 +11,7 @@ returns-in_err-place g c =
 pub returns-in_err-read_edge : goal.returns-in_err-read_edge
 returns-in_err-read_edge g c =
     let place = c.in_ok-place.place in
-    let may = ap (λ (n : List ℕ). may_be_new (record { dir = place.dir.inode; name = n })) (sym c.as_slice.ensures) ∙ sym c.may_be_new.ensures ∙ c.if-not-may_be_new.false in
+    let may = sym c.may_be_new.ensures ∙ c.if-not-may_be_new.false in
     let p = err_from_is_err_and c.from_residual-in_err-read_edge.result c.from_residual-in_err-read_edge.ensures.1 in
     rw (p.1, p.2)
     (new_place-unread (g.K.Keeper.seen c.args.k.now) (g.K.Keeper.seen c.walk_to_entry.new.k) c.args.path.now place c.in_ok-place.ensures may
@@ -21,13 +20,13 @@ returns-in_err-read_edge g c =
 pub returns-in-Some : goal.returns-in-Some
 returns-in-Some g c =
     let place = c.in_ok-place.place in
-    let may = ap (λ (n : List ℕ). may_be_new (record { dir = place.dir.inode; name = n })) (sym c.as_slice.ensures) ∙ sym c.may_be_new.ensures ∙ c.if-not-may_be_new.false in
+    let may = sym c.may_be_new.ensures ∙ c.if-not-may_be_new.false in
     new_place-taken (g.K.Keeper.seen c.args.k.now) (g.K.Keeper.seen c.walk_to_entry.new.k) c.args.path.now place c.in_ok-place.ensures may
     (g.K.Keeper.seen c.read_edge.new.k) c.in_ok-read_edge.field-0 c.in_ok-read_edge.ensures c.in-Some.field-0 c.in-Some.is
 
 pub returns-in-None : goal.returns-in-None
 returns-in-None g c =
     let place = c.in_ok-place.place in
-    let may = ap (λ (n : List ℕ). may_be_new (record { dir = place.dir.inode; name = n })) (sym c.as_slice.ensures) ∙ sym c.may_be_new.ensures ∙ c.if-not-may_be_new.false in
+    let may = sym c.may_be_new.ensures ∙ c.if-not-may_be_new.false in
     new_place-free (g.K.Keeper.seen c.args.k.now) (g.K.Keeper.seen c.walk_to_entry.new.k) c.args.path.now place c.in_ok-place.ensures may
     (g.K.Keeper.seen c.read_edge.new.k) c.in_ok-read_edge.field-0 c.in_ok-read_edge.ensures c.in-None.is
