@@ -30,7 +30,7 @@ use Rattle.jv_volume.proofs.StoredLaws.{HasNode, found_node}
 use Rattle.jv_volume.proofs.StoredStepLaws.{alter_kept, node_apart, node_here}
 use Rattle.jv_volume.proofs.EntryStepLaws.{rows_with_entry, tree_of-entry_in, stored-entry_in, rows_without_entry, tree_of-entry_out, stored-entry_out}
 use Rattle.jv_changes.specs.Drafting.{Minds, Drafting}
-use Rattle.jv_changes.specs.Present.{Presents, to_node, linked_row}
+use Rattle.jv_changes.specs.Present.{Presents, links_to_node, linked_row}
 use Rattle.jv_changes.specs.Ready.{StandsAt, MayStandAt, entry_put, IsThere}
 use Rattle.jv_changes.proofs.DraftedLaws.{Drafted, are_rows-put, are_rows-drop, Stays, stays-then, drafting-made, drafting-refused}
 use Rattle.jv_changes.proofs.PresentLaws.{stays-present, present-stands, drafting-absent, Sound, sound-minds, minds-sound, sound-node, sound-edge}
@@ -99,7 +99,7 @@ module _ (known : RowMap) (was : List Change) (bytes : ℕ → ℕ → ℕ) (t :
   -- an entry that goes
   module _ (named : get t.entries at ≡ Some inode) (changes : List Change)
       (is : drafted changes known ≡ three rows at inode row dir here there apart None
-      (directory_touched now (dir.nlink - links_by row.kind) dir) (linked_row (row.nlink - to_node row.kind) row))
+      (directory_touched now (dir.nlink - links_by row.kind) dir) (linked_row (row.nlink - links_to_node row.kind) row))
     where
       named_there : get (tree_of bytes rows).entries at ≡ Some inode
       named_there = subst (λ (u : Tree). get u.entries at ≡ Some inode) (sym m.tree) named
@@ -109,7 +109,7 @@ module _ (known : RowMap) (was : List Change) (bytes : ℕ → ℕ → ℕ) (t :
           (rows_without_entry bytes rows now at inode row dir m.stored here there within apart)
           (sound-three rows at inode row dir here there apart None (typed known) (sound-minds known was bytes t m)
           (λ x e. absurd (cc)) now
-          (dir.nlink - links_by row.kind) (row.nlink - to_node row.kind))
+          (dir.nlink - links_by row.kind) (row.nlink - links_to_node row.kind))
           is
           (tree_of-entry_out bytes rows now at inode row dir m.stored here there within apart ∙ ap
           (λ (u : Tree). take_entry u now at) m.tree)
@@ -145,7 +145,7 @@ module _ (known : RowMap) (was : List Change) (bytes : ℕ → ℕ → ℕ) (t :
     e2 = insert e1 (node_key at.dir) dir_cell
 
     abbrev node_cell : Cell
-    node_cell = Ok (OfNode (linked_row (row.nlink + to_node row.kind) row))
+    node_cell = Ok (OfNode (linked_row (row.nlink + links_to_node row.kind) row))
 
     pub dir_links : link_count (put_entry t now at inode) at.dir ≡ dir.nlink + links_by row.kind
     dir_links =
@@ -156,23 +156,23 @@ module _ (known : RowMap) (was : List Change) (bytes : ℕ → ℕ → ℕ) (t :
         refl)) in
         ap (λ (u : Tree). link_count u at.dir) (sym tree_in) ∙ sym has.links
 
-    pub node_links : link_count (put_entry t now at inode) inode ≡ row.nlink + to_node row.kind
+    pub node_links : link_count (put_entry t now at inode) inode ≡ row.nlink + links_to_node row.kind
     node_links =
-        let has : HasNode (tree_of bytes rows_in) inode (linked_row (row.nlink + to_node row.kind) row) (bytes inode) =
-        found_node bytes rows_in stored_in inode (linked_row (row.nlink + to_node row.kind) row)
+        let has : HasNode (tree_of bytes rows_in) inode (linked_row (row.nlink + links_to_node row.kind) row) (bytes inode) =
+        found_node bytes rows_in stored_in inode (linked_row (row.nlink + links_to_node row.kind) row)
         (ap (λ c. node_in (row_in c)) (node_here e2 inode node_cell inode refl)) in
         ap (λ (u : Tree). link_count u inode) (sym tree_in) ∙ sym has.links
 
     pub minds-entry_in : IsTrue (is_entry_name at.name) → (changes : List Change)
         → drafted changes known ≡ three rows at inode row dir here there apart (Some edge_cell)
-        (directory_touched now (dir.nlink + links_by row.kind) dir) (linked_row (row.nlink + to_node row.kind) row)
+        (directory_touched now (dir.nlink + links_by row.kind) dir) (linked_row (row.nlink + links_to_node row.kind) row)
         → Minds known changes bytes (put_entry t now at inode)
     minds-entry_in name changes is = minds-sound known changes bytes (put_entry t now at inode) rows_in
         (sound-three rows at inode row dir here there apart (Some edge_cell) (typed known)
         (sound-minds known was bytes t m)
         (λ x e. subst (IsRowAt (edge_key at.dir at.name)) (some_same edge_cell x e)
         (record { key_is = name; cell_is = refl })) now
-        (dir.nlink + links_by row.kind) (row.nlink + to_node row.kind))
+        (dir.nlink + links_by row.kind) (row.nlink + links_to_node row.kind))
         is tree_in stored_in
 
 -- ---- whether links can be stored
@@ -249,11 +249,11 @@ module _ (was : List Change) (before middle after : Store) (now : ℕ) (at : Ent
       → Drafted (edge_key at.dir at.name) None was one
       → Drafted (node_key at.dir) (Some (Ok (OfNode (directory_touched now (dir.nlink - links_by row.kind) dir))))
       one two
-      → Drafted (node_key inode) (Some (Ok (OfNode (linked_row (row.nlink - to_node row.kind) row)))) two changes
+      → Drafted (node_key inode) (Some (Ok (OfNode (linked_row (row.nlink - links_to_node row.kind) row)))) two changes
       → Drafting (λ t. StandsAt t at inode) was changes before after (Ok (tt {0})) (λ t. Ok (take_entry t now at))
   take-made one two changes first second third =
       let dir_after = directory_touched now (dir.nlink - links_by row.kind) dir in
-      let node_after = linked_row (row.nlink - to_node row.kind) row in
+      let node_after = linked_row (row.nlink - links_to_node row.kind) row in
       drafting-made (λ t. StandsAt t at inode) was changes before after stays (λ t. Ok (take_entry t now at)) (tt {0})
       (λ are. are_rows-put (node_key inode) two changes (OfNode node_after) third
       (are_rows-put (node_key at.dir) one two (OfNode dir_after) second
@@ -282,26 +282,26 @@ module _ (was : List Change) (before middle after : Store) (now : ℕ) (at : Ent
       ready.apart ready.free) full))
 
   -- the inode's link count is full
-  pub put-full_node : (changes : List Change) → MAX_LINKS < row.nlink + to_node row.kind
+  pub put-full_node : (changes : List Change) → MAX_LINKS < row.nlink + links_to_node row.kind
       → Drafting {A = Unit {0}} place_ready was changes before after (Err (Refused NoSpace)) step
   put-full_node changes full = drafting-refused place_ready was changes before after stays step NoSpace
       (λ known is bytes t m ready.
-      entry_put-full_node now at inode t (fits-no (put_entry t now at inode) inode (row.nlink + to_node row.kind)
+      entry_put-full_node now at inode t (fits-no (put_entry t now at inode) inode (row.nlink + links_to_node row.kind)
       (node_links known was bytes t m now at inode row dir (node_at_row known is) (dir_at_row known is) ready.within
       ready.apart ready.free) full))
 
   -- an entry that comes
   pub put-made : (one two changes : List Change) → dir.nlink + links_by row.kind ≤ MAX_LINKS
-      → row.nlink + to_node row.kind ≤ MAX_LINKS
+      → row.nlink + links_to_node row.kind ≤ MAX_LINKS
       → Drafted (edge_key at.dir at.name) (Some (Ok (OfEdge (record { kind = row.kind; inode = inode })))) was one
       → Drafted (node_key at.dir) (Some (Ok (OfNode (directory_touched now (dir.nlink + links_by row.kind) dir))))
       one two
-      → Drafted (node_key inode) (Some (Ok (OfNode (linked_row (row.nlink + to_node row.kind) row)))) two changes
+      → Drafted (node_key inode) (Some (Ok (OfNode (linked_row (row.nlink + links_to_node row.kind) row)))) two changes
       → Drafting place_ready was changes before after (Ok (tt {0})) step
   put-made one two changes dir_low node_low first second third =
       let edge : Edge = record { kind = row.kind; inode = inode } in
       let dir_after = directory_touched now (dir.nlink + links_by row.kind) dir in
-      let node_after = linked_row (row.nlink + to_node row.kind) row in
+      let node_after = linked_row (row.nlink + links_to_node row.kind) row in
       drafting-made place_ready was changes before after stays step (tt {0})
       (λ are. are_rows-put (node_key inode) two changes (OfNode node_after) third
       (are_rows-put (node_key at.dir) one two (OfNode dir_after) second
@@ -312,7 +312,7 @@ module _ (was : List Change) (before middle after : Store) (now : ℕ) (at : Ent
             (fits-yes (put_entry t now at inode) at.dir (dir.nlink + links_by row.kind)
             (dir_links known was bytes t m now at inode row dir (node_at_row known is)
             (dir_at_row known is) ready.within ready.apart ready.free) dir_low)
-            (fits-yes (put_entry t now at inode) inode (row.nlink + to_node row.kind)
+            (fits-yes (put_entry t now at inode) inode (row.nlink + links_to_node row.kind)
             (node_links known was bytes t m now at inode row dir (node_at_row known is)
             (dir_at_row known is) ready.within ready.apart ready.free) node_low);
         minds = minds-entry_in known was bytes t m now at inode row dir (node_at_row known is) (dir_at_row known is)

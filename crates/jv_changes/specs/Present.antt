@@ -38,14 +38,14 @@ pub record Presents (inode : ℕ) (changes : List Change) (before after : Store)
     pub refused : IfErr result (RefusesNode inode changes before.rows)
 
 -- what an entry of an inode of this kind adds to the link count of that inode
-abbrev pub to_node : ℕ → ℕ
-to_node kind = (if kind == 2 then 0 else 1)
+abbrev pub links_to_node : ℕ → ℕ
+links_to_node kind = (if kind == 2 then 0 else 1)
 
 -- a node with its links since then
 abbrev pub linked_row : ℕ → Node → Node
 linked_row links row = record row { nlink = links }
 
--- a node with one link more, which is refused where no more can be stored
+-- a node with `more` links more, which is refused where so high a count can't be stored
 abbrev pub Rises : Node → ℕ → (ℕ → Node) → Result Node Fault → Type 0
 Rises row more with_links (Ok after) =
     (after ≡ with_links (row.nlink + more)) × (row.nlink + more ≤ MAX_LINKS)

@@ -1,14 +1,15 @@
 -- What a tree has to be for a small change of it.
-use Rattle.std.specs.Prelude.{◌≡◌, ◌≢◌, ℕ, ◌<◌, true, ◌&&◌, is_some, None, Some, Result, Ok, IsTrue, ◌≤◌, []}
+use Rattle.std.specs.Prelude.{◌≡◌, ◌≢◌, ℕ, ◌<◌, true, ◌&&◌, is_some, None, Some, Result, Ok, IsTrue, ◌≤◌}
 use Rattle.jv_model.specs.declared.fault.Fault.{Fault}
 use Rattle.jv_model.specs.declared.fault.Fault.TheVariants.{NoSpace}
-use Rattle.jv_model.specs.declared.limits.TheConstants.{DIRECTORY_LENGTH, READ_ONLY_MODE, TRASH_ROOT}
+use Rattle.jv_model.specs.declared.limits.TheConstants.{READ_ONLY_MODE, TRASH_ROOT}
 use Rattle.jv_model.specs.declared.row.Node.{Node as NodeRow}
 use Rattle.jv_model.specs.FiniteMap.{get, insert}
 use Rattle.jv_model.specs.tree.Attempt.{◌>>=◌, require}
 use Rattle.jv_model.specs.tree.Tree.{Tree, EntryKey, is_directory, is_counted, links_fit, node_at}
 use Rattle.jv_model.specs.tree.Changes.{put_entry}
 use Rattle.jv_model.specs.tree.Trash.{hour_inode, hour_place}
+use Rattle.jv_volume.specs.Fresh.{new_directory}
 use Rattle.jv_volume.specs.Shape.{NamesHour}
 use Rattle.jv_volume.specs.TypedRows.{is_entry_name}
 
@@ -68,15 +69,4 @@ pub record MayHaveHour (t : Tree) (hour : ℕ) : Type 0 where
 
 -- the row of an hour's directory, as it comes
 abbrev pub hour_row : ℕ → NodeRow
-hour_row now = record {
-  kind = 2;
-  mode = READ_ONLY_MODE;
-  uid = 0;
-  gid = 0;
-  nlink = 2;
-  mtime = now;
-  ctime = now;
-  length = DIRECTORY_LENGTH;
-  parent = TRASH_ROOT;
-  target = [];
-}
+hour_row now = new_directory TRASH_ROOT READ_ONLY_MODE now

@@ -1,7 +1,7 @@
 //! Entries that come and go, with the times and the link counts of their directories and their nodes.
 ghost use Rattle.std.specs.Prelude.{◌≡◌, ◌-◌, IsTrue, Ok};
 ghost use Rattle.jv_changes.specs.Drafting.{Drafting};
-ghost use Rattle.jv_changes.specs.Present.{to_node, linked_row, Rises};
+ghost use Rattle.jv_changes.specs.Present.{links_to_node, linked_row, Rises};
 ghost use Rattle.jv_volume.specs.Stored.{links_by, directory_touched};
 ghost use Rattle.jv_changes.specs.Ready.{StandsAt, MayStandAt, entry_put};
 ghost use Rattle.jv_model.specs.tree.Changes as model;
@@ -20,7 +20,7 @@ fn links_of_directory(kind: u8) -> u32
 
 // What an entry of an inode of this kind adds to the link count of the inode: directories within count for a directory.
 fn links_of_node(kind: u8) -> u32
-    ensures { result ≡ to_node kind }
+    ensures { result ≡ links_to_node kind }
 {
     if kind == 2 { 0 } else { 1 }
 }
@@ -47,7 +47,7 @@ fn without_entry(parent: Node, now: Moment, kind: u8) -> Node
 
 // A node that an entry of it left.
 fn unlinked(node: Node) -> Node
-    ensures { result ≡ linked_row (node.nlink - to_node node.kind) node }
+    ensures { result ≡ linked_row (node.nlink - links_to_node node.kind) node }
 {
     Node {
         nlink: node.nlink.saturating_sub(links_of_node(node.kind)),
@@ -65,7 +65,7 @@ fn with_entry(parent: Node, now: Moment, kind: u8) -> Result<Node, Fault>
 
 // A node that gets an entry; refused where its link count is full.
 fn linked(node: Node) -> Result<Node, Fault>
-    ensures { Rises node (to_node node.kind) (λ links. linked_row links node) result }
+    ensures { Rises node (links_to_node node.kind) (λ links. linked_row links node) result }
 {
     let nlink = node.nlink.checked_add(links_of_node(node.kind));
     Ok(Node {

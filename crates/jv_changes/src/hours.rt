@@ -2,7 +2,7 @@
 ghost use Rattle.std.specs.Prelude.{◌≡◌, ◌≤◌, ◌/◌, ◌%◌, pos, ◌*ℤ◌, Ok, IfOk};
 ghost use Rattle.jv_changes.specs.Drafting.{Drafting};
 ghost use Rattle.jv_changes.specs.CivilDates.{IsDateOf};
-ghost use Rattle.jv_changes.specs.Ready.{MayHaveHour, hour_row};
+ghost use Rattle.jv_changes.specs.Ready.{MayHaveHour};
 ghost use Rattle.jv_model.specs.declared.limits.TheConstants.{LAST_MOMENT};
 ghost use Rattle.jv_model.specs.tree.HourNames.{hour_at, hour_name, day_hours, two_digits};
 ghost use Rattle.jv_model.specs.tree.Trash as model;
@@ -14,16 +14,15 @@ use jiff::civil::DateTime;
 use jiff::tz::Offset;
 use jv_model::lifetimes::{FIRST_HOUR, HOUR};
 use jv_model::{
-    DIRECTORY_LENGTH, MAX_NAME, Moment, Name, Node, READ_ONLY_MODE, Sequence, TRASH_ROOT, TxFault,
-    copied,
+    MAX_NAME, Moment, Name, READ_ONLY_MODE, TRASH_ROOT, TxFault, copied,
 };
 use jv_outside::Keeper;
-use jv_rows::{Draft, needed_node};
+use jv_rows::{Draft, needed_node, new_directory};
 use std::alloc::{AllocError, Global};
 use std::marker::Model;
 
-/// The name in the trash of an inode that loses its last entry: `PARENT-INODE-NAME`, cut to [`jv_model::MAX_NAME`] bytes. The only error
-/// is out of memory. JuiceFS, Trash.
+/// The name in the trash of an inode that loses its last entry: `PARENT-INODE-NAME`, cut to [`jv_model::MAX_NAME`] bytes.
+/// The only error is out of memory. JuiceFS, Trash.
 pub fn trash_name(alloc: Global, dir: u64, name: &Name, inode: u64) -> Result<Name, AllocError>
     ensures { IfOk result (λ text. text ≡ model.trash_name
         (record { dir = dir; name = name.now }) inode) }
@@ -121,7 +120,8 @@ pub fn enter_hour<K: Keeper>(
     }
     needed_node(alloc, k, draft, TRASH_ROOT)?;
     let name = copied(alloc, hour_name(now).as_slice())?;
-    draft.put_node(inode, &hour_node(alloc, now))?;
+    let hour = new_directory(alloc, TRASH_ROOT, READ_ONLY_MODE, now);
+    draft.put_node(inode, &hour)?;
     put_entry(draft, k, now, TRASH_ROOT, &name, inode)?;
     Ok(inode)
 }
@@ -134,23 +134,5 @@ fn hour_inode(hour: u64) -> u64
     match hour {
         0 => FIRST_HOUR,
         _ => TRASH_ROOT + hour,
-    }
-}
-
-// The empty directory of an hour, which lets nobody write.
-fn hour_node(alloc: Global, now: Moment) -> Node
-    ensures { result ≡ hour_row now }
-{
-    Node {
-        kind: 2,
-        mode: READ_ONLY_MODE,
-        uid: 0,
-        gid: 0,
-        nlink: 2,
-        mtime: now.seconds(),
-        ctime: now.seconds(),
-        length: DIRECTORY_LENGTH,
-        parent: TRASH_ROOT,
-        target: Sequence::new(alloc),
     }
 }

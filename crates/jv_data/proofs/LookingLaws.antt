@@ -21,10 +21,10 @@ use Rattle.jv_outside.specs.Store.{Store}
 use Rattle.jv_volume.specs.TypedRows.{typed}
 use Rattle.jv_volume.specs.Views.{row_in, node_in, node_row_at}
 use Rattle.jv_volume.proofs.StoredLaws.{found_node, no_node, whole-stored}
-use Rattle.jv_rows.specs.Drafts.{Sees, cell, drafted}
+use Rattle.jv_rows.specs.Drafts.{Sees, cell}
 use Rattle.jv_rows.specs.Transactions.{Looks}
 use Rattle.jv_rows.proofs.NeedingLaws.{session_is}
-use Rattle.jv_rows.proofs.TransactionLaws.{Past, if_known, past-start, past-as, past-calm, past-looks, past-fails, past-gives, past-refuses, drafted-none, fails-sees, stands-sees}
+use Rattle.jv_rows.proofs.TransactionLaws.{Past, if_known, past-start, past-as, past-calm, past-looks, past-fails, past-gives, past-refuses, fails-sees, stands-sees, as_stored}
 use Rattle.jv_data.specs.Committing.{HasFile}
 
 -- what a look does once its session is there
@@ -42,14 +42,11 @@ module _ (before middle : Store) (sid inode : ℕ) where
     asked : Past before middle act (length_at inode)
     asked = past-looks before before middle act (session_is sid) (λ t unit. length_at inode t) (past-start before act) tt session
 
-    unchanged : (known : RowMap) → middle.rows ≡ Some known → get (drafted [] known) (node_key inode) ≡ get (typed known) (node_key inode)
-    unchanged known is = ap (λ rows. get rows (node_key inode)) (drafted-none known)
-
     pub file-unread : (fault : RowFault) → Sees OfNode is_node (node_key inode) [] middle after (Err fault)
         → HasFile sid inode before after (Err (OfRows fault))
     file-unread fault s =
         no-file after (OfRows fault) (past-fails before middle after act (length_at inode) asked (OfRows fault)
-        (fails-sees OfNode is_node (node_key inode) [] middle after unchanged fault s))
+        (fails-sees OfNode is_node (node_key inode) [] middle after (as_stored (node_key inode) middle) fault s))
 
     module _ (found : Option NodeRow) (s : Sees OfNode is_node (node_key inode) [] middle after (Ok found)) where
       seen : Past before after act (length_at inode)
@@ -57,7 +54,7 @@ module _ (before middle : Store) (sid inode : ℕ) where
 
       stands : (known : RowMap) → before.rows ≡ Some known → node_row_at (typed known) inode ≡ node_in (row_in (cell OfNode found))
       stands known is = ap (λ c. node_in (row_in c))
-          (stands-sees OfNode is_node (node_key inode) [] middle after unchanged found s known (asked.rows_are ∙ is))
+          (stands-sees OfNode is_node (node_key inode) [] middle after (as_stored (node_key inode) middle) found s known (asked.rows_are ∙ is))
 
     pub file-gone : Sees OfNode is_node (node_key inode) [] middle after (Ok None) → HasFile sid inode before after (Err (Refused (Stale (GoneNode inode))))
     file-gone s =
@@ -83,7 +80,7 @@ module _ (before middle : Store) (sid inode : ℕ) where
             ap (λ o. some_or o (Stale (GoneNode inode)) >>= (λ content. Ok content.length))
             (has.content ∙ ap (λ k. if k == 1 then Some (content_of node.length (bytes inode)) else None) file)));
         stands = if_known (λ known. get (typed known) (node_key inode) ≡ Some (Ok (OfNode node))) after.rows (λ known is.
-            stands-sees OfNode is_node (node_key inode) [] middle after unchanged (Some node) s known (sym s.rows_are ∙ is));
+            stands-sees OfNode is_node (node_key inode) [] middle after (as_stored (node_key inode) middle) (Some node) s known (sym s.rows_are ∙ is));
         file = file;
         allowed = s.allowed;
       }

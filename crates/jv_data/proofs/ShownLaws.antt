@@ -22,7 +22,7 @@ use Rattle.jv_outside.specs.Store.{Store}
 use Rattle.jv_rows.specs.Drafts.{Sees}
 use Rattle.jv_rows.specs.Lists.{HasList}
 use Rattle.jv_rows.specs.Transactions.{Looks}
-use Rattle.jv_rows.proofs.TransactionLaws.{if_known, of_known, stands-sees, drafted-none}
+use Rattle.jv_rows.proofs.TransactionLaws.{if_known, of_known, stands-sees, as_stored}
 use Rattle.jv_volume.specs.TypedRows.{Rows, typed}
 use Rattle.jv_volume.specs.Views.{lists_of}
 use Rattle.jv_volume.specs.Slices.{place_in}
@@ -154,7 +154,7 @@ cut-next from len done part cut short is less = elim (cases_lt 0 done) [
 module _ (inode window : ℕ) (low : window < 2 ^ 32) (before read : Store) (list : List Rec) (s : Sees OfList is_list (list_key inode window) [] before read (Ok (Some list))) where
   pub named-there : HasList read inode (window, list)
   named-there = if_known (λ known. get (typed known) (list_key inode window) ≡ Some (Ok (OfList list))) read.rows (λ known is.
-      stands-sees OfList is_list (list_key inode window) [] before read (λ known is. ap (λ rows. get rows (list_key inode window)) (drafted-none known)) (Some list) s known
+      stands-sees OfList is_list (list_key inode window) [] before read (as_stored (list_key inode window) before) (Some list) s known
       (sym s.rows_are ∙ is))
 
   calm : Looks {A = Unit {0}} before read (Ok tt) (λ t. Ok tt)

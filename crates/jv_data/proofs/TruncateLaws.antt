@@ -28,7 +28,7 @@ use Rattle.jv_rows.specs.Readings.{ReadsRow}
 use Rattle.jv_rows.specs.Tables.{slice_row}
 use Rattle.jv_rows.specs.Transactions.{Agrees, BadFault, Looks, IsBad, Malformed, NamesNone}
 use Rattle.jv_rows.proofs.DraftLaws.{sees_stored}
-use Rattle.jv_rows.proofs.TransactionLaws.{FailsBy, fails-memory, if_known, of_known, past-ends, fails-looks, fails-sees, stands-sees, drafted-none}
+use Rattle.jv_rows.proofs.TransactionLaws.{FailsBy, fails-memory, if_known, of_known, past-ends, fails-looks, fails-sees, stands-sees, as_stored}
 use Rattle.jv_volume.specs.TypedRows.{Rows, typed}
 use Rattle.jv_volume.specs.Views.{row_in, records_in, lists_of, slice_in}
 use Rattle.jv_volume.specs.Slices.{listed, records_naming, count_in}
@@ -80,19 +80,16 @@ module _ (inode window id : ℕ) (list : List Rec) (before after : Store) where
   slice-seen result seen is r = sees_stored OfSlice slice_of 5 slice_row key refl slice_bytes is_slice [] before after seen refl
       (subst (ReadsRow slice_of slice_bytes is_slice key before after) is r)
 
-  unchanged : (known : RowMap) → before.rows ≡ Some known → get (drafted [] known) key ≡ get (typed known) key
-  unchanged known is = ap (λ rows. get rows key) (drafted-none known)
-
   pub check-unread : (fault : RowFault) → Sees OfSlice is_slice key [] before after (Err fault) → ChecksSlice id before after (Err (OfRows fault))
   check-unread fault s = record {
-    looks = fails-looks before after (λ t. Ok tt) (OfRows fault) (fails-sees OfSlice is_slice key [] before after unchanged fault s);
+    looks = fails-looks before after (λ t. Ok tt) (OfRows fault) (fails-sees OfSlice is_slice key [] before after (as_stored key before) fault s);
     slice = tt;
   }
 
   pub check-found : (slice : SliceRow) → Sees OfSlice is_slice key [] before after (Ok (Some slice)) → ChecksSlice id before after (Ok tt)
   check-found slice s = record {
     looks = looks-calm before after s.rows_are s.opened_at s.counts;
-    slice = λ known is named. record { slice = slice; is = stands-sees OfSlice is_slice key [] before after unchanged (Some slice) s known is };
+    slice = λ known is named. record { slice = slice; is = stands-sees OfSlice is_slice key [] before after (as_stored key before) (Some slice) s known is };
   }
 
   -- the list names a slice that has no row
@@ -112,7 +109,7 @@ module _ (inode window id : ℕ) (list : List Rec) (before after : Store) where
       stands known is = of_known (λ known. get (typed known) (list_key inode window) ≡ Some (Ok (OfList list))) before.rows known is there
 
       none : (known : RowMap) → before.rows ≡ Some known → get (typed known) key ≡ None
-      none known is = stands-sees OfSlice is_slice key [] before after unchanged None s known is
+      none known is = stands-sees OfSlice is_slice key [] before after (as_stored key before) None s known is
 
       bad : (known : RowMap) → before.rows ≡ Some known → IsBad (typed known) at bytes
       bad known is = subst (λ (k : RowKey). IsBad (typed known) k bytes) (sym at_is)

@@ -19,7 +19,7 @@ held_here [] = []
 held_here (None ∷ handles) = held_here handles
 held_here (Some handle ∷ handles) = handle.inode ∷ held_here handles
 
--- a handle that was just opened, by the entry with this number
+-- a handle that was just opened, by the journal entry with this number
 abbrev pub new_handle : ℕ → ℕ → Handle
 new_handle inode entry = record { inode = inode; opened = entry; views = no_views }
 

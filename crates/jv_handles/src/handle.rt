@@ -5,7 +5,7 @@ use crate::views::Views;
 #[derive(Drop)]
 pub struct Handle {
     pub inode: u64,
-    /// The number of the entry that opened it.
+    /// The number of the journal entry that opened it.
     pub opened: u64,
     pub views: Views,
 }

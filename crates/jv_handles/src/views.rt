@@ -7,7 +7,7 @@ use std::marker::Model;
 /// A window of a file as a look saw it.
 #[derive(Debug, Drop, PartialEq, Eq)]
 pub struct View {
-    /// The number of the entry that took it.
+    /// The number of the journal entry that took it.
     pub entry: u64,
     /// The length of the whole file in bytes.
     pub length: u64,

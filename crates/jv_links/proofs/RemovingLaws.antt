@@ -30,7 +30,7 @@ use Rattle.jv_changes.specs.Drafting.{Drafting}
 use Rattle.jv_changes.specs.Ready.{StandsAt, MayGo}
 use Rattle.jv_changes.proofs.DraftingLaws.{PastSteps, OfWhole, steps-start, steps-on, steps-stop, steps-fail, steps-commit, transacts-error}
 use Rattle.jv_links.specs.declared.removing.Removable.{Removable}
-use Rattle.jv_links.specs.Removable.{removable_at, place_of, ComesToRemovable}
+use Rattle.jv_links.specs.Removable.{removable_at, removable_place, ComesToRemovable}
 use Rattle.jv_links.proofs.RemovableLaws.{IsRemovable, is_removable}
 use Rattle.jv_links.proofs.RemovalStepLaws.{stands_at, empty_apart, empty_goes}
 
@@ -120,13 +120,13 @@ module _ (who : Who) (caller : Caller) (is_for : IsFor who caller) (path : List 
 
   module _ (entry : Removable) (c : ComesToRemovable before middle (Ok entry) (λ t. removable_at t who.sid path)) where
     -- it was found
-    pub removing-comes : Past before middle act (λ t. next t (place_of entry) entry.node.inode)
+    pub removing-comes : Past before middle act (λ t. next t (removable_place entry) entry.node.inode)
     removing-comes = past-looks before before middle act finds (λ t e. next t e.0 e.1) starts
-        (place_of entry, entry.node.inode) c.looks
+        (removable_place entry, entry.node.inode) c.looks
 
-    pub removing-at : OfWhole Always before (λ t. IsRemovable t who.sid (place_of entry) entry.node.inode)
+    pub removing-at : OfWhole Always before (λ t. IsRemovable t who.sid (removable_place entry) entry.node.inode)
     removing-at known is whole bytes unit = is_removable (tree_of bytes (typed known)) who.sid path
-        (place_of entry) entry.node.inode (c.looks.agrees known is whole bytes)
+        (removable_place entry) entry.node.inode (c.looks.agrees known is whole bytes)
 
     pub removing-kind : (b : Bool) → (entry.node.node.kind == 2) ≡ b
         → OfWhole Always before (λ t. is_directory t entry.node.inode ≡ b)
@@ -148,14 +148,14 @@ module _ (who : Who) (caller : Caller) (is_for : IsFor who caller) (path : List 
   abbrev inode : ℕ
   inode = entry.node.inode
 
-  came : Past before middle removes (λ t. rmdir_at caller t (place_of entry) inode)
+  came : Past before middle removes (λ t. rmdir_at caller t (removable_place entry) inode)
   came = removing-comes who caller is_for path before middle removes (rmdir_at caller) (rmdir-is caller path) entry c
 
   -- it is none
   pub rmdir-no_directory : (entry.node.node.kind == 2) ≡ false
       → Transacts Always before middle (Err (Refused NotADirectory)) says removes
   rmdir-no_directory is = transacts-refused Always before middle says removes (Refused NotADirectory)
-      (past-refused before middle removes (λ t. vacant_at caller t (place_of entry) inode) (λ t. is_directory t inode)
+      (past-refused before middle removes (λ t. vacant_at caller t (removable_place entry) inode) (λ t. is_directory t inode)
       NotADirectory came
       (removing-kind who caller is_for path before middle removes (rmdir_at caller) (rmdir-is caller path) entry c false
       is))
@@ -167,11 +167,11 @@ module _ (who : Who) (caller : Caller) (is_for : IsFor who caller) (path : List 
 
     abbrev emptied : Tree → Bool → Result Outcome Fault
     emptied t some = require (not some) DirectoryNotEmpty >>=
-        (λ _. done (remove_directory t caller.now (place_of entry) inode))
+        (λ _. done (remove_directory t caller.now (removable_place entry) inode))
 
     is_one : Past before middle removes (λ t. (let found : Result Bool Fault = Ok (has_entries t inode) in
         found) >>= emptied t)
-    is_one = past-passes before middle removes (λ t. vacant_at caller t (place_of entry) inode)
+    is_one = past-passes before middle removes (λ t. vacant_at caller t (removable_place entry) inode)
         (λ t. is_directory t inode) NotADirectory came directory
 
     -- whether it has entries wasn't read
@@ -197,44 +197,44 @@ module _ (who : Who) (caller : Caller) (is_for : IsFor who caller) (path : List 
           same_answer x y e = cc
 
       abbrev rest : Tree → Result Outcome Fault
-      rest t = done (remove_directory t caller.now (place_of entry) inode)
+      rest t = done (remove_directory t caller.now (removable_place entry) inode)
 
       begun : PastSteps Always before looked draft (λ t. t) removes rest
       begun = subst (λ ch. PastSteps Always before looked ch (λ t. t) removes rest) (sym none)
           (steps-start Always before looked removes rest
           (past-looks before middle looked removes (λ t. Ok (has_entries t inode)) emptied is_one false l))
 
-      stands : OfWhole Always before (λ t. StandsAt t (place_of entry) inode)
+      stands : OfWhole Always before (λ t. StandsAt t (removable_place entry) inode)
       stands known is whole bytes unit =
           let t = tree_of bytes (typed known) in
           let shape = whole-shape bytes (typed known) whole in
           let there = (removing-at who caller is_for path before middle removes (rmdir_at caller)
           (rmdir-is caller path) entry c known is whole bytes unit).is in
-          stands_at t (place_of entry) inode shape there
-          (empty_apart t (place_of entry) inode shape there (directory known is whole bytes unit)
+          stands_at t (removable_place entry) inode shape there
+          (empty_apart t (removable_place entry) inode shape there (directory known is whole bytes unit)
           (vacant known is whole bytes unit))
 
       module _ (now : ℕ) (same : caller.now ≡ now) (taken : Store) (less : List Change) where
         abbrev takes : Tree → Result Tree Fault
-        takes t = Ok (take_entry t now (place_of entry))
+        takes t = Ok (take_entry t now (removable_place entry))
 
         -- its entry wasn't taken
         pub rmdir-not_taken : (result : Result (Unit {0}) TxFault) (fault : TxFault) → IsErrAnd result (λ e. e ≡ fault)
-            → Drafting {A = Unit {0}} (λ t. StandsAt t (place_of entry) inode) draft less looked taken (Err fault) takes
+            → Drafting {A = Unit {0}} (λ t. StandsAt t (removable_place entry) inode) draft less looked taken (Err fault) takes
             → Transacts Always before taken result says removes
         rmdir-not_taken result fault is d = transacts-error Always before taken says removes result fault is
             (steps-stop Always before looked taken draft less (λ t. t) says removes rest begun fault
-            (λ t. StandsAt t (place_of entry) inode) takes d stands
+            (λ t. StandsAt t (removable_place entry) inode) takes d stands
             (λ known at whole bytes unit refused e. absurd (cc)))
 
-        module _ (d : Drafting {A = Unit {0}} (λ t. StandsAt t (place_of entry) inode) draft less looked taken
+        module _ (d : Drafting {A = Unit {0}} (λ t. StandsAt t (removable_place entry) inode) draft less looked taken
             (Ok tt) takes) (gone : Store) (all : List Change) where
           abbrev without : Tree → Tree
-          without t = take_entry t now (place_of entry)
+          without t = take_entry t now (removable_place entry)
 
           took : PastSteps Always before taken less without removes rest
           took = steps-on Always before looked taken draft less (λ t. t) removes rest begun tt
-              (λ t. StandsAt t (place_of entry) inode) takes without d stands
+              (λ t. StandsAt t (removable_place entry) inode) takes without d stands
               (λ known at whole bytes unit. refl)
 
           abbrev drops : Tree → Result Tree Fault
@@ -245,7 +245,7 @@ module _ (who : Who) (caller : Caller) (is_for : IsFor who caller) (path : List 
               let t = tree_of bytes (typed known) in
               let at = removing-at who caller is_for path before middle removes (rmdir_at caller)
               (rmdir-is caller path) entry c known is whole bytes unit in
-              empty_goes t (place_of entry) inode (whole-shape bytes (typed known) whole) at.is now
+              empty_goes t (removable_place entry) inode (whole-shape bytes (typed known) whole) at.is now
               (directory known is whole bytes unit) (vacant known is whole bytes unit) at.may
 
           -- its node wasn't dropped
@@ -277,10 +277,10 @@ module _ (who : Who) (caller : Caller) (is_for : IsFor who caller) (path : List 
             rmdir-done commits = steps-commit Always before gone last all all (λ t. drop_node (without t) inode) says
                 removes rest dropped tt commits
                 (λ known is whole bytes unit. (let t = tree_of bytes (typed known) in
-                ap (λ n. done (remove_directory t n (place_of entry) inode)) same))
+                ap (λ n. done (remove_directory t n (removable_place entry) inode)) same))
                 (λ known is whole bytes unit.
                 let t = tree_of bytes (typed known) in
                 let there = (removing-at who caller is_for path before middle removes (rmdir_at caller)
                 (rmdir-is caller path) entry c known is whole bytes unit).is in
-                whole-remove_directory t now (place_of entry) inode (whole-shape bytes (typed known) whole) there
+                whole-remove_directory t now (removable_place entry) inode (whole-shape bytes (typed known) whole) there
                 (directory known is whole bytes unit) (vacant known is whole bytes unit))

@@ -35,7 +35,7 @@ use Rattle.jv_changes.specs.Drafting.{Drafting}
 use Rattle.jv_changes.proofs.DraftingLaws.{PastSteps, OfWhole, steps-start, steps-on, steps-stop, steps-fail, steps-commit, transacts-error}
 use Rattle.jv_links.specs.declared.fates.Fate.{Fate as Told}
 use Rattle.jv_links.specs.declared.removing.Removable.{Removable}
-use Rattle.jv_links.specs.Removable.{removable_at, place_of, ComesToRemovable}
+use Rattle.jv_links.specs.Removable.{removable_at, removable_place, ComesToRemovable}
 use Rattle.jv_links.specs.Removals.{HoldsFiles, MayLose, SaysFate, SaysSustained, fate_in, is_inode, kept_by}
 use Rattle.jv_links.proofs.RemovingLaws.{unlink_at, unlink-is, removing-comes, removing-at, removing-kind, past-refused, past-passes}
 
@@ -137,7 +137,7 @@ module _ (who : Who) (caller : Caller) (is_for : IsFor who caller) (path : List 
   says removed = Done
 
   abbrev place : EntryKey
-  place = place_of entry
+  place = removable_place entry
 
   abbrev inode : ℕ
   inode = entry.node.inode

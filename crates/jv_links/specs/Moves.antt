@@ -35,9 +35,9 @@ abbrev pub move_of : Ends → Move
 move_of ends =
     record { from = place_of ends.from; source = ends.source.inode; to = place_of ends.to }
 
-abbrev pub move_in : Result Ends TxFault → Result Move TxFault
-move_in (Ok ends) = Ok (move_of ends)
-move_in (Err fault) = Err fault
+abbrev pub move_found : Result Ends TxFault → Result Move TxFault
+move_found (Ok ends) = Ok (move_of ends)
+move_found (Err fault) = Err fault
 
 -- what a rename asks before it looks at its target
 abbrev pub move_asked : Tree → ℕ → List ℕ → List ℕ → How → Result Move Fault
@@ -72,7 +72,7 @@ pub record EndsStand (store : Store) (ends : Ends) : Type 0 where
 pub record FindsEnds (before after : Store) (result : Result Ends TxFault)
     (finds : Tree → Result Move Fault) : Type 0
   where
-    pub looks : Looks before after (move_in result) finds
+    pub looks : Looks before after (move_found result) finds
     pub stand : IfOk result (EndsStand after)
 
 -- what a tree was found to be for a rename of a kind
@@ -116,10 +116,10 @@ pub record Renames (sid : ℕ) (ready : Tree → Type 0) (before after : Store)
   pub does : Transacts ready before after result (λ removed. Done) act
   pub says : SaysSustained sid ready before (renamed_in result) act
 
-abbrev pub inode_of : Result (Option Place) TxFault → Result (Option ℕ) TxFault
-inode_of (Ok None) = Ok None
-inode_of (Ok (Some place)) = Ok (Some place.inode)
-inode_of (Err fault) = Err fault
+abbrev pub inode_found : Result (Option Place) TxFault → Result (Option ℕ) TxFault
+inode_found (Ok None) = Ok None
+inode_found (Ok (Some place)) = Ok (Some place.inode)
+inode_found (Err fault) = Err fault
 
 abbrev pub StandsIf : Store → Option Place → Type 0
 StandsIf store None = Unit {0}
@@ -129,7 +129,7 @@ StandsIf store (Some place) = Stands store place
 -- stands there
 pub record FindsEntry (before after : Store) (result : Result (Option Place) TxFault)
     (place : EntryKey) : Type 0 where
-  pub looks : Looks before after (inode_of result) (λ t. Ok (get t.entries place))
+  pub looks : Looks before after (inode_found result) (λ t. Ok (get t.entries place))
   pub stand : IfOk result (StandsIf after)
 
 -- An entry of a whole tree that may move to a free place. The links of all that it is about can be

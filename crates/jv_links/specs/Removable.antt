@@ -24,11 +24,11 @@ removable_at t sid path = do
   Ok (place, inode)
 
 -- the place of an entry that was reached
-abbrev pub place_of : Removable → EntryKey
-place_of entry = record { dir = entry.dir; name = entry.name }
+abbrev pub removable_place : Removable → EntryKey
+removable_place entry = record { dir = entry.dir; name = entry.name }
 
 abbrev pub removable_in : Result Removable TxFault → Result (EntryKey × ℕ) TxFault
-removable_in (Ok entry) = Ok (place_of entry, entry.node.inode)
+removable_in (Ok entry) = Ok (removable_place entry, entry.node.inode)
 removable_in (Err fault) = Err fault
 
 -- Readings that reach an entry and its node: over whole rows they are the model's, and the node's

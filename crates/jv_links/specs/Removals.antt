@@ -75,6 +75,11 @@ abbrev pub renamed_in : Result (Option Removed) TxFault → Option (Option Remov
 renamed_in (Ok removed) = Some removed
 renamed_in (Err fault) = None
 
+-- the only file that a session keeps since then and didn't keep before is this one, if it is one
+abbrev pub KeepsAnew : ℕ → Tree → Tree → Option ℕ → Type 0
+KeepsAnew sid before after kept = (inode : ℕ)
+    → (is_sustained after sid inode && not (is_sustained before sid inode)) ≡ is_inode kept inode
+
 -- Over whole rows, whose tree is ready, what was removed says which file the session keeps from
 -- then on.
 abbrev pub SaysSustained : ℕ → (Tree → Type 0) → Store → Option (Option Removed)
@@ -83,8 +88,7 @@ abbrev pub SaysSustained : ℕ → (Tree → Type 0) → Store → Option (Optio
 SaysSustained sid ready before result act =
     IfSome result (λ removed. (known : RowMap) → before.rows ≡ Some known
     → Whole (typed known) → (bytes : ℕ → ℕ → ℕ)
-    → ready (tree_of bytes (typed known)) → (inode : ℕ)
-    → (is_sustained (outcome (tree_of bytes (typed known)) (act (tree_of bytes
-    (typed known)))).tree sid
-    inode && not (is_sustained (tree_of bytes (typed known)) sid inode))
-    ≡ is_inode (kept_of removed) inode)
+    → ready (tree_of bytes (typed known))
+    → KeepsAnew sid (tree_of bytes (typed known))
+    (outcome (tree_of bytes (typed known)) (act (tree_of bytes (typed known)))).tree
+    (kept_of removed))

@@ -16,7 +16,7 @@ use Rattle.jv_outside.specs.Store.{Store}
 use Rattle.jv_changes.specs.Drafting.{Minds}
 use Rattle.jv_volume.specs.Shape.{WholeShape, shape_of}
 use Rattle.jv_links.specs.declared.fates.Removed.{Removed}
-use Rattle.jv_links.specs.Removals.{HoldsFiles, is_inode, kept_of}
+use Rattle.jv_links.specs.Removals.{HoldsFiles, KeepsAnew, kept_of}
 
 -- whether an inode that moves to a directory may stand there in place of another one
 abbrev pub may_replace : Tree → ℕ → ℕ → ℕ → Result (Unit {0}) Fault
@@ -44,7 +44,5 @@ abbrev pub SaysCleared : Caller → EntryKey → ℕ → Bool → List Change �
     → Result (Option Removed) TxFault → Type 0
 SaysCleared who place inode directory was before result = IfOk result (λ removed. (known : RowMap)
     → before.rows ≡ Some known → (bytes : ℕ → ℕ → ℕ) (t : Tree)
-    → Minds known was bytes t → MayClear t who place inode directory → (i : ℕ)
-    → (is_sustained (without_target t who place inode) who.sid i
-    && not (is_sustained t who.sid i)) ≡ is_inode
-    (kept_of removed) i)
+    → Minds known was bytes t → MayClear t who place inode directory
+    → KeepsAnew who.sid t (without_target t who place inode) (kept_of removed))

@@ -52,8 +52,8 @@ fn find_removable<K: Keeper>(
 /// # Errors
 ///
 /// Stale where the session is gone, a walk's to the entry's directory, NotPermitted for `.trash`, its hours and
-/// directories, and NotFound where there is no such entry. Bad for a row that is malformed or names none, Failed if the
-/// keeper failed, Memory. On error no row has changed.
+/// directories, and NotFound where there is no such entry. Bad for a row that is malformed or names none, and without
+/// bytes where the volume has no setting or no counters. Failed if the keeper failed, Memory. On error no row has changed.
 pub fn unlink<K: Keeper>(
     alloc: Global,
     k: &mut K,

@@ -25,9 +25,10 @@ use std::alloc::Global;
 /// Stale where the session is gone; then as of [`jv_rows::walk_to_entry`] for one path and the other; NotPermitted for
 /// `.trash` and its hours, for a target in the trash or in the place of `.trash`, and for an exchange with an entry of
 /// the trash; NotFound where no entry is at `path`, or for an exchange at `to`; AlreadyExists where one is at `to` and
-/// none may be. Then Invalid for a directory that would come into itself, IsADirectory, NotADirectory or DirectoryNotEmpty for what can't replace the
-/// other, and NoSpace where a link count is at its greatest number. Bad for a row that is malformed or names none,
-/// Failed if the keeper failed, Memory. On error no row has changed.
+/// none may be. Then Invalid for a directory that would come into itself, IsADirectory, NotADirectory or
+/// DirectoryNotEmpty for what can't replace the other, and NoSpace where a link count is at its greatest number. Bad for
+/// a row that is malformed or names none, and without bytes where the volume has no setting or no counters. Failed if the
+/// keeper failed, Memory. On error no row has changed.
 pub fn rename<K: Keeper>(
     alloc: Global,
     k: &mut K,

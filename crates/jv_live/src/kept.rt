@@ -37,7 +37,8 @@ fn kept_node<K: Keeper>(alloc: Global, k: &mut K, sid: u64, inode: u64) -> Resul
 /// # Errors
 ///
 /// Stale where the session is gone. Bad where a row that is read is malformed, or the pair names a node that isn't
-/// there. Failed if the keeper failed. Memory. On error no row has changed.
+/// there, and without bytes where the volume has no counters. Failed if the keeper failed. Memory. On error no row has
+/// changed.
 pub fn release<K: Keeper>(alloc: Global, k: &mut K, who: &Who, inode: u64) -> Result<(), TxFault>
     ensures { (caller : Caller) → IsFor who.entry.now caller → caller.inode ≡ inode
         → Transacts Always (K.seen k.old) (K.seen k.new)
@@ -61,8 +62,8 @@ pub fn release<K: Keeper>(alloc: Global, k: &mut K, who: &Who, inode: u64) -> Re
 ///
 /// # Errors
 ///
-/// Stale where the session is gone. Bad where a row that is read is malformed, or a pair names a node that isn't there.
-/// Failed if the keeper failed. Memory. On error no row has changed.
+/// Stale where the session is gone. Bad where a row that is read is malformed, or a pair names a node that isn't there,
+/// and without bytes where the volume has no counters. Failed if the keeper failed. Memory. On error no row has changed.
 pub fn close_session<K: Keeper>(alloc: Global, k: &mut K, who: &Who) -> Result<(), TxFault>
     ensures { (caller : Caller) → IsFor who.entry.now caller
         → Transacts Always (K.seen k.old) (K.seen k.new)

@@ -14,8 +14,8 @@ use jv_outside::Keeper;
 use jv_rows::{Draft, needed_counters};
 use std::alloc::Global;
 
-/// Makes the next session, which is the client's and lasts [`jv_model::lifetimes::SESSION_LIFE`] seconds, and returns its number. JuiceFS, Architecture:
-/// sessions.
+/// Makes the next session, which is the client's and lasts [`jv_model::lifetimes::SESSION_LIFE`] seconds, and returns its
+/// number. JuiceFS, Architecture: sessions.
 ///
 /// # Errors
 ///
@@ -53,7 +53,8 @@ pub fn mount<K: Keeper>(
     }
 }
 
-/// Keeps the caller's session alive for [`jv_model::lifetimes::SESSION_LIFE`] seconds from the moment on. JuiceFS, Architecture: sessions.
+/// Keeps the caller's session alive for [`jv_model::lifetimes::SESSION_LIFE`] seconds from the moment on. JuiceFS,
+/// Architecture: sessions.
 ///
 /// # Errors
 ///

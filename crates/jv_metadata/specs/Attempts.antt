@@ -15,7 +15,7 @@ use Rattle.jv_outside.specs.Store.{Store}
 use Rattle.jv_volume.specs.TypedRows.{typed}
 use Rattle.jv_volume.specs.TreeOf.{tree_of}
 use Rattle.jv_volume.specs.Whole.{Whole}
-use Rattle.jv_links.specs.Removals.{HoldsFiles, is_inode}
+use Rattle.jv_links.specs.Removals.{HoldsFiles, KeepsAnew}
 pub use Rattle.jv_model.specs.script.Spelled.{is_spelled}
 use Rattle.jv_metadata.specs.declared.answers.Answer.{Answer}
 
@@ -42,10 +42,9 @@ pub record Asks (caller : Caller) (handle inode : ℕ) : Type 0 where
 abbrev pub KeepsOne : Caller → Op → Store → Option ℕ → Type 0
 KeepsOne who o before kept = (known : RowMap) → before.rows ≡ Some known → Whole (typed known)
     → (bytes : ℕ → ℕ → ℕ) → HoldsFiles who.held (tree_of bytes (typed known))
-    → (inode : ℕ)
-    → (is_sustained (outcome (tree_of bytes (typed known))
-    (attempt (tree_of bytes (typed known)) who o)).tree who.sid inode
-    && not (is_sustained (tree_of bytes (typed known)) who.sid inode)) ≡ is_inode kept inode
+    → KeepsAnew who.sid (tree_of bytes (typed known))
+    (outcome (tree_of bytes (typed known)) (attempt (tree_of bytes (typed known)) who o)).tree
+    kept
 
 abbrev pub SaysKept : Caller → Op → Store → Result Answer TxFault → Type 0
 SaysKept who o before result =

@@ -25,8 +25,9 @@ use std::alloc::Global;
 ///
 /// # Errors
 ///
-/// Refused as the operation is (docs/MODEL.md). Bad for a malformed row, or one that names a node that isn't there.
-/// Failed if the keeper failed. Memory. The rows are then as before.
+/// Refused as the operation is (docs/MODEL.md). Bad for a malformed row, or one that names a node that isn't there, and
+/// without bytes where the volume has no setting or no counters. Failed if the keeper failed. Memory. The rows are then as
+/// before.
 pub fn transact<K: Keeper>(
     alloc: Global,
     k: &mut K,

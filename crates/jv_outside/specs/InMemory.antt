@@ -112,8 +112,11 @@ calls_code =
     (λ p. record { made = p.0.0; fails = At p.1; faults = p.0.1 })
     (λ c i. record c { fails = At-numbers c.fails i })
 
+abbrev pub place_code : Coded (Option (List ℕ))
+place_code = coded_option (coded_list coded_ℕ)
+
 abbrev pub opened_code : Coded (RowMap × Option (List ℕ))
-opened_code = coded× row_map_code (coded_option (coded_list coded_ℕ))
+opened_code = coded× row_map_code place_code
 
 abbrev pub opened_rows_code : Coded OpenedRows
 opened_rows_code =
@@ -125,9 +128,6 @@ keeper_code =
     code_by ((RowMap × Option (List ℕ)) × CallsValue) (coded× opened_code calls_code)
     (λ k. ((k.rows, k.opened), k.calls))
     (λ p. record { rows = p.0.0; opened = p.0.1; calls = p.1 }) (λ _. refl)
-
-abbrev pub place_code : Coded (Option (List ℕ))
-place_code = coded_option (coded_list coded_ℕ)
 
 abbrev pub device_code : {M : Type 0} → Coded M → Coded (DeviceValue M)
 device_code {M} content =

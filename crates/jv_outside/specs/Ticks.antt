@@ -27,6 +27,6 @@ pub record FailsToAnswer (before after : Ticks) (down : Down) : Type 0 where
   pub cause : HasFailed before.faults after.faults down
 
 -- a call of a clock, by its result
-abbrev pub Answers : Ticks → Ticks → Result ℕ Down → Type 0
-Answers before after (Ok moment) = HasAnswered before after moment
-Answers before after (Err down) = FailsToAnswer before after down
+abbrev pub ClockAnswers : Ticks → Ticks → Result ℕ Down → Type 0
+ClockAnswers before after (Ok moment) = HasAnswered before after moment
+ClockAnswers before after (Err down) = FailsToAnswer before after down

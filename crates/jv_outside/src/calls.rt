@@ -1,4 +1,5 @@
-ghost use Rattle.std.specs.Prelude.{◌≡◌, ℕ, ◌+◌, ◌-◌, ◌^◌, min, Bool, true, false, is_err, IfErr};
+ghost use Rattle.std.specs.Prelude.{◌≡◌, ◌-◌, is_err, IfErr};
+ghost use Rattle.jv_model.specs.Counts.{counted};
 ghost use Rattle.jv_model.specs.declared.fault.Down.TheVariants.{Failed};
 ghost use Rattle.jv_outside.specs.Causes.{HasFailed};
 
@@ -97,7 +98,7 @@ impl Calls {
 
 /// Counts a fault, and returns its error.
 pub(crate) fn fault<T>(faults: &mut u64) -> Result<T, Down>
-    ensures counted { faults.new ≡ min (faults.old + 1) (2 ^ 64 - 1) }
+    ensures counted { faults.new ≡ counted faults.old }
     ensures failed { result ≡ Err Failed }
     ensures cause { IfErr result (HasFailed faults.old faults.new) }
 {

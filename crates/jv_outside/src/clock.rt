@@ -1,4 +1,4 @@
-ghost use Rattle.jv_outside.specs.Ticks.{Ticks, Answers};
+ghost use Rattle.jv_outside.specs.Ticks.{Ticks, ClockAnswers};
 
 use jv_model::{Down, Moment};
 
@@ -11,5 +11,5 @@ pub trait Clock {
     /// The moment now. Returns [`Down::Failed`] if the clock failed, and then the answers to come are the same. It is
     /// never out of memory.
     fn now(&mut self) -> Result<Moment, Down>
-        ensures { Answers (seen self.old) (seen self.new) result };
+        ensures { ClockAnswers (seen self.old) (seen self.new) result };
 }

@@ -1,5 +1,5 @@
-//! What a test reads of devices in memory, without a call of theirs: how often they were called, how many of the calls
-//! failed, where they are opened and what they hold.
+//! What tests and scenes read of devices in memory, without a call of theirs: how often they were called, how many of the
+//! calls failed, where they are opened and what they hold.
 ghost use Rattle.std.specs.Prelude.{◌≡◌, IfOk, None};
 ghost use Rattle.std.specs.Option.{option_copied};
 ghost use Rattle.jv_outside.specs.Blocks.{names_after, staged_at};
@@ -86,7 +86,8 @@ impl MemKeeper {
         place_of(&self.opened)
     }
 
-    /// The rows of a table in the order of their keys. It is no call, and so never fails but out of memory.
+    /// The first [`u32::MAX`] rows of a table in the order of their keys. It is no call, and so never fails but out of
+    /// memory.
     pub fn rows_in(&mut self, tab: u8) -> Result<Rows, AllocError>
         ensures same { self.new ≡ self.old }
         ensures found { IfOk result (λ found. found ≡ rows_after self.old.rows tab None u32.MAX) }
@@ -117,7 +118,7 @@ impl MemDepot {
         place_of(&self.opened)
     }
 
-    /// The objects in the order of their names. It is no call, and so never fails but out of memory.
+    /// The first [`u32::MAX`] objects in the order of their names. It is no call, and so never fails but out of memory.
     pub fn objects(&mut self) -> Result<SeenList, AllocError>
         ensures same { self.new ≡ self.old }
         ensures found { IfOk result (λ found. found ≡ seen_after None u32.MAX self.old.content) }
@@ -179,7 +180,8 @@ impl MemShelf {
         place_of(&self.opened)
     }
 
-    /// The names of a client's blocks in their order. It is no call, and so never fails but out of memory.
+    /// The first [`u32::MAX`] names of a client's blocks in their order. It is no call, and so never fails but out of
+    /// memory.
     pub fn names_of(&mut self, c: ClientId) -> Result<NameList, AllocError>
         ensures same { self.new ≡ self.old }
         ensures found { IfOk result (λ found. found ≡ names_after c None u32.MAX self.old.content) }

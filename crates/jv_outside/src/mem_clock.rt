@@ -1,7 +1,7 @@
 ghost use Rattle.std.specs.Prelude.{◌≡◌, Ok, is_err};
 ghost use Rattle.jv_outside.specs.Calls.{fails_next, after_call};
 ghost use Rattle.jv_outside.specs.InMemory.{ticks_at};
-ghost use Rattle.jv_outside.specs.Ticks.{Answers};
+ghost use Rattle.jv_outside.specs.Ticks.{ClockAnswers};
 
 use crate::calls::{Calls, Fails};
 use crate::clock::Clock;
@@ -40,7 +40,7 @@ impl Clock for MemClock {
     ghost seen = { λ c. ticks_at c.at c.calls.faults };
 
     fn now(&mut self) -> Result<Moment, Down>
-        ensures answers { Answers (ticks_at self.old.at self.old.calls.faults)
+        ensures answers { ClockAnswers (ticks_at self.old.at self.old.calls.faults)
             (ticks_at self.new.at self.new.calls.faults) result }
         ensures fails { is_err result ≡ fails_next self.old.calls }
         ensures calls { self.new.calls ≡ after_call (is_err result) self.old.calls }
@@ -78,7 +78,7 @@ impl Clock for NeverClock {
     ghost seen = { λ at. ticks_at at 0 };
 
     fn now(&mut self) -> Result<Moment, Down>
-        ensures answers { Answers (ticks_at self.old 0) (ticks_at self.new 0) result }
+        ensures answers { ClockAnswers (ticks_at self.old 0) (ticks_at self.new 0) result }
         ensures same { self.new ≡ self.old }
         ensures moment { result ≡ Ok self.old }
     {

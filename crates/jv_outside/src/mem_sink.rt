@@ -1,4 +1,4 @@
-ghost use Rattle.std.specs.Prelude.{◌≡◌, ◌-◌, ◌^◌, ◌<◌, min, length, Some, Ok, IfOk, IsErr, is_err, IsTrue};
+ghost use Rattle.std.specs.Prelude.{◌≡◌, ◌<◌, min, length, Some, Ok, IfOk, IsErr, is_err, IsTrue};
 ghost use Rattle.std.specs.Option.{option_copied};
 ghost use Rattle.jv_outside.specs.Calls.{fails_next, after_call};
 ghost use Rattle.jv_outside.specs.InMemory.{never_failing, stream_of};
@@ -33,7 +33,7 @@ impl MemSink {
     /// A sink that has taken these bytes. A call takes the whole piece.
     pub fn new(taken: Bytes, fails: Fails) -> MemSink
         ensures taken { result.taken ≡ taken }
-        ensures most { result.most ≡ 2 ^ 64 - 1 }
+        ensures most { result.most ≡ usize.MAX }
         ensures calls { result.calls ≡ record { made = 0; fails = fails; faults = 0 } }
     {
         MemSink {

@@ -1,4 +1,4 @@
-ghost use Rattle.std.specs.Prelude.{◌≡◌, ◌-◌, ◌^◌, ◌<◌, min, length, take, drop, Some, Ok, IfOk, is_err};
+ghost use Rattle.std.specs.Prelude.{◌≡◌, ◌<◌, min, length, take, drop, Some, Ok, IfOk, is_err};
 ghost use Rattle.jv_outside.specs.Calls.{fails_next, after_call};
 ghost use Rattle.jv_outside.specs.InMemory.{never_failing, stream_of};
 ghost use Rattle.jv_outside.specs.Stream.{Reads};
@@ -79,7 +79,7 @@ impl MemSource {
     /// A source of these bytes. A call reads as many as fit.
     pub fn new(left: Bytes, fails: Fails) -> MemSource
         ensures left { result.left ≡ left }
-        ensures most { result.most ≡ 2 ^ 64 - 1 }
+        ensures most { result.most ≡ usize.MAX }
         ensures calls { result.calls ≡ record { made = 0; fails = fails; faults = 0 } }
     {
         MemSource {

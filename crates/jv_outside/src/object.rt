@@ -6,7 +6,7 @@ use jv_model::{Bytes, ClientId, Moment, Name, Sequence};
 pub struct Object {
     pub name: Name,
     pub bytes: Bytes,
-    /// When it was published.
+    /// The moment at which it was made ready to be published, in seconds since 1970.
     pub at: Moment,
 }
 

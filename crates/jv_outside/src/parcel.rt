@@ -16,6 +16,7 @@ pub enum Load {
 #[derive(Debug, Drop, PartialEq, Eq)]
 pub struct Parcel {
     pub name: Name,
+    /// The moment at which it was made ready, in seconds since 1970.
     pub at: Moment,
     pub load: Load,
 }

@@ -8,14 +8,14 @@ pub trait Sink {
     ghost seen: { Self → Stream };
 
     /// Takes bytes from the front of `piece`, and returns their number, which may be less than the piece has, and is 0
-    /// only if the piece is empty. Returns [`Down::Failed`] if the sink failed, and then it has taken none. It is never
-    /// out of memory.
+    /// only if the piece is empty. Returns [`Down::Failed`] if the sink failed: where its bytes are known, it has then
+    /// taken none. It is never out of memory.
     fn write(&mut self, piece: &[u8]) -> Result<usize, Down>
         ensures { Writes (seen self.old) (seen self.new) result piece.now };
 }
 
-/// Writes all the bytes, by as many calls as it takes. Returns [`Down::Failed`] after the first call that failed, when
-/// the sink has taken a proper prefix of the bytes.
+/// Writes all the bytes, by as many calls as it takes. Returns [`Down::Failed`] after the first call that failed: where
+/// its bytes are known, the sink has then taken a proper prefix of the bytes.
 pub fn write_whole<K: Sink>(sink: &mut K, bytes: &[u8]) -> Result<(), Down>
     ensures { WritesAll (K.seen sink.old) (K.seen sink.new) result bytes.now }
 {

@@ -1,5 +1,5 @@
-//! Std's readers, writers and clocks as devices. Each error of std is a fault, an interrupted call too, and is counted
-//! in 64 bits, which saturate.
+//! Std's readers, writers and clocks as devices. Each error of std is a fault, an interrupted call too, but for that of a
+//! time before 1970; a writer that takes nothing of a piece is one, too. Faults are counted in 64 bits, which saturate.
 ghost use Rattle.std.specs.Prelude.{◌≡◌, ◌/◌, min, None};
 ghost use Rattle.std.specs.Io.{WritesAtMost};
 ghost use Rattle.std.specs.Duration.{as_nanos};

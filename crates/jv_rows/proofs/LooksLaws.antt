@@ -23,10 +23,10 @@ use Rattle.jv_volume.specs.TreeOf.{tree_of}
 use Rattle.jv_volume.specs.Whole.{Whole}
 use Rattle.jv_rows.specs.Tables.{node_row, edge_row}
 use Rattle.jv_rows.specs.Readings.{ReadsRow}
-use Rattle.jv_rows.specs.Drafts.{cell, drafted, Sees}
+use Rattle.jv_rows.specs.Drafts.{cell, Sees}
 use Rattle.jv_rows.specs.Transactions.{IsBad, Looks}
 use Rattle.jv_rows.proofs.DraftLaws.{sees_stored}
-use Rattle.jv_rows.proofs.TransactionLaws.{Past, past-start, past-as, past-calm, past-ends, past-looks, past-stops, past-gives, past-refuses, drafted-none, fails-looks, fails-sees, stands-sees}
+use Rattle.jv_rows.proofs.TransactionLaws.{Past, past-start, past-as, past-calm, past-ends, past-looks, past-stops, past-gives, past-refuses, fails-looks, fails-sees, stands-sees, as_stored}
 
 -- ---- one part after another
 
@@ -83,12 +83,9 @@ pub seen_edge : {dir : ℕ} {name : List ℕ} {before after : Store} {result : R
 seen_edge {dir = dir} {name = name} {before = before} {after = after} {result = result} r = sees_stored OfEdge edge_of 3 edge_row (edge_key dir name) refl edge_bytes is_edge [] before after result refl r
 
 module _ {A : Type 0} (row : A → Row) (is_allowed : A → Bool) (key : RowKey) (before after : Store) where
-  as_stored : (known : RowMap) → before.rows ≡ Some known → get (drafted [] known) key ≡ get (typed known) key
-  as_stored known is = ap (λ rows. get rows key) (drafted-none known)
-
   -- a reading that failed
   pub not_read : {B : Type 0} (fault : RowFault) (asked : Tree → Result B Fault) → Sees row is_allowed key [] before after (Err fault) → Looks before after (Err (OfRows fault)) asked
-  not_read fault asked r = fails-looks before after asked (OfRows fault) (fails-sees row is_allowed key [] before after as_stored fault r)
+  not_read fault asked r = fails-looks before after asked (OfRows fault) (fails-sees row is_allowed key [] before after (as_stored key before) fault r)
 
   -- a reading, and then what is asked is still asked
   pub was_read : {B : Type 0} (found : Option A) (asked : Tree → Result B Fault) → Sees row is_allowed key [] before after (Ok found) → Past before after asked asked
@@ -96,4 +93,4 @@ module _ {A : Type 0} (row : A → Row) (is_allowed : A → Bool) (key : RowKey)
 
   -- what stands at the key
   pub stands_there : (found : Option A) → Sees row is_allowed key [] before after (Ok found) → (known : RowMap) → before.rows ≡ Some known → get (typed known) key ≡ cell row found
-  stands_there found r known is = stands-sees row is_allowed key [] before after as_stored found r known is
+  stands_there found r known is = stands-sees row is_allowed key [] before after (as_stored key before) found r known is

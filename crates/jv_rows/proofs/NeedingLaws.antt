@@ -34,7 +34,7 @@ use Rattle.jv_rows.specs.Drafts.{Sees, Needs, IsNoRow, RefusesNeeded, drafted}
 use Rattle.jv_rows.specs.Readings.{ReadsRow}
 use Rattle.jv_rows.specs.Tables.{session_row}
 use Rattle.jv_rows.specs.Transactions.{is_needed, IsBad, Malformed, Lacks, BadFault, Looks}
-use Rattle.jv_rows.proofs.TransactionLaws.{FailsBy, Fails, drafted-none, of_known, if_known, fails-looks, fails-sees, stands-sees}
+use Rattle.jv_rows.proofs.TransactionLaws.{FailsBy, Fails, of_known, if_known, fails-looks, fails-sees, stands-sees, as_stored}
 use Rattle.jv_rows.proofs.DraftLaws.{sees_stored}
 
 -- whether the session is there
@@ -51,7 +51,7 @@ module _ (sid : ℕ) (before after : Store) where
 
   pub session-unread : {A : Type 0} (act : Tree → Result A Fault) (fault : RowFault) → Sees OfSession is_session (session_key sid) [] before after (Err fault) → Looks before after (Err (OfRows fault)) act
   session-unread act fault s =
-      fails-looks before after act (OfRows fault) (fails-sees OfSession is_session (session_key sid) [] before after (λ known is. ap (λ rows. get rows (session_key sid)) (drafted-none known)) fault s)
+      fails-looks before after act (OfRows fault) (fails-sees OfSession is_session (session_key sid) [] before after (as_stored (session_key sid) before) fault s)
 
   pub session-there : (session : Session) → Sees OfSession is_session (session_key sid) [] before after (Ok (Some session)) → Looks before after (Ok tt) (session_is sid)
   session-there session s = record {
@@ -59,7 +59,7 @@ module _ (sid : ℕ) (before after : Store) where
     opened_at = s.opened_at;
     counts = s.counts;
     agrees = λ known is whole bytes.
-        let row = stands-sees OfSession is_session (session_key sid) [] before after (λ known is. ap (λ rows. get rows (session_key sid)) (drafted-none known)) (Some session) s known is in
+        let row = stands-sees OfSession is_session (session_key sid) [] before after (as_stored (session_key sid) before) (Some session) s known is in
         ap (λ o. require (is_some o) (Stale (GoneSession sid))) (found_session bytes (typed known) sid session (ap (λ c. session_in (row_in c)) row));
     bad = tt;
   }
@@ -70,7 +70,7 @@ module _ (sid : ℕ) (before after : Store) where
     opened_at = s.opened_at;
     counts = s.counts;
     agrees = λ known is whole bytes.
-        let row = stands-sees OfSession is_session (session_key sid) [] before after (λ known is. ap (λ rows. get rows (session_key sid)) (drafted-none known)) None s known is in
+        let row = stands-sees OfSession is_session (session_key sid) [] before after (as_stored (session_key sid) before) None s known is in
         ap (λ o. require (is_some o) (Stale (GoneSession sid))) (no_session bytes (typed known) sid (ap (λ c. session_in (row_in c)) row));
     bad = if_known (λ known. BadFault (typed known) (Refused (Stale (GoneSession sid)))) before.rows (λ known is. tt);
   }

@@ -7,7 +7,7 @@ use Rattle.jv_model.specs.declared.row.Row.{Row}
 use Rattle.jv_model.specs.rows.RowGrammar.{row_of, is_row}
 use Rattle.jv_model.specs.declared.fault.RowFault.{RowFault}
 use Rattle.jv_model.specs.declared.fault.RowFault.TheVariants.{Bad, Failed, Memory}
-use Rattle.jv_rows.specs.Scans.{row_then, rows_read, AreAllowed, RefusesRow, RefusesRows}
+use Rattle.jv_rows.specs.Scans.{row_then, rows_read, AreAllowed, RefusesBytes, RefusesRows}
 
 -- rows that were read before, and those behind them
 abbrev pub behind : List (RowKey × Row) → Result (List (RowKey × Row)) (RowKey × List ℕ) → Result (List (RowKey × Row)) (RowKey × List ℕ)
@@ -46,7 +46,7 @@ pub record IsReadSoFar (rows : List (RowKey × List ℕ)) (count : ℕ) (list : 
   pub read : rows_read rows ≡ behind list (rows_read (drop count rows))
   pub allowed : AreAllowed list
 
-pub row_refused : (rows : List (RowKey × List ℕ)) (i : ℕ) (front : List (RowKey × Row)) (r : RowKey × List ℕ) (e : RowFault) → i < length rows → r ≡ get_or rows i r → RefusesRow r.0 r.1 e
+pub row_refused : (rows : List (RowKey × List ℕ)) (i : ℕ) (front : List (RowKey × Row)) (r : RowKey × List ℕ) (e : RowFault) → i < length rows → r ≡ get_or rows i r → RefusesBytes r.0 r.1 e
     → rows_read rows ≡ behind front (rows_read (drop i rows)) → RefusesRows rows e
 row_refused rows i front r (Bad at off) lt here h so_far =
     subst (λ (x : RowKey × List ℕ). (row_of x.0.tab x.1 ≡ None) × (rows_read rows ≡ Err x)) (λ j. (sym h.0 j, sym h.1 j)) (h.2, row_ends rows i front r lt here h.2 so_far)

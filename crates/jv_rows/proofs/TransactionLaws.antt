@@ -44,6 +44,10 @@ pub drafted-none : (known : RowMap) → drafted [] known ≡ typed known
 unfolding drafted
 drafted-none known = refl
 
+-- without changes there stands at a key what is stored there
+pub as_stored : (key : RowKey) (before : Store) (known : RowMap) → before.rows ≡ Some known → get (drafted [] known) key ≡ get (typed known) key
+as_stored key before known is = ap (λ rows. get rows key) (drafted-none known)
+
 -- no changes leave what a key has
 pub none_kept : (changes : List Change) (key : RowKey) → changes ≡ [] → (known : RowMap)
     → get (drafted changes known) key ≡ get (typed known) key

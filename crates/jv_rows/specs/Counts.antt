@@ -35,7 +35,7 @@ is_named gone added id =
 abbrev pub recounted : ℕ → ℕ → ℕ → ℕ
 recounted count gone added = count + added - gone
 
--- whether a count may become another: none grows past 2^62
+-- whether a count may become another: none grows past FULL_COUNT
 abbrev pub may_become : ℕ → ℕ → Bool
 may_become count next = nat_le next FULL_COUNT || nat_le next count
 
@@ -70,14 +70,14 @@ pub record Adjusted (gone added : List Rec) (due : ℕ) (rows after : Rows) : Ty
   pub others : (key : RowKey) → is_of_slice (is_named gone added) key ≡ false
       → get after key ≡ get rows key
 
--- a count can't follow: it would grow past 2^62
+-- a count can't follow: it would grow past FULL_COUNT
 pub record IsFull (id gone added : ℕ) (rows : Rows) : Type 0 where
   pub slice : SliceRow
   pub was : get rows (slice_key id) ≡ Some (Ok (OfSlice slice))
   pub full : may_become slice.count (recounted slice.count gone added) ≡ false
 
--- why a slice's count didn't follow: it would grow past 2^62, its row is malformed or absent, the
--- keeper failed, or out of memory
+-- why a slice's count didn't follow: it would grow past FULL_COUNT, its row is malformed or absent,
+-- the keeper failed, or out of memory
 abbrev pub RefusesRecount : ℕ → ℕ → ℕ → List Change → Option RowMap → TxFault → Type 0
 RefusesRecount id gone added changes rows (Refused fault) =
     (fault ≡ NoSpace) × IfSome rows (λ known. IsFull id gone added (drafted changes known))

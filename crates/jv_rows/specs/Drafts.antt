@@ -13,7 +13,7 @@ use Rattle.jv_outside.specs.declared.batch.Change.{Change}
 use Rattle.jv_outside.specs.declared.batch.Change.TheVariants.{Put, Del}
 use Rattle.jv_outside.specs.Rows.{applied}
 use Rattle.jv_outside.specs.Store.{Store}
-use Rattle.jv_rows.specs.Readings.{Counts}
+use Rattle.jv_rows.specs.Readings.{RowCounts}
 use Rattle.jv_rows.specs.Transactions.{TransactionCounts}
 use Rattle.jv_volume.specs.TypedRows.{Cell, Rows, typed}
 
@@ -71,7 +71,7 @@ pub record Sees {A : Type 0} (row : A → Row) (is_allowed : A → Bool) (key : 
     (result : Result (Option A) RowFault) : Type 0 where
   pub rows_are : after.rows ≡ before.rows
   pub opened_at : after.opened ≡ before.opened
-  pub counts : Counts before.faults after.faults result
+  pub counts : RowCounts before.faults after.faults result
   pub found : IfOk result (λ found.
       IfSome before.rows (λ known. get (drafted changes known) key ≡ cell row found))
   pub allowed : IfOk result (λ found. IfSome found (λ x. IsTrue (is_allowed x)))

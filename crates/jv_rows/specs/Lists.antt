@@ -16,7 +16,7 @@ use Rattle.jv_model.specs.rows.RowKeys.{RowMap}
 use Rattle.jv_model.specs.rows.RowPlaces.{list_key}
 use Rattle.jv_outside.specs.Store.{Store}
 use Rattle.jv_volume.specs.TypedRows.{Rows, typed}
-use Rattle.jv_rows.specs.Readings.{Counts}
+use Rattle.jv_rows.specs.Readings.{RowCounts}
 
 -- whether a number comes after one, if there is one
 abbrev pub is_past : Option ℕ → ℕ → Bool
@@ -81,7 +81,7 @@ pub record FindsList (inode : ℕ) (last : Option ℕ) (before now : Store)
     (result : Result (Option (ℕ × List Rec)) RowFault) : Type 0 where
   pub rows_are : now.rows ≡ before.rows
   pub opened_at : now.opened ≡ before.opened
-  pub counts : Counts before.faults now.faults result
+  pub counts : RowCounts before.faults now.faults result
   pub past : IfOk result (λ found. IfSome found (λ f. is_past last f.0 ≡ true))
   pub small : IfOk result (λ found. IfSome found (λ f. f.0 < 2 ^ 32))
   pub allowed : IfOk result (λ found. IfSome found (λ f. IsTrue (is_list f.1)))

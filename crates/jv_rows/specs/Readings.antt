@@ -14,15 +14,16 @@ abbrev pub IsFound : {A : Type 0} → (List ℕ → Option A) → (A → List �
 IsFound read spelled stored None = stored ≡ None
 IsFound read spelled stored (Some x) = (stored ≡ Some (spelled x)) × (read (spelled x) ≡ Some x)
 
--- the keeper's count of faults rose where the reading failed, and is the same otherwise
+-- the keeper's count of faults rose where the keeper failed, and is the same otherwise
 abbrev pub RowCause : ℕ → ℕ → RowFault → Type 0
 RowCause before now (Bad at bytes) = now ≡ before
 RowCause before now Failed = Rose before now
 RowCause before now Memory = now ≡ before
 
-abbrev pub Counts : {A : Type 0} → ℕ → ℕ → Result A RowFault → Type 0
-Counts before now (Ok answer) = now ≡ before
-Counts before now (Err fault) = RowCause before now fault
+-- what a reading does to the keeper's count of faults, by its result
+abbrev pub RowCounts : {A : Type 0} → ℕ → ℕ → Result A RowFault → Type 0
+RowCounts before now (Ok answer) = now ≡ before
+RowCounts before now (Err fault) = RowCause before now fault
 
 -- why a row wasn't read: its stored bytes are malformed, the keeper failed, or out of memory
 abbrev pub RefusesRow : {A : Type 0} → (List ℕ → Option A) → RowKey → Option RowMap → RowFault
@@ -39,7 +40,7 @@ pub record ReadsRow {A : Type 0} (read : List ℕ → Option A) (spelled : A →
     (result : Result (Option A) RowFault) : Type 0 where
   pub rows_are : after.rows ≡ before.rows
   pub opened_at : after.opened ≡ before.opened
-  pub counts : Counts before.faults after.faults result
+  pub counts : RowCounts before.faults after.faults result
   pub found : IfOk result (λ found.
       IfSome before.rows (λ known. IsFound read spelled (get known key) found))
   pub allowed : IfOk result (λ found. IfSome found (λ x. IsTrue (is_allowed x)))

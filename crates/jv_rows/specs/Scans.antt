@@ -9,7 +9,7 @@ use Rattle.jv_model.specs.rows.RowKeys.{RowMap}
 use Rattle.jv_model.specs.rows.RowGrammar.{row_of, is_row}
 use Rattle.jv_outside.specs.Store.{Store}
 use Rattle.jv_outside.specs.Rows.{rows_after}
-use Rattle.jv_rows.specs.Readings.{Counts}
+use Rattle.jv_rows.specs.Readings.{RowCounts}
 
 -- a row and those behind it, up to the first that is malformed
 abbrev pub row_then : RowKey → List ℕ → Option Row → Result (List (RowKey × Row)) (RowKey × List ℕ)
@@ -28,10 +28,10 @@ abbrev pub AreAllowed : List (RowKey × Row) → Type 0
 AreAllowed rows = AllByRecursion (λ r. IsTrue (is_row r.1)) rows
 
 -- why a row wasn't read: it is malformed, or out of memory
-abbrev pub RefusesRow : RowKey → List ℕ → RowFault → Type 0
-RefusesRow key bytes (Bad at off) = (at ≡ key) × (off ≡ bytes) × (row_of key.tab bytes ≡ None)
-RefusesRow key bytes Failed = ⊥
-RefusesRow key bytes Memory = Unit {0}
+abbrev pub RefusesBytes : RowKey → List ℕ → RowFault → Type 0
+RefusesBytes key bytes (Bad at off) = (at ≡ key) × (off ≡ bytes) × (row_of key.tab bytes ≡ None)
+RefusesBytes key bytes Failed = ⊥
+RefusesBytes key bytes Memory = Unit {0}
 
 -- why rows weren't read: the first that is malformed, or out of memory
 abbrev pub RefusesRows : List (RowKey × List ℕ) → RowFault → Type 0
@@ -50,7 +50,7 @@ pub record ScansRows (tab : ℕ) (last : Option RowKey) (count : ℕ) (before af
     (result : Result (List (RowKey × Row)) RowFault) : Type 0 where
   pub rows_are : after.rows ≡ before.rows
   pub opened_at : after.opened ≡ before.opened
-  pub counts : Counts before.faults after.faults result
+  pub counts : RowCounts before.faults after.faults result
   pub found : IfOk result (λ list.
       IfSome before.rows (λ known. rows_read (rows_after known tab last count) ≡ Ok list))
   pub allowed : IfOk result AreAllowed

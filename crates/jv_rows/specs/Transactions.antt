@@ -47,7 +47,7 @@ TransactionCounts before now (Ok x) = now ≡ before
 TransactionCounts before now (Err fault) = FaultCause before now fault
 
 -- Whether a row names another: an entry its node, a directory its parent, a list its slices, and a
--- session's file, which its key tells, its node.
+-- session's file, which its key spells, its node.
 abbrev pub names : RowKey → Row → RowKey → Bool
 names at (OfEdge edge) key = is_key_of (node_key edge.inode) key
 names at (OfNode node) key = (node.kind == 2) && is_key_of (node_key node.parent) key

@@ -148,9 +148,9 @@ fn recount<K: Keeper>(
 ///
 /// # Errors
 ///
-/// Refused with NoSpace where a count would grow past [`jv_model::FULL_COUNT`]. [`RowFault::Bad`] for a slice's row that is malformed, or
-/// without bytes where it is absent; [`RowFault::Failed`] if the keeper failed; [`RowFault::Memory`] out of memory. After
-/// an error some of the changes may be added, and the draft is of no use.
+/// Refused with NoSpace where a count would grow past [`jv_model::FULL_COUNT`]. [`RowFault::Bad`] for a slice's row that is
+/// malformed, or without bytes where it is absent; [`RowFault::Failed`] if the keeper failed; [`RowFault::Memory`] out of
+/// memory. After an error some of the changes may be added, and the draft is of no use.
 pub fn adjust<K: Keeper>(
     alloc: Global,
     k: &mut K,

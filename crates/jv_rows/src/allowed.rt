@@ -1,7 +1,8 @@
 //! What the values of rows may be.
-ghost use Rattle.std.specs.Prelude.{◌≡◌, not, ◌==◌};
+ghost use Rattle.std.specs.Prelude.{◌≡◌};
 ghost use Rattle.std.specs.List.{list_all};
 ghost use Rattle.std.specs.Str.{is_utf8};
+ghost use Rattle.jv_model.specs.Lists.{has_no_zero};
 ghost use Rattle.jv_model.specs.rows.RowGrammar.{is_setting, is_block, is_volume_name, is_name_byte, is_bucket, is_counters, is_node, is_of_kind, is_target, is_edge, is_list, is_slice, is_session};
 ghost use Rattle.jv_model.specs.blocks.Slices.{is_record, is_part};
 
@@ -93,12 +94,12 @@ pub fn allows_counters(c: &Counters) -> bool
 
 /// Whether no byte is 0: paths and the targets of symlinks have none.
 pub fn has_no_zero(bytes: &[u8]) -> bool
-    ensures { result ≡ list_all (λ b. not (b == 0)) bytes.now }
+    ensures { result ≡ has_no_zero bytes.now }
 {
     bytes.iter().all(|byte| *byte != 0)
 }
 
-/// Whether a symlink may have this target: 1 to 4,096 bytes without the byte 0.
+/// Whether a symlink may have this target: 1 to [`MAX_PATH`] bytes without the byte 0.
 fn allows_target(target: &[u8]) -> bool
     ensures { result ≡ is_target target.now }
 {

@@ -1,7 +1,7 @@
 //! The rows of a volume that was just formatted.
 ghost use Rattle.std.specs.Prelude.{◌≡◌, IfOk, IsTrue};
 ghost use Rattle.jv_model.specs.rows.RowGrammar.{is_setting};
-ghost use Rattle.jv_volume.specs.Fresh.{fresh_directory};
+ghost use Rattle.jv_volume.specs.Fresh.{new_directory};
 ghost use Rattle.jv_rows.specs.FreshRows.{default_setting, fresh_rows};
 
 use crate::writing::{put_counters, put_node, put_setting};
@@ -40,9 +40,9 @@ pub fn default_setting(alloc: Global) -> Result<Setting, AllocError>
     })
 }
 
-/// An empty directory whose parent is the root, with these permission bits.
-fn fresh_directory(alloc: Global, mode: u16, at: Moment) -> Node
-    ensures { result ≡ fresh_directory mode at }
+/// An empty directory of a parent, with these permission bits (0 to [`FULL_MODE`]), made at a moment in seconds.
+pub fn new_directory(alloc: Global, parent: u64, mode: u16, at: Moment) -> Node
+    ensures { result ≡ new_directory parent mode at }
 {
     Node {
         kind: 2,
@@ -53,7 +53,7 @@ fn fresh_directory(alloc: Global, mode: u16, at: Moment) -> Node
         mtime: at.seconds(),
         ctime: at.seconds(),
         length: DIRECTORY_LENGTH,
-        parent: ROOT,
+        parent,
         target: Sequence::new(alloc),
     }
 }
@@ -71,13 +71,13 @@ pub fn fresh_rows(alloc: Global, setting: &Setting, at: Moment) -> Result<Batch,
         alloc,
         &mut batch,
         ROOT,
-        &fresh_directory(alloc, FULL_MODE, at),
+        &new_directory(alloc, ROOT, FULL_MODE, at),
     )?;
     put_node(
         alloc,
         &mut batch,
         TRASH_ROOT,
-        &fresh_directory(alloc, READ_ONLY_MODE, at),
+        &new_directory(alloc, ROOT, READ_ONLY_MODE, at),
     )?;
     Ok(batch)
 }

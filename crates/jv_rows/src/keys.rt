@@ -20,7 +20,7 @@ pub fn key_of_setting(alloc: Global) -> RowKey
     }
 }
 
-/// Where the running numbers stand.
+/// Where the next numbers and the running totals stand.
 pub fn key_of_counters(alloc: Global) -> RowKey
     ensures { result ≡ counters_key }
 {

@@ -28,7 +28,7 @@ pub use allowed::{
     allows_session, allows_setting, allows_slice, has_no_zero,
 };
 pub use drafts::Draft;
-pub use fresh::{default_setting, fresh_rows};
+pub use fresh::{default_setting, fresh_rows, new_directory};
 pub use keys::{
     key_of_counters, key_of_dead, key_of_dropped, key_of_edge, key_of_list, key_of_node,
     key_of_session, key_of_setting, key_of_slice, key_of_sustained,

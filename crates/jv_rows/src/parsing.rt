@@ -60,7 +60,7 @@ pub fn parse_setting(alloc: Global, bytes: &[u8]) -> Result<Setting, Misread>
     settled(setting, allowed, rest)
 }
 
-/// The running numbers that the bytes spell. Errors are as of [`parse_setting`].
+/// The next numbers and the running totals that the bytes spell. Errors are as of [`parse_setting`].
 #[tactic(auto, unfolding(jv_model::specs::rows::RowGrammar::counters_of))]
 pub fn parse_counters(bytes: &[u8]) -> Result<Counters, Misread>
     ensures { ReadsAs result (counters_of bytes.now) }

@@ -1,6 +1,6 @@
 //! A keeper's rows, each read by its table's grammar. The readers judge the bytes of a row and not which keys rows may
-//! have: whether an entry's name, a window's number or a session's inode may stand in a key is a question of whole volumes,
-//! which `fsck` and `load` ask.
+//! have: that an entry's name, a window's number or a session's inode may stand in a key is a part of what a whole volume
+//! is.
 ghost use Rattle.std.specs.Prelude.{[], true};
 ghost use Rattle.jv_model.specs.rows.RowGrammar.{is_setting, setting_bytes, setting_of, is_counters, counters_bytes, counters_of, is_node, node_bytes, node_of, is_edge, edge_bytes, edge_of, is_list, list_bytes, list_of, is_slice, slice_bytes, slice_of, is_session, session_bytes, session_of, sustained_of, dropped_bytes, dropped_of, dead_bytes, dead_of};
 ghost use Rattle.jv_model.specs.rows.RowPlaces.{setting_key, counters_key, node_key, edge_key, list_key, slice_key, session_key, sustained_key, dropped_key, dead_key};

@@ -3,7 +3,7 @@ ghost use Rattle.std.specs.Prelude.{◌≡◌, Some, Ok, IfOk, IfErr, IsTrue};
 ghost use Rattle.std.specs.Option.{option_copied};
 ghost use Rattle.jv_model.specs.rows.RowGrammar.{row_of, row_bytes, is_row};
 ghost use Rattle.jv_rows.specs.Reads.{ReadsAs, IsSpelled};
-ghost use Rattle.jv_rows.specs.Scans.{rows_read, AreAllowed, RefusesRow, RefusesRows, ScansRows};
+ghost use Rattle.jv_rows.specs.Scans.{rows_read, AreAllowed, RefusesBytes, RefusesRows, ScansRows};
 
 use crate::misread::Misread;
 use crate::parsing::{
@@ -59,7 +59,7 @@ fn typed_row(alloc: Global, key: RowKey, bytes: Bytes) -> Result<(RowKey, Row), 
     ensures key { IfOk result (λ row. row.0 ≡ key) }
     ensures found { IfOk result (λ row. row_of key.tab bytes ≡ Some row.1) }
     ensures allowed { IfOk result (λ row. IsTrue (is_row row.1)) }
-    ensures refused { IfErr result (RefusesRow key bytes) }
+    ensures refused { IfErr result (RefusesBytes key bytes) }
 {
     match parse_row(alloc, key.tab, bytes.as_slice()) {
         Ok(row) => Ok((key, row)),
@@ -81,8 +81,8 @@ fn typed_rows(alloc: Global, rows: Rows) -> Result<RowList, RowFault>
     Ok(list)
 }
 
-/// The first `n` rows of a table after a key, or from the table's first on. Their keys are not judged, as
-/// [`crate::read_setting`] says.
+/// The first `n` rows of a table after a key, or from the table's first on. Their keys are not judged: which keys rows
+/// may have is a part of what a whole volume is.
 ///
 /// # Errors
 ///

@@ -9,19 +9,19 @@ use jv_model::{
 use std::alloc::{AllocError, Global};
 
 // How many bytes a row of a table has; a node's without its target's.
-const COUNTERS_LEN: usize = 40;
+const COUNTERS_LENGTH: usize = 40;
 
-const NODE_LEN: usize = 47;
+const NODE_LENGTH: usize = 47;
 
-const EDGE_LEN: usize = 9;
+const EDGE_LENGTH: usize = 9;
 
-const SLICE_LEN: usize = 12;
+const SLICE_LENGTH: usize = 12;
 
-const SESSION_LEN: usize = 9;
+const SESSION_LENGTH: usize = 9;
 
-const DROPPED_LEN: usize = 8;
+const DROPPED_LENGTH: usize = 8;
 
-const DEAD_LEN: usize = 12;
+const DEAD_LENGTH: usize = 12;
 
 /// The bytes of a setting. The only error is out of memory, here and for the rows of each other table.
 #[tactic(auto, unfolding(jv_model::specs::rows::RowGrammar::setting_bytes))]
@@ -43,12 +43,12 @@ pub fn spell_setting(alloc: Global, s: &Setting) -> Result<Bytes, AllocError>
     Ok(Sequence::from_vec(out))
 }
 
-/// The bytes of the running numbers.
+/// The bytes of the next numbers and the running totals.
 #[tactic(auto, unfolding(jv_model::specs::rows::RowGrammar::counters_bytes))]
 pub fn spell_counters(alloc: Global, c: &Counters) -> Result<Bytes, AllocError>
     ensures { IfOk result (λ bytes. bytes ≡ counters_bytes c.now) }
 {
-    let mut out = Vec::with_capacity(alloc, COUNTERS_LEN)?;
+    let mut out = Vec::with_capacity(alloc, COUNTERS_LENGTH)?;
     out.extend_from_slice(&c.inode.to_be_bytes())?;
     out.extend_from_slice(&c.slice.to_be_bytes())?;
     out.extend_from_slice(&c.session.to_be_bytes())?;
@@ -62,7 +62,7 @@ pub fn spell_counters(alloc: Global, c: &Counters) -> Result<Bytes, AllocError>
 pub fn spell_node(alloc: Global, node: &Node) -> Result<Bytes, AllocError>
     ensures { IfOk result (λ bytes. bytes ≡ node_bytes node.now) }
 {
-    let mut out = Vec::with_capacity(alloc, NODE_LEN + node.target.len())?;
+    let mut out = Vec::with_capacity(alloc, NODE_LENGTH + node.target.len())?;
     out.push(node.kind)?;
     out.extend_from_slice(&node.mode.to_be_bytes())?;
     out.extend_from_slice(&node.uid.to_be_bytes())?;
@@ -81,7 +81,7 @@ pub fn spell_node(alloc: Global, node: &Node) -> Result<Bytes, AllocError>
 pub fn spell_edge(alloc: Global, edge: &Edge) -> Result<Bytes, AllocError>
     ensures { IfOk result (λ bytes. bytes ≡ edge_bytes edge.now) }
 {
-    let mut out = Vec::with_capacity(alloc, EDGE_LEN)?;
+    let mut out = Vec::with_capacity(alloc, EDGE_LENGTH)?;
     out.push(edge.kind)?;
     out.extend_from_slice(&edge.inode.to_be_bytes())?;
     Ok(Sequence::from_vec(out))
@@ -117,7 +117,7 @@ pub fn spell_list(alloc: Global, list: &List) -> Result<Bytes, AllocError>
 pub fn spell_slice(alloc: Global, slice: &SliceRow) -> Result<Bytes, AllocError>
     ensures { IfOk result (λ bytes. bytes ≡ slice_bytes slice.now) }
 {
-    let mut out = Vec::with_capacity(alloc, SLICE_LEN)?;
+    let mut out = Vec::with_capacity(alloc, SLICE_LENGTH)?;
     out.extend_from_slice(&slice.size.to_be_bytes())?;
     out.extend_from_slice(&slice.count.to_be_bytes())?;
     Ok(Sequence::from_vec(out))
@@ -128,7 +128,7 @@ pub fn spell_slice(alloc: Global, slice: &SliceRow) -> Result<Bytes, AllocError>
 pub fn spell_session(alloc: Global, session: &Session) -> Result<Bytes, AllocError>
     ensures { IfOk result (λ bytes. bytes ≡ session_bytes session.now) }
 {
-    let mut out = Vec::with_capacity(alloc, SESSION_LEN)?;
+    let mut out = Vec::with_capacity(alloc, SESSION_LENGTH)?;
     out.push(session.client)?;
     out.extend_from_slice(&session.expiry.to_be_bytes())?;
     Ok(Sequence::from_vec(out))
@@ -139,7 +139,7 @@ pub fn spell_session(alloc: Global, session: &Session) -> Result<Bytes, AllocErr
 pub fn spell_dropped(alloc: Global, dropped: &Dropped) -> Result<Bytes, AllocError>
     ensures { IfOk result (λ bytes. bytes ≡ dropped_bytes dropped.now) }
 {
-    let mut out = Vec::with_capacity(alloc, DROPPED_LEN)?;
+    let mut out = Vec::with_capacity(alloc, DROPPED_LENGTH)?;
     out.extend_from_slice(&dropped.length.to_be_bytes())?;
     Ok(Sequence::from_vec(out))
 }
@@ -149,7 +149,7 @@ pub fn spell_dropped(alloc: Global, dropped: &Dropped) -> Result<Bytes, AllocErr
 pub fn spell_dead(alloc: Global, dead: &Dead) -> Result<Bytes, AllocError>
     ensures { IfOk result (λ bytes. bytes ≡ dead_bytes dead.now) }
 {
-    let mut out = Vec::with_capacity(alloc, DEAD_LEN)?;
+    let mut out = Vec::with_capacity(alloc, DEAD_LENGTH)?;
     out.extend_from_slice(&dead.size.to_be_bytes())?;
     out.extend_from_slice(&dead.due.to_be_bytes())?;
     Ok(Sequence::from_vec(out))

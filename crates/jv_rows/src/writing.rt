@@ -30,7 +30,7 @@ pub fn put_setting(alloc: Global, batch: &mut Batch, setting: &Setting) -> Resul
     batch.put(key, bytes)
 }
 
-/// Writes the running numbers. Out of memory the batch is as before.
+/// Writes the next numbers and the running totals. Out of memory the batch is as before.
 pub fn put_counters(alloc: Global, batch: &mut Batch, counters: &Counters) -> Result<(), AllocError>
     requires { IsTrue (is_counters counters.now) }
     ensures ok { OnOk result (batch.new ≡ batch.old

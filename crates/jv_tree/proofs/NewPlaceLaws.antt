@@ -18,13 +18,13 @@ use Rattle.jv_model.specs.tree.Tree.{Tree, EntryKey}
 use Rattle.jv_model.specs.tree.Walk.{entry_of}
 use Rattle.jv_outside.specs.Store.{Store}
 use Rattle.jv_rows.specs.declared.walking.EntryPlace.{EntryPlace}
-use Rattle.jv_rows.specs.Drafts.{drafted, Sees}
+use Rattle.jv_rows.specs.Drafts.{Sees}
 use Rattle.jv_rows.specs.Readings.{ReadsRow}
 use Rattle.jv_rows.specs.Tables.{edge_row}
 use Rattle.jv_rows.specs.Walks.{HasNodeRow, pair_in, entry_pair, ComesToEntry}
 use Rattle.jv_rows.proofs.DraftLaws.{sees_stored}
-use Rattle.jv_rows.proofs.TransactionLaws.{Past, past-start, past-as, past-calm, past-looks, past-stops, past-fails, past-gives, past-refuses, drafted-none, fails-sees, stands-sees}
-use Rattle.jv_volume.specs.TypedRows.{Rows, typed}
+use Rattle.jv_rows.proofs.TransactionLaws.{Past, past-start, past-as, past-calm, past-looks, past-stops, past-fails, past-gives, past-refuses, fails-sees, stands-sees, as_stored}
+use Rattle.jv_volume.specs.TypedRows.{typed}
 use Rattle.jv_volume.specs.Views.{row_in, edge_in}
 use Rattle.jv_volume.specs.TreeOf.{tree_of}
 use Rattle.jv_volume.proofs.TreeOfLaws.{get-entries}
@@ -96,14 +96,11 @@ module _ (before middle : Store) (path : List ℕ) where
             → Sees OfEdge is_edge (edge_key place.dir.inode place.name) [] middle after result
         edge_seen result r = sees_stored OfEdge edge_of 3 edge_row (edge_key place.dir.inode place.name) refl edge_bytes is_edge [] middle after result refl r
 
-        kept : (known : RowMap) → middle.rows ≡ Some known → get (drafted [] known) (edge_key place.dir.inode place.name) ≡ get (typed known) (edge_key place.dir.inode place.name)
-        kept known is = ap (λ (rows : Rows). get rows (edge_key place.dir.inode place.name)) (drafted-none known)
-
         -- its edge wasn't read
         pub new_place-unread : (fault : RowFault) → ReadsRow edge_of edge_bytes is_edge (edge_key place.dir.inode place.name) middle after (Err fault) → ComesToEntry before after (Err (OfRows fault)) act
         new_place-unread fault r = record {
           looks = past-fails before middle after act unless_there permitted (OfRows fault)
-              (fails-sees OfEdge is_edge (edge_key place.dir.inode place.name) [] middle after kept fault (edge_seen (Err fault) r));
+              (fails-sees OfEdge is_edge (edge_key place.dir.inode place.name) [] middle after (as_stored (edge_key place.dir.inode place.name) middle) fault (edge_seen (Err fault) r));
           stands = tt;
           allowed = tt;
           directory = tt;
@@ -118,7 +115,7 @@ module _ (before middle : Store) (path : List ℕ) where
           named_by o e known is bytes =
               get-entries bytes (typed known) (place_of place)
               ∙ ap (λ c. option_map (λ (edge : Edge). edge.inode) (edge_in (row_in c)))
-              (stands-sees OfEdge is_edge (edge_key place.dir.inode place.name) [] middle after kept found seen known (w.looks.rows_are ∙ is)
+              (stands-sees OfEdge is_edge (edge_key place.dir.inode place.name) [] middle after (as_stored (edge_key place.dir.inode place.name) middle) found seen known (w.looks.rows_are ∙ is)
               ∙ ap (λ x. option_map (λ (edge : Edge). Ok (OfEdge edge)) x) e)
               ∙ ap (option_map (λ (edge : Edge). edge.inode)) (back o)
             where

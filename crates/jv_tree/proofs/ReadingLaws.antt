@@ -17,7 +17,6 @@ use Rattle.jv_model.specs.declared.setting.Attr.{Attr}
 use Rattle.jv_model.specs.declared.setting.FileKind.{FileKind}
 use Rattle.jv_model.specs.declared.setting.Setting.{Setting}
 use Rattle.jv_model.specs.declared.setting.Space.{Space}
-use Rattle.jv_model.specs.FiniteMap.{get}
 use Rattle.jv_model.specs.rows.RowGrammar.{is_setting, is_counters, is_node}
 use Rattle.jv_model.specs.rows.RowPlaces.{setting_key, counters_key, node_key}
 use Rattle.jv_model.specs.rows.RowKeys.{RowMap}
@@ -34,12 +33,12 @@ use Rattle.jv_volume.specs.Whole.{Whole}
 use Rattle.jv_volume.specs.Views.{row_in, setting_in, setting_at, counters_in, counters_at, node_in, node_row_at}
 use Rattle.jv_volume.proofs.StoredLaws.{HasNode, found_node, no_node, found_counters, found_setting, whole-stored}
 use Rattle.jv_volume.proofs.ReadLaws.{attr_of-row, usage_of-rows}
-use Rattle.jv_rows.specs.Drafts.{Sees, Needs, cell, drafted}
+use Rattle.jv_rows.specs.Drafts.{Sees, Needs, cell}
 use Rattle.jv_rows.specs.Transactions.{IsFor, Looks, Transacts, Always}
 use Rattle.jv_rows.specs.Walks.{Comes}
 use Rattle.jv_rows.specs.declared.walking.Place.{Place}
 use Rattle.jv_rows.proofs.NeedingLaws.{session_is, SettingNeeded, CountersNeeded, stands-needs, fails-needed}
-use Rattle.jv_rows.proofs.TransactionLaws.{Past, past-as, past-calm, past-looks, past-stops, past-fails, past-refuses, transacts-refused, transacts-exit, transacts-answers, drafted-none, fails-sees, stands-sees}
+use Rattle.jv_rows.proofs.TransactionLaws.{Past, past-as, past-calm, past-looks, past-stops, past-fails, past-refuses, transacts-refused, transacts-exit, transacts-answers, fails-sees, stands-sees, as_stored}
 use Rattle.jv_rows.proofs.ArrivalLaws.{has-node, arrives, past-session, stops-session}
 use Rattle.jv_tree.specs.Attributes.{kind_in, attr_in}
 
@@ -310,23 +309,20 @@ module _ (before middle after : Store) (who : Who) (caller : Caller) (is_for : I
     asked : Past before middle fstat_act (described_open inode)
     asked = past-session before middle who caller is_for fstat_act (described_open inode) (begins-fstat caller inode is_inode) session
 
-    unchanged : (known : RowMap) → middle.rows ≡ Some known → get (drafted [] known) (node_key inode) ≡ get (typed known) (node_key inode)
-    unchanged known is = ap (λ rows. get rows (node_key inode)) (drafted-none known)
-
     pub fstat-unread : (result : Result Attr TxFault) (fault : RowFault) → IsErrAnd result (λ e. e ≡ OfRows fault)
         → Sees OfNode is_node (node_key inode) [] middle after (Err fault)
         → Transacts Always before after result (λ attr. Described attr) fstat_act
     fstat-unread result fault is s =
         transacts-exit Always before after (λ attr. Described attr) fstat_act result (OfRows fault) is
         (past-fails before middle after fstat_act (described_open inode) asked (OfRows fault)
-        (fails-sees OfNode is_node (node_key inode) [] middle after unchanged fault s))
+        (fails-sees OfNode is_node (node_key inode) [] middle after (as_stored (node_key inode) middle) fault s))
 
     module _ (found : Option NodeRow) (s : Sees OfNode is_node (node_key inode) [] middle after (Ok found)) where
       seen : Past before after fstat_act (described_open inode)
       seen = past-calm before middle after fstat_act (described_open inode) asked s.rows_are s.opened_at s.counts
 
       stands : (known : RowMap) → before.rows ≡ Some known → node_row_at (typed known) inode ≡ node_in (row_in (cell OfNode found))
-      stands known is = ap (λ c. node_in (row_in c)) (stands-sees OfNode is_node (node_key inode) [] middle after unchanged found s known (asked.rows_are ∙ is))
+      stands known is = ap (λ c. node_in (row_in c)) (stands-sees OfNode is_node (node_key inode) [] middle after (as_stored (node_key inode) middle) found s known (asked.rows_are ∙ is))
 
     pub fstat-there : (node : NodeRow) (attr : Attr) → Sees OfNode is_node (node_key inode) [] middle after (Ok (Some node)) → attr ≡ attr_in inode node
         → Transacts Always before after (Ok attr) (λ attr. Described attr) fstat_act
@@ -372,19 +368,13 @@ module _ (before asking setting_read after : Store) (who : Who) (caller : Caller
     statfs_asked : Past before asking statfs_act usage_answered
     statfs_asked = past-session before asking who caller is_for statfs_act usage_answered (begins-statfs caller) session
 
-    same_setting : (known : RowMap) → asking.rows ≡ Some known → get (drafted [] known) setting_key ≡ get (typed known) setting_key
-    same_setting known is = ap (λ rows. get rows setting_key) (drafted-none known)
-
-    same_counters : (known : RowMap) → setting_read.rows ≡ Some known → get (drafted [] known) counters_key ≡ get (typed known) counters_key
-    same_counters known is = ap (λ rows. get rows counters_key) (drafted-none known)
-
     pub statfs-no_setting : (result : Result Space TxFault) (fault : TxFault) → IsErrAnd result (λ e. e ≡ fault)
         → Needs OfSetting is_setting setting_key [] asking setting_read (Err fault)
         → Transacts Always before setting_read result (λ space. Usage space) statfs_act
     statfs-no_setting result fault is n =
         transacts-exit Always before setting_read (λ space. Usage space) statfs_act result fault is
         (past-fails before asking setting_read statfs_act usage_answered statfs_asked fault
-        (fails-needed OfSetting is_setting setting_key [] asking setting_read same_setting (SettingNeeded refl) fault n))
+        (fails-needed OfSetting is_setting setting_key [] asking setting_read (as_stored setting_key asking) (SettingNeeded refl) fault n))
 
     module _ (setting : Setting) (s : Needs OfSetting is_setting setting_key [] asking setting_read (Ok setting)) where
       with_setting : Past before setting_read statfs_act usage_answered
@@ -396,7 +386,7 @@ module _ (before asking setting_read after : Store) (who : Who) (caller : Caller
       statfs-no_counters result fault is n =
           transacts-exit Always before after (λ space. Usage space) statfs_act result fault is
           (past-fails before setting_read after statfs_act usage_answered with_setting fault
-          (fails-needed OfCounters is_counters counters_key [] setting_read after same_counters (CountersNeeded refl) fault n))
+          (fails-needed OfCounters is_counters counters_key [] setting_read after (as_stored counters_key setting_read) (CountersNeeded refl) fault n))
 
       pub statfs-answers : (counters : Counters) → Needs OfCounters is_counters counters_key [] setting_read after (Ok counters)
           → Transacts Always before after (Ok (record {
@@ -415,10 +405,10 @@ module _ (before asking setting_read after : Store) (who : Who) (caller : Caller
           let t = tree_of bytes (typed known) in
           let stored = whole-stored bytes (typed known) whole in
           let set : setting_at (typed known) ≡ Some setting =
-          ap (λ c. setting_in (row_in c)) (stands-needs OfSetting is_setting setting_key [] asking setting_read same_setting setting s known
+          ap (λ c. setting_in (row_in c)) (stands-needs OfSetting is_setting setting_key [] asking setting_read (as_stored setting_key asking) setting s known
           (statfs_asked.rows_are ∙ here)) in
           let counted : counters_at (typed known) ≡ Some counters =
-          ap (λ c. counters_in (row_in c)) (stands-needs OfCounters is_counters counters_key [] setting_read after same_counters counters n known
+          ap (λ c. counters_in (row_in c)) (stands-needs OfCounters is_counters counters_key [] setting_read after (as_stored counters_key setting_read) counters n known
           (with_setting.rows_are ∙ here)) in
           ap (λ u. answered t (Usage u)) (usage_of-rows t counters (found_counters bytes (typed known) stored counters counted)
           ∙ ap (λ (s : Setting). record { used = counters.used_space; capacity = s.capacity; inodes = counters.used_inodes; limit = s.inodes })

@@ -1,4 +1,5 @@
--- The rows of a volume that was just formatted: its counters and its directories.
+-- The rows of new directories, and of a volume that was just formatted: its counters and its
+-- directories.
 use Rattle.std.specs.Prelude.{ℕ, ◌+◌, []}
 use Rattle.jv_model.specs.declared.limits.TheConstants.{DIRECTORY_LENGTH, ROOT}
 use Rattle.jv_model.specs.declared.row.Counters.{Counters}
@@ -9,9 +10,9 @@ abbrev pub fresh_counters : Counters
 fresh_counters =
     record { inode = ROOT + 1; slice = 1; session = 1; used_space = 0; used_inodes = 0 }
 
--- an empty directory whose parent is the root, with these permission bits, made at a moment
-abbrev pub fresh_directory : ℕ → ℕ → Node
-fresh_directory mode at = record {
+-- an empty directory of a parent, with these permission bits, made at a moment
+abbrev pub new_directory : ℕ → ℕ → ℕ → Node
+new_directory parent mode at = record {
   kind = 2;
   mode = mode;
   uid = 0;
@@ -20,6 +21,10 @@ fresh_directory mode at = record {
   mtime = at;
   ctime = at;
   length = DIRECTORY_LENGTH;
-  parent = ROOT;
+  parent = parent;
   target = [];
 }
+
+-- one whose parent is the root
+abbrev pub fresh_directory : ℕ → ℕ → Node
+fresh_directory mode at = new_directory ROOT mode at

@@ -102,7 +102,7 @@ fresh_tree setting now = record {
   entries = empty_map;
   sessions = empty_map;
   sustained = empty_map;
-  next_inode = 2;
+  next_inode = ROOT + 1;
   next_session = 1;
 }
 

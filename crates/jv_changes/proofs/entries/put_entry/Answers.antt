@@ -4,7 +4,7 @@ use Rattle.jv_model.specs.declared.row.Edge.{Edge}
 use Rattle.jv_model.specs.declared.row.Row.TheVariants.{OfEdge}
 use Rattle.jv_model.specs.rows.RowPlaces.{edge_key}
 use Rattle.jv_model.specs.tree.Tree.{EntryKey}
-use Rattle.jv_changes.specs.Present.{to_node, linked_row}
+use Rattle.jv_changes.specs.Present.{links_to_node, linked_row}
 use Rattle.jv_changes.specs.Ready.{entry_put}
 use Rattle.jv_changes.proofs.DraftedLaws.{was_drafted}
 use Rattle.jv_changes.proofs.EntryChangeLaws.{put-no_dir, put-full_dir, put-full_node, put-made}
@@ -62,5 +62,5 @@ returns g c =
     c.in_ok-parent.parent)
     c.in_ok-parent-2.ensures.0 one two c.put_node.result c.in_ok-put_node.was c.put_node.ensures)
     (put_drafted c.args.inode c.in_ok-node-2.node
-    (linked_row (c.in_ok-node.node.nlink + to_node c.in_ok-node.node.kind) c.in_ok-node.node)
+    (linked_row (c.in_ok-node.node.nlink + links_to_node c.in_ok-node.node.kind) c.in_ok-node.node)
     c.in_ok-node-2.ensures.0 two three c.put_node-2.result c.in_ok-put_node-2.was c.put_node-2.ensures)

@@ -3,7 +3,7 @@ use Rattle.std.proofs.lemmas.Result.{err_from_is_err_and}
 use Rattle.jv_model.specs.rows.RowPlaces.{edge_key}
 use Rattle.jv_model.specs.tree.Changes as model
 use Rattle.jv_model.specs.tree.Tree.{EntryKey}
-use Rattle.jv_changes.specs.Present.{to_node, linked_row}
+use Rattle.jv_changes.specs.Present.{links_to_node, linked_row}
 use Rattle.jv_changes.proofs.DraftedLaws.{was_drafted}
 use Rattle.jv_changes.proofs.EntryChangeLaws.{take-no_dir, take-made}
 use Rattle.jv_changes.proofs.PresentLaws.{put_drafted}
@@ -36,5 +36,5 @@ returns g c =
     c.in_ok-parent.parent)
     c.without_entry-parent.ensures one two c.put_node.result c.in_ok-put_node.was c.put_node.ensures)
     (put_drafted c.args.inode c.unlinked-node.result
-    (linked_row (c.in_ok-node.node.nlink - to_node c.in_ok-node.node.kind) c.in_ok-node.node)
+    (linked_row (c.in_ok-node.node.nlink - links_to_node c.in_ok-node.node.kind) c.in_ok-node.node)
     c.unlinked-node.ensures two three c.put_node-2.result c.in_ok-put_node-2.was c.put_node-2.ensures)
