@@ -17,7 +17,7 @@ use Rattle.jv_cmd.specs.declared.ended.Ended.{Ended}
 use Rattle.jv_cmd.specs.declared.ended.Ended.TheVariants.{LineNotRun, Succeeded}
 use Rattle.jv_cmd.specs.Ends.{status_of}
 use Rattle.jv_cmd.specs.Generating.{PrintsSummary, SumsUp, script_text, with_streams}
-use Rattle.jv_cmd.specs.Run.{BeginWith, IsNotRun, NotBuilt, Malformed, OneTooMany, RunsLines, TooLong}
+use Rattle.jv_cmd.specs.Run.{BeginWith, IsNotRun, LineUnbuilt, NoLine, Off, OneTooMany, RunsLines, TooLong}
 use Rattle.jv_cmd.specs.Stages.{StageValue}
 use Rattle.jv_cmd.specs.Texts.{texts_of}
 use Rattle.jv_cmd.proofs.DrawnLineLaws.{IsRunnable, bare}
@@ -47,8 +47,8 @@ runs_on : (limits : Limits) (number : ℕ) (op : Op) (text : List ℕ) → IsRun
     → limits.writeback ≡ false → number ≤ MAX_LINES → IsNotRun limits number text → ⊥
 runs_on limits number op text runs same direct few (OneTooMany past) = omega (arith, few, past)
 runs_on limits number op text runs same direct few (TooLong long) = omega (arith, long, runs.short, ap length same)
-runs_on limits number op text runs same direct few (Malformed none) = (let read = runs.read in cc)
-runs_on limits number op text runs same direct few (NotBuilt line read off) =
+runs_on limits number op text runs same direct few (Off (NoLine none)) = (let read = runs.read in cc)
+runs_on limits number op text runs same direct few (Off (LineUnbuilt line read off)) =
     let is : Some line ≡ Some (on_client op) = sym read ∙ ap line_of (sym same) ∙ runs.read in
     let line_is : line ≡ on_client op = cc in
     false≢true (sym off ∙ ap (is_built_line limits) line_is ∙ runs.built limits direct)

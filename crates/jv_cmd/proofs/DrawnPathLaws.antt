@@ -9,7 +9,7 @@ use Rattle.std.proofs.lemmas.List.Elements.{All-weaker}
 use Rattle.std.proofs.lemmas.List.Splits.{slice_split_none}
 use Rattle.std.proofs.lemmas.List.Sums.{AllPass-from_list_all}
 use Rattle.jv_model.specs.script.Spelling.{is_decimal_digit}
-use Rattle.jv_model.specs.script.Grammar.{bytes_between, is_plain, path_of, unescaped}
+use Rattle.jv_model.specs.script.Grammar.{bytes_of_escapes, is_plain, path_of, unescaped}
 use Rattle.jv_model.specs.Lists.{has_no_zero}
 use Rattle.jv_model.specs.tree.Walk.{is_absolute}
 use Rattle.jv_script.proofs.DataRoundTripLaws.{weaker}
@@ -24,7 +24,7 @@ plain_read text plain =
     let no_escape = All-weaker (λ c. is_plain c ≡ true) (λ c. (c == 37) ≡ false)
     (λ c is. not-true (c == 37) (and_parts (nat_le 33 c && nat_le c 126) (not (c == 37)) is).1) text
     (AllPass-from_list_all is_plain text plain) in
-    ap bytes_between (slice_split_none (λ c. c == 37) text no_escape) ∙ rw plain (ap Some (append-nil text))
+    ap bytes_of_escapes (slice_split_none (λ c. c == 37) text no_escape) ∙ rw plain (ap Some (append-nil text))
 
 plain_path : (text : List ℕ) → list_all is_plain text ≡ true → is_absolute text ≡ true
     → path_of text ≡ Some text

@@ -21,10 +21,10 @@ use Rattle.jv_cmd.specs.declared.ended.Ended.TheVariants.{BadRow}
 use Rattle.jv_cmd.specs.Cutting.{BeginsWith}
 use Rattle.jv_cmd.specs.Ends.{status_of}
 use Rattle.jv_cmd.specs.Faults.{CountsFaults, on_stage}
-use Rattle.jv_cmd.specs.Run.{AreLines, Beginning, EndsBy, IsKnownClock, IsNotRun, Leaves, NotBuilt, Malformed, Prints, RunsWhole, StartsWhole, StopsAt, session_run}
+use Rattle.jv_cmd.specs.Run.{AreLines, Beginning, EndsBy, IsKnownClock, IsNotRun, IsTextNotRun, Leaves, LineUnbuilt, NoLine, Off, Prints, RunsWhole, StartsWhole, StopsAt, session_run}
 use Rattle.jv_cmd.specs.Stages.{StageValue}
 use Rattle.jv_cmd.specs.Generating.{EndsScript}
-use Rattle.jv_cmd.specs.Steps.{Done, HasUsed, IsTextNotRun, LineUnbuilt, NoLine, ReadsBuilt, Reaches, used}
+use Rattle.jv_cmd.specs.Steps.{Done, HasUsed, ReadsBuilt, Reaches, used}
 use Rattle.jv_cmd.specs.Texts.{texts_of}
 use Rattle.jv_cmd.proofs.DoneLaws.{HasUsed-line, built_more}
 use Rattle.jv_cmd.proofs.EntryLaws.{Enters, Enters-cut, OfNext, OfNext-settled, comes, comes_settled, there}
@@ -244,6 +244,6 @@ StopsAt-from left before now n text s d next begins off = record {
 
 pub IsNotRun-text : (left : Option (List ℕ)) (before now : StageValue) (n : ℕ) (text : List ℕ) (s : ScheduleValue)
     (d : Done left before now n text s) (number : ℕ) (next : List ℕ) → IsTextNotRun next s.limits → IsNotRun before.limits number next
-IsNotRun-text left before now n text s d number next (NoLine e) = Malformed e
+IsNotRun-text left before now n text s d number next (NoLine e) = Off (NoLine e)
 IsNotRun-text left before now n text s d number next (LineUnbuilt line e unbuilt) =
-    NotBuilt line e (subst (λ limits. is_built_line limits line ≡ false) d.limits unbuilt)
+    Off (LineUnbuilt line e (subst (λ limits. is_built_line limits line ≡ false) d.limits unbuilt))

@@ -2,7 +2,7 @@
 use Rattle.std.proofs.Common.{◌≡◌, ℕ, ◌^◌, ◌-◌, ◌<◌, ◌≤◌, true, false, not, ◌==◌, nat_le, List, [], ◌∷◌, length, get_or, arith, refl, zero, suc, None, inl, inr}
 use Rattle.std.specs.List.{list_all}
 use Rattle.jv_model.specs.declared.limits.TheConstants.{MAX_BLOCK}
-use Rattle.jv_model.specs.rows.RowGrammar.{is_block}
+use Rattle.jv_model.specs.rows.RowGrammar.{is_block_length}
 use Rattle.std.proofs.lemmas.Bool.{and_parts, cases_lt, leb-true}
 use Rattle.std.proofs.lemmas.Bool.Decides.{nat_tests}
 use Rattle.std.proofs.Math.Nat.{pow-le-pow_right}
@@ -28,13 +28,13 @@ pub digit_at : (text : List ℕ) (i : ℕ) → is_numeral text ≡ true → i < 
 digit_at text i h below = omega (arith, digit_at_all text i (numeral_digits text h) below)
 
 -- no block is longer than the longest
-pub large_is_no_block : (bytes : ℕ) → MAX_BLOCK < bytes → is_block bytes ≡ false
+pub large_is_no_block : (bytes : ℕ) → MAX_BLOCK < bytes → is_block_length bytes ≡ false
 large_is_no_block bytes large = grind (arith, nat_tests)
 
 pub no_block : (bytes : ℕ) → 2 ^ 64 ≤ bytes → as_block_size bytes ≡ None
 no_block bytes large = rw (large_is_no_block bytes (omega arith)) refl
 
-pub block_is_small : (bytes : ℕ) → is_block bytes ≡ true → bytes ≤ MAX_BLOCK
+pub block_is_small : (bytes : ℕ) → is_block_length bytes ≡ true → bytes ≤ MAX_BLOCK
 block_is_small bytes h = elim (cases_lt MAX_BLOCK bytes) [
   | inl above ↦ let no = large_is_no_block bytes above in cc
   | inr small ↦ small

@@ -36,23 +36,23 @@ abbrev pub repeated_text : List ℕ → List ℕ
 repeated_text [] = codes "-"
 repeated_text (byte ∷ bytes) = hex_pair byte ++ 120 ∷ decimal (length (byte ∷ bytes))
 
-abbrev pub create_words : List ℕ → ℕ → List ℕ
-create_words path mode = codes "create " ++ path ++ 32 ∷ mode_digits mode
+abbrev pub words_of_create : List ℕ → ℕ → List ℕ
+words_of_create path mode = codes "create " ++ path ++ 32 ∷ mode_digits mode
 
-abbrev pub read_words : ℕ → ℕ → ℕ → List ℕ
-read_words handle position size =
+abbrev pub words_of_read : ℕ → ℕ → ℕ → List ℕ
+words_of_read handle position size =
     codes "read" ++ number_word handle ++ number_word position ++ number_word size
 
-abbrev pub write_words : ℕ → ℕ → List ℕ → List ℕ
-write_words handle position bytes =
+abbrev pub words_of_write : ℕ → ℕ → List ℕ → List ℕ
+words_of_write handle position bytes =
     codes "write" ++ number_word handle ++ number_word position ++ 32 ∷ repeated_text bytes
 
 -- an operation of a kind that a drawn script has
 unfoldable pub operation_text : Op → List ℕ
 operation_text (Mount writeback) = codes "mount"
-operation_text (Create path mode) = create_words path mode
-operation_text (Read handle position size) = read_words handle position size
-operation_text (Write handle position bytes) = write_words handle position bytes
+operation_text (Create path mode) = words_of_create path mode
+operation_text (Read handle position size) = words_of_read handle position size
+operation_text (Write handle position bytes) = words_of_write handle position bytes
 operation_text (Flush handle) = codes "flush" ++ number_word handle
 operation_text _ = []
 

@@ -109,14 +109,18 @@ up_to number = filter (λ act. nat_le act.line number)
 abbrev pub IsBuilt : Limits → Line → Type 0
 IsBuilt limits line = is_built_line limits line ≡ true
 
+-- a text that is no line, or a line that isn't built
+pub data IsTextNotRun (text : List ℕ) (limits : Limits) : Type 0 where
+  NoLine : line_of text ≡ None → IsTextNotRun text limits
+  LineUnbuilt : (line : Line) → line_of text ≡ Some line → is_built_line limits line ≡ false
+      → IsTextNotRun text limits
+
 -- why the line of that number isn't run: it is one too many, it is too long, it is malformed, or it
 -- isn't built
 pub data IsNotRun (limits : Limits) (number : ℕ) (text : List ℕ) : Type 0 where
   OneTooMany : MAX_LINES < number → IsNotRun limits number text
   TooLong : MAX_LINE < length text → IsNotRun limits number text
-  Malformed : line_of text ≡ None → IsNotRun limits number text
-  NotBuilt : (line : Line) → line_of text ≡ Some line → is_built_line limits line ≡ false
-      → IsNotRun limits number text
+  Off : IsTextNotRun text limits → IsNotRun limits number text
 
 -- the line after those that were run is off
 pub record StopsAt (before : StageValue) (texts : List (List ℕ)) (lines : List Line)

@@ -1,5 +1,5 @@
 -- How a run gets from line to line.
-use Rattle.std.specs.Prelude.{◌≡◌, ℕ, ◌+◌, ◌≤◌, false, List, [], ◌∷◌, ◌++◌, map, length, All, Option, None, Some, IfSome, IsSomeAnd, Result, Ok, Err}
+use Rattle.std.specs.Prelude.{◌≡◌, ℕ, ◌+◌, ◌≤◌, List, [], ◌∷◌, ◌++◌, map, length, All, Option, None, Some, IfSome, IsSomeAnd, Result, Ok, Err}
 use Rattle.jv_model.specs.declared.act.Act.{Act}
 use Rattle.jv_model.specs.declared.basics.Limits.{Limits}
 use Rattle.jv_model.specs.declared.fault.Device.{Device}
@@ -12,7 +12,6 @@ use Rattle.jv_outside.specs.Causes.{Rose, RoseTimes}
 use Rattle.jv_outside.specs.Stream.{Gains, HasAll, IsCut}
 use Rattle.jv_outside.specs.Ticks.{Passes}
 use Rattle.jv_shared.specs.Shared.{Shared}
-use Rattle.jv_client.specs.Built.{is_built_line}
 use Rattle.jv_client.specs.Makes.{faults_of}
 use Rattle.jv_session.specs.Lines.{AreFailures, BlocksStay, BreaksAt, CutsLine, FromThere, LineState, LineUses, StaysPut, line_state}
 use Rattle.jv_session.specs.Stands.{ScheduleValue, Stands}
@@ -86,7 +85,7 @@ pub record Done (left : Option (List ℕ)) (before now : StageValue) (done : ℕ
   pub whole : (start : Beginning) → StartsWhole before start
       → DoneOn start before now lines done asked text s
 
--- no device has failed that lines use, other than the keeper
+-- source, out and clock haven't failed
 pub record AreCalm (before now : StageValue) : Type 0 where
   pub source : now.source.faults ≡ before.source.faults
   pub out : now.out.faults ≡ before.out.faults
@@ -129,12 +128,6 @@ pub record Advances (line : Line) (number : ℕ) (before after : StageValue) (s 
       (λ p more. Goes p more number asks before.journal after.journal printed s' after.devices)
   pub kept : FromThere line number (used before s) (used after s')
       (λ p more. BlocksStay before.devices after.devices)
-
--- a text that is no line, or a line that isn't built
-pub data IsTextNotRun (text : List ℕ) (limits : Limits) : Type 0 where
-  NoLine : line_of text ≡ None → IsTextNotRun text limits
-  LineUnbuilt : (line : Line) → line_of text ≡ Some line → is_built_line limits line ≡ false
-      → IsTextNotRun text limits
 
 -- the text is a line that may be run
 pub record ReadsBuilt (text : List ℕ) (limits : Limits) (line : Line) : Type 0 where

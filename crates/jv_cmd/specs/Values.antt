@@ -3,7 +3,7 @@ use Rattle.std.specs.Prelude.{ℕ, ◌-◌, ◌*◌, Bool, false, ◌&&◌, ◌|
 use Rattle.std.specs.Option.{option_map_or}
 use Rattle.jv_model.specs.declared.options.TheConstants.{MAX_DIGITS}
 use Rattle.jv_model.specs.declared.limits.TheConstants.{KIB, MIB}
-use Rattle.jv_model.specs.rows.RowGrammar.{is_block}
+use Rattle.jv_model.specs.rows.RowGrammar.{is_block_length}
 use Rattle.jv_model.specs.script.Spelling.{is_numeral, value_of}
 
 -- a number: decimal digits without a leading zero, at most MAX_DIGITS of them
@@ -32,7 +32,7 @@ unfoldable pub unit_of : List ℕ → ℕ
 unit_of text = (if ends_with 77 text then MIB else KIB)
 
 abbrev pub as_block_size : ℕ → Option ℕ
-as_block_size bytes = (if is_block bytes then Some bytes else None)
+as_block_size bytes = (if is_block_length bytes then Some bytes else None)
 
 -- the length of a block, in bytes
 unfoldable pub block_size_of : List ℕ → Option ℕ

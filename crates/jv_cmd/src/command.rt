@@ -49,7 +49,7 @@ const WORDS_REFUSED: u8 = 2;
 /// Apart from such answers, a device's count of faults rises only with status 5, by that device, and standard error's
 /// own faults are passed over.
 ///
-/// With `--generate N` the script is the one that the seed N gives, the source isn't read, and what is printed is one
+/// With `--generate N` the script is the one that is drawn from the seed N, the source isn't read, and what is printed is one
 /// line of totals, once all lines were run.
 pub fn run<S: Source, O: Sink, E: Sink, K: Keeper, D: Depot, H: Shelf, C: Clock>(
     alloc: Global,

@@ -6,7 +6,7 @@ ghost use Rattle.jv_model.specs.script.Printed.{number_word};
 ghost use Rattle.jv_model.specs.client.OpForms.{is_read};
 ghost use Rattle.jv_generator.specs.Summary.{totals_of, with_reply};
 ghost use Rattle.jv_generator.specs.Script.{script};
-ghost use Rattle.jv_cmd.specs.Generating.{EndsScript, PrintsSummary, SumsUp, create_words, is_read_line, line_text, operation_text, read_words, repeated_text, replies_said, reply_said, script_text, spelled_bytes, summary_of, write_words};
+ghost use Rattle.jv_cmd.specs.Generating.{EndsScript, PrintsSummary, SumsUp, words_of_create, is_read_line, line_text, operation_text, words_of_read, repeated_text, replies_said, reply_said, script_text, spelled_bytes, summary_of, words_of_write};
 ghost use Rattle.jv_cmd.specs.Stages.{IsFirst};
 ghost use Rattle.jv_cmd.specs.Texts.{texts_of};
 
@@ -36,7 +36,7 @@ fn push_repeated(text: &mut Vec<u8>, bytes: &[u8]) -> Result<(), AllocError>
 }
 
 fn push_create(text: &mut Vec<u8>, path: &[u8], mode: u16) -> Result<(), AllocError>
-    ensures { OnOk result (text.new.items ≡ text.old.items ++ create_words path.now mode) }
+    ensures { OnOk result (text.new.items ≡ text.old.items ++ words_of_create path.now mode) }
 {
     text.extend_from_slice(b"create ")?;
     text.extend_from_slice(path)?;
@@ -45,7 +45,7 @@ fn push_create(text: &mut Vec<u8>, path: &[u8], mode: u16) -> Result<(), AllocEr
 }
 
 fn push_read(text: &mut Vec<u8>, handle: u64, offset: u64, len: u32) -> Result<(), AllocError>
-    ensures { OnOk result (text.new.items ≡ text.old.items ++ read_words handle offset len) }
+    ensures { OnOk result (text.new.items ≡ text.old.items ++ words_of_read handle offset len) }
 {
     text.extend_from_slice(b"read")?;
     push_number(text, handle)?;
@@ -54,7 +54,7 @@ fn push_read(text: &mut Vec<u8>, handle: u64, offset: u64, len: u32) -> Result<(
 }
 
 fn push_write(text: &mut Vec<u8>, handle: u64, offset: u64, bytes: &[u8]) -> Result<(), AllocError>
-    ensures { OnOk result (text.new.items ≡ text.old.items ++ write_words handle offset bytes.now) }
+    ensures { OnOk result (text.new.items ≡ text.old.items ++ words_of_write handle offset bytes.now) }
 {
     text.extend_from_slice(b"write")?;
     push_number(text, handle)?;

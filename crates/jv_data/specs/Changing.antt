@@ -53,8 +53,8 @@ pub record Changed (makes : Makes) (known : RowMap) (after : Option RowMap)
   pub model : act (tree_with known_bytes (typed known)) ≡ Ok
       (record { tree = tree_with known_bytes (typed left); reply = reply })
 
--- a slice can't be named more often, which the tree doesn't see, and the model's transaction is
--- refused for no other reason
+-- there are too many records for a slice to be named more often, which the tree doesn't see, and the
+-- model's transaction is refused for no other reason
 pub record IsFull (crowded : Rows → Type 0) (rows : Rows) (fault : Fault)
     (wanted : Result Outcome Fault) : Type 0 where
   pub fault_is : fault ≡ NoSpace
@@ -106,7 +106,7 @@ KeepsRest inode before after result =
 abbrev pub Never : Rows → Type 0
 Never rows = ⊥
 
--- `more` records more could name a slice more often than may be
+-- with `more` records more a slice could be named more often than may be
 abbrev pub IsCrowded : ℕ → Rows → Type 0
 IsCrowded more rows = FULL_COUNT < record_count rows + more
 

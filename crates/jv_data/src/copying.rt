@@ -43,9 +43,10 @@ struct CopyCourse {
 ///
 /// Stale where the session is gone, or `src` isn't a file's inode, then where `dst` isn't one; then Invalid where both
 /// are one file and the ranges have a position in common; then FileTooLarge where the target's range would end past
-/// 2^40; then NoSpace where the volume has no room, or a slice would be named more than 2^62 times. Bad for a malformed
-/// row, for a list of the source that names a slice without a row, or without bytes where setting or counters are
-/// needed and absent. Failed if the keeper failed. Memory. On error no row has changed.
+/// [`jv_model::FILE_END`]; then NoSpace where the volume has no room, or where the records of all lists and FILE_END more
+/// are over [`jv_model::FULL_COUNT`], above which a slice could be named too often. Bad for a malformed row, for a list of
+/// the source that names a slice without a row, or without bytes where setting or counters are needed and absent. Failed
+/// if the keeper failed. Memory. On error no row has changed.
 pub fn copy_range<K: Keeper>(
     alloc: Global,
     k: &mut K,
@@ -148,8 +149,8 @@ fn part_len(course: CopyCourse, done: u64) -> u32
     (course.len - done).min(left) as u32
 }
 
-/// Adds to the list of a window of the target the records that show there the part of the source that begins when so
-/// many bytes are done, and returns these records.
+/// Adds to the list of a window of the target the records that show there the part of the source that begins when `done`
+/// bytes are done, and returns these records.
 fn copy_part<K: Keeper>(
     alloc: Global,
     k: &mut K,

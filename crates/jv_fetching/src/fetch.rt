@@ -57,7 +57,7 @@ impl Fetch {
     ghost use Rattle.jv_fetching.specs.Calls.{Asks, HasCached, LooksUp, Wants, first_seen};
     ghost use Rattle.jv_fetching.specs.Inside.{BeginsPart, EndsPart, FillsBegun, FillsFrom, FitsNext, GoesOnAny, GoesTo, Stops, ended};
 
-    /// The reading of `len` bytes from `offset` on, 1 to 67,108,864 of them, over a volume whose blocks have `block`
+    /// The reading of `len` bytes from `offset` on, 1 to [`jv_model::WINDOW`] of them, over a volume whose blocks have `block`
     /// bytes, at least 1. Nothing is read yet. The only error is out of memory. POSIX.1-2017, pread.
     pub fn new(alloc: Global, offset: u64, len: u32, block: u32) -> Result<Fetch, AllocError>
         requires some { 0 < block }

@@ -18,7 +18,7 @@ use Rattle.jv_model.specs.journal.State.{State, given, replied, transacted, newl
 use Rattle.jv_model.specs.journal.Steps.{Start, transacts, Transaction, LooksAt, CompactionLooks, First, Again, CompactionMisses, MissesBlock, CleansItem, DropsFile, MayStep, MayAnswer, Fails, Settles, AtOnce, CountsCache, ReadsViews, CleanedUp, HasCompacted, HasCollected, HasUploaded, Refuses, TooShort, HasReplaced, Sent, FoundNone, IsRefusedIn, SessionGone, InodeGone, CommitLate, CommitTooLarge, NumberRefused, CompactionCrowded, CompactionLate, AnotherList, BlockOwed, MissedTooOften, InReading, InCompaction, begins_step, must_answer, told_of}
 use Rattle.jv_model.specs.journal.Past.{Past, Due, NoMore, Refusal, MayLack, ToAnswer, OneStep, StepMade, CrashEntry, TickEntry, DrainEntries, at_start, begun_by, begun_to, is_over, requested, lined, is_workers, after, advance, past, reached, line_reply, reply_of, refusal_reply}
 use Rattle.jv_model.specs.journal.Legal.{Allowed, AllAllowed, Refuses as RefusesSubmission, LacksMemory as RefusalLacks, OfClient, OfLine, OfWorker}
-use Rattle.jv_laws.specs.Laws.{AnswersModel, AnswersAsTree, is_transaction}
+use Rattle.jv_laws.specs.Laws.{AnswersModel, AnswersAsTree, is_transaction_entry}
 use Rattle.jv_laws.proofs.JournalGrowthLaws.{AllAllowed-parts, past-append, own_client, others_kept, after_line_begin_next, begun_to-begun}
 use Rattle.jv_laws.proofs.JournalStateLaws.{of_kind}
 use Rattle.jv_laws.proofs.JournalDoingLaws.{doing_given}
@@ -145,13 +145,13 @@ stays_on_line p client d r act w may = elim (leb_tells act.line p.line) [
 
 -- an entry of nobody's, by an uploading thread
 
-due_transaction : (p : Past) (act : Act) (kind : ActKind) → IsTrue (is_transaction kind) → (lined p act kind).due ≡ requested p.due
+due_transaction : (p : Past) (act : Act) (kind : ActKind) → IsTrue (is_transaction_entry kind) → (lined p act kind).due ≡ requested p.due
 due_transaction p act (Mounted sid) h = refl
 due_transaction p act Meta h = refl
 due_transaction p act (Opened handle inode) h = refl
 due_transaction p act _ h = absurd (cc)
 
-due_after_transaction : (p : Past) (act : Act) → is_workers p ≡ false → IsTrue (is_transaction act.kind) → (after p act).due ≡ requested p.due
+due_after_transaction : (p : Past) (act : Act) → is_workers p ≡ false → IsTrue (is_transaction_entry act.kind) → (after p act).due ≡ requested p.due
 due_after_transaction p act e h = due_at_own p act e ∙ due_transaction p act act.kind h
 
 -- whose an entry of the present line is
@@ -184,11 +184,11 @@ waits_past p client d r (act ∷ acts) w others may = waits_past (advance p act)
 
 -- the transaction
 
-begins_transaction : (d : Doing) (kind : ActKind) → IsTrue (is_transaction kind) → begins_step d kind ≡ true
+begins_transaction : (d : Doing) (kind : ActKind) → IsTrue (is_transaction_entry kind) → begins_step d kind ≡ true
 begins_transaction d (Answered told) h = absurd (cc)
 begins_transaction d _ h = refl
 
-transacts_on : (p : Past) (act : Act) (client : ℕ) (begins : Bool) → OfClient p act client begins → IsTrue (is_transaction act.kind) → begins ≡ true
+transacts_on : (p : Past) (act : Act) (client : ℕ) (begins : Bool) → OfClient p act client begins → IsTrue (is_transaction_entry act.kind) → begins ≡ true
 transacts_on p act client begins h t = sym h.may.begins_is ∙ begins_transaction h.may.doing act.kind t
 
 record Begins (p : Past) (act : Act) : Type 0 where
@@ -199,15 +199,15 @@ record Begins (p : Past) (act : Act) : Type 0 where
 own_begins : (p : Past) (act : Act) (client : ℕ) (begins : Bool) → IsOnLine client (requested p.due) → OfClient p act client begins → Begins p act
 own_begins p act client begins on h = record { on_line = subst (λ c. IsOnLine c (requested p.due)) (sym h.own) on; begins = begins; of_client = subst (λ c. OfClient p act c begins) (sym h.own) h }
 
-transaction_line : (p : Past) (act : Act) (due : Due) → p.due ≡ due → (act.client ≡ NO_CLIENT → ⊥) → IsTrue (is_transaction act.kind) → OfLine p act due → Begins p act
+transaction_line : (p : Past) (act : Act) (due : Due) → p.due ≡ due → (act.client ≡ NO_CLIENT → ⊥) → IsTrue (is_transaction_entry act.kind) → OfLine p act due → Begins p act
 transaction_line p act NoMore e some t h = absurd h
-transaction_line p act (Refusal client fault) e some t (own, RefusesSubmission k) = let no = ap is_transaction k in absurd (cc)
-transaction_line p act (Refusal client fault) e some t (own, RefusalLacks b k) = let no = ap is_transaction k in absurd (cc)
-transaction_line p act (MayLack client) e some t h = let no = ap is_transaction h.1 in absurd (cc)
+transaction_line p act (Refusal client fault) e some t (own, RefusesSubmission k) = let no = ap is_transaction_entry k in absurd (cc)
+transaction_line p act (Refusal client fault) e some t (own, RefusalLacks b k) = let no = ap is_transaction_entry k in absurd (cc)
+transaction_line p act (MayLack client) e some t h = let no = ap is_transaction_entry h.1 in absurd (cc)
 transaction_line p act (ToAnswer client) e some t h = own_begins p act client _ (Answering (ap requested e)) h
 transaction_line p act (OneStep client) e some t h = own_begins p act client true (Stepping (ap requested e)) h
 transaction_line p act (StepMade client) e some t h = let b = transacts_on p act client false h t in absurd (cc)
-transaction_line p act (CrashEntry client) e some t h = let no = ap is_transaction h.1 in absurd (cc)
+transaction_line p act (CrashEntry client) e some t h = let no = ap is_transaction_entry h.1 in absurd (cc)
 transaction_line p act (TickEntry by) e some t h = absurd (some h.0)
 transaction_line p act (DrainEntries client) e some t h = absurd (some h.0)
 
@@ -215,7 +215,7 @@ no_worker : (p : Past) (act : Act) (worker : Bool) → (act.client ≡ NO_CLIENT
 no_worker p act true some h = absurd (some h.1)
 no_worker p act false some h = (refl, h)
 
-of_transaction : (start : Start) (alone : Bool) (s : State) (client now : ℕ) (c : ModelClient) (d : Doing) (kind : ActKind) → IsTrue (is_transaction kind) → MayStep start alone s client now c d kind → Transaction s client now c d kind
+of_transaction : (start : Start) (alone : Bool) (s : State) (client now : ℕ) (c : ModelClient) (d : Doing) (kind : ActKind) → IsTrue (is_transaction_entry kind) → MayStep start alone s client now c d kind → Transaction s client now c d kind
 of_transaction start alone s client now c d (Mounted sid) t may = may
 of_transaction start alone s client now c d Meta t may = may
 of_transaction start alone s client now c d (Opened handle inode) t may = may
@@ -224,17 +224,17 @@ of_transaction start alone s client now c d _ t may = absurd (cc)
 transacts_no_answer : (c : ModelClient) (d : Doing) → IsTrue (transacts c d) → (told : Answer) → d.does ≡ Answers told → ⊥
 transacts_no_answer c d h told e = let no : IsTrue false = subst (λ does. IsTrue (transacts c (record d { does = does }))) e h in cc
 
-transaction_step : (s : State) (act : Act) (d : Doing) (kind : ActKind) → IsTrue (is_transaction kind) → (s.clients act.client).doing ≡ Some d → ((after_step s act d kind).clients act.client).doing ≡ Some (settled_doing d (transacted s act.client act.at d.op).reply)
+transaction_step : (s : State) (act : Act) (d : Doing) (kind : ActKind) → IsTrue (is_transaction_entry kind) → (s.clients act.client).doing ≡ Some d → ((after_step s act d kind).clients act.client).doing ≡ Some (settled_doing d (transacted s act.client act.at d.op).reply)
 transaction_step s act d (Mounted sid) t e = transaction_doing s act.client act.at d e
 transaction_step s act d Meta t e = transaction_doing s act.client act.at d e
 transaction_step s act d (Opened handle inode) t e = transaction_doing s act.client act.at d e
 transaction_step s act d _ t e = absurd (cc)
 
-transaction_of : (s : State) (act : Act) (o : Option Doing) (d : Doing) → (s.clients act.client).doing ≡ Some d → o ≡ Some d → IsTrue (is_transaction act.kind) → ((of_doing s act o).clients act.client).doing ≡ Some (settled_doing d (transacted s act.client act.at d.op).reply)
+transaction_of : (s : State) (act : Act) (o : Option Doing) (d : Doing) → (s.clients act.client).doing ≡ Some d → o ≡ Some d → IsTrue (is_transaction_entry act.kind) → ((of_doing s act o).clients act.client).doing ≡ Some (settled_doing d (transacted s act.client act.at d.op).reply)
 transaction_of s act None d e is t = absurd (cc)
 transaction_of s act (Some x) d e is t = let same : x ≡ d = cc in subst (λ y. ((after_step s act y act.kind).clients act.client).doing ≡ Some (settled_doing d (transacted s act.client act.at d.op).reply)) (sym same) (transaction_step s act d act.kind t e)
 
-transaction_effect : (s : State) (act : Act) (kind : ActKind) (d : Doing) → (s.clients act.client).doing ≡ Some d → IsTrue (is_transaction kind) → ((effect s (of_kind act kind)).clients act.client).doing ≡ Some (settled_doing d (transacted s act.client act.at d.op).reply)
+transaction_effect : (s : State) (act : Act) (kind : ActKind) (d : Doing) → (s.clients act.client).doing ≡ Some d → IsTrue (is_transaction_entry kind) → ((effect s (of_kind act kind)).clients act.client).doing ≡ Some (settled_doing d (transacted s act.client act.at d.op).reply)
 transaction_effect s act (Mounted sid) d e t = transaction_of s (of_kind act (Mounted sid)) (s.clients act.client).doing d e e t
 transaction_effect s act Meta d e t = transaction_of s (of_kind act Meta) (s.clients act.client).doing d e e t
 transaction_effect s act (Opened handle inode) d e t = transaction_of s (of_kind act (Opened handle inode)) (s.clients act.client).doing d e e t
@@ -244,7 +244,7 @@ record Transacted (p : Past) (act : Act) (d : Doing) : Type 0 where
   waits : Waits (after p act) act.client d (transacted p.state act.client act.at d.op).reply
   no_answer : (told : Answer) → d.does ≡ Answers told → ⊥
 
-transaction_waits : (p : Past) (act : Act) (d : Doing) → (act.client ≡ NO_CLIENT → ⊥) → IsTrue (is_transaction act.kind) → (p.state.clients act.client).doing ≡ Some d → Allowed p act → Transacted p act d
+transaction_waits : (p : Past) (act : Act) (d : Doing) → (act.client ≡ NO_CLIENT → ⊥) → IsTrue (is_transaction_entry act.kind) → (p.state.clients act.client).doing ≡ Some d → Allowed p act → Transacted p act d
 unfolding after
 transaction_waits p act d some t busy may =
     let w = no_worker p act (is_workers p) some may.stands in

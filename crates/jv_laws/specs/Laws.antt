@@ -260,11 +260,11 @@ ClosesCommitWrites = (run : Setup) (before between : List Act) (write close : Ac
 -- answers
 
 -- whether an entry is an operation's metadata transaction
-abbrev pub is_transaction : ActKind → Bool
-is_transaction (Mounted sid) = true
-is_transaction Meta = true
-is_transaction (Opened handle inode) = true
-is_transaction _ = false
+abbrev pub is_transaction_entry : ActKind → Bool
+is_transaction_entry (Mounted sid) = true
+is_transaction_entry Meta = true
+is_transaction_entry (Opened handle inode) = true
+is_transaction_entry _ = false
 
 -- an entry answers with a reply's numbers, and the line prints that reply
 pub record AnswersAsTree (p : Past) (act : Act) (tree_reply : Reply) : Type 0 where
@@ -276,7 +276,7 @@ pub record AnswersAsTree (p : Past) (act : Act) (tree_reply : Reply) : Type 0 wh
 abbrev pub AnswersModel : Type 0
 AnswersModel = (run : Setup) (before between : List Act) (act answer : Act)
     → AllAllowed (at_start run) ((before ++ act ∷ between) ++ answer ∷ [])
-    → (act.client ≡ NO_CLIENT → ⊥) → IsTrue (is_transaction act.kind)
+    → (act.client ≡ NO_CLIENT → ⊥) → IsTrue (is_transaction_entry act.kind)
     → AllByRecursion (λ e. e.client ≡ act.client → ⊥) between → answer.client ≡ act.client
     → (d : Doing)
     → ((begun_to act.line (reached run before)).state.clients act.client).doing ≡ Some d
@@ -293,7 +293,7 @@ pub record AreSeen (run : Setup) (journal : List Act) (client : ℕ) (file : Ope
       (take look journal)).state.tree file.inode)) asked.from asked.to
 
 -- Bytes of the parts of a range, one part for each window, by the looks cited for them, 0 for a
--- window that wasn't read: the second window is read where the first one gave all that was asked of
+-- window that wasn't read: the second window is read where the first one has all that was asked of
 -- it.
 pub data AreRead (run : Setup) (journal : List Act) (client : ℕ) (opened : Option OpenFile)
     (parts : List Asked) (first second : ℕ) (bytes : List ℕ) : Type 0 where
@@ -439,7 +439,7 @@ pub record IsGone (journal : List Act) (t : Tree) (inode : ℕ) : Type 0 where
   pub once : (number : ℕ) → IfSome (entry_at journal number) (λ act.
       act.kind ≡ Cleaned TABLE_OF_DROPPED inode → ⊥)
 
--- a cleaning drops only rows of removed files, those of each once
+-- a cleaning drops the row of a removed file only where the file is gone, and once
 abbrev pub DropsOnlyGone : Type 0
 DropsOnlyGone = (run : Setup) (journal : List Act) (act : Act)
     → AllAllowed (at_start run) (journal ++ act ∷ []) → (inode : ℕ)
@@ -471,7 +471,7 @@ ends_operation (Answered told) = true
 ends_operation _ = false
 
 -- A request of the client's operation in progress changed nothing, and this held in the state
--- before it, at its moment. So many entries stand before it.
+-- before it, at its moment; `before` entries stand before it.
 pub record FoundNothing (run : Setup) (journal : List Act) (client before : ℕ)
     (Holds : State → ℕ → Type 0) : Type 0 where
   pub act : Act

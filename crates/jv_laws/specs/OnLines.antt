@@ -1,19 +1,13 @@
 -- Entries of the line that is present, where no uploading thread makes one.
-use Rattle.std.specs.Prelude.{◌≡◌, ℕ, ◌≤◌, false, MatchOption, List}
-use Rattle.jv_model.specs.declared.limits.TheConstants.{LAST_MOMENT}
+use Rattle.std.specs.Prelude.{◌≡◌, ℕ, false, List}
 use Rattle.jv_model.specs.declared.act.Act.{Act}
 use Rattle.jv_model.specs.journal.Past.{Past, past}
-use Rattle.jv_model.specs.journal.Legal.{AllAllowed, clock_moment}
+use Rattle.jv_model.specs.journal.Legal.{AllAllowed}
+pub use Rattle.jv_model.specs.journal.Legal.{IsNow}
 
 -- no uploading thread makes an entry
 abbrev pub IsAlone : Past → Type 0
 IsAlone q = (n : ℕ) → q.run.by_worker n ≡ false
-
--- the moment of an entry that asks the clock, where lines have let `ticks` seconds pass
-abbrev pub IsNow : Past → ℕ → ℕ → Type 0
-IsNow q ticks now =
-    MatchOption q.run.clock ((q.at ≤ now) × (now ≤ LAST_MOMENT))
-    (λ answers. now ≡ clock_moment q ticks answers)
 
 -- entries are allowed from one past on, and lead to another
 pub record Leads (q : Past) (acts : List Act) (r : Past) : Type 0 where

@@ -17,7 +17,7 @@ pub fn follows_clock()
 {}
 
 /// Where the clock's answers are known, they and the ticks determine the moment of each entry that asks the clock, and
-/// another entry has that of the one before it.
+/// another entry has that of the one before it; entries of uploading threads are left out.
 pub fn moments_are_the_clocks()
     ensures { MomentsAreTheClocks }
 {}
@@ -72,7 +72,7 @@ pub fn reads_are_of_fresh_looks()
     ensures { ReadsAreOfFreshLooks }
 {}
 
-/// Where an entry stands on a later line, each line before has its entries, and no other.
+/// Where an entry stands on a later line, each line before has its entries, and no other but those of uploading threads.
 pub fn lines_have_entries()
     ensures { LinesHaveEntries }
 {}
@@ -103,17 +103,18 @@ pub fn cleans_what_is_due()
     ensures { CleansWhatIsDue }
 {}
 
-/// A cleaning drops only rows of removed files, those of each once.
+/// The row of a removed file is dropped by a cleaning only where the file is gone, and once.
 pub fn drops_only_gone()
     ensures { DropsOnlyGone }
 {}
 
-/// A line whose operation is refused at its submission has that answer alone.
+/// A line whose operation is refused at its submission has that answer alone, or that memory ran out, and no other entry
+/// but those of uploading threads.
 pub fn refused_lines_have_one_entry()
     ensures { RefusedLinesHaveOneEntry }
 {}
 
-/// Only a `clean` expires sessions, purges and drops rows.
+/// Of clients' operations only a `clean` expires sessions, purges and drops rows.
 pub fn cleans_only_in_clean()
     ensures { CleansOnlyInClean }
 {}

@@ -30,7 +30,7 @@ use Rattle.jv_volume.specs.TreeOf.{tree_of}
 use Rattle.jv_volume.specs.Whole.{Whole}
 use Rattle.jv_volume.proofs.ShapeMapLaws.{first_where-none, only_one, is_directory-form, there_of_dir}
 use Rattle.jv_volume.proofs.StoredLaws.{whole-shape}
-use Rattle.jv_volume.proofs.WalkShapeLaws.{went_on, required, was_some, same_Ok, root_directory, trash_directory, parent_directory}
+use Rattle.jv_volume.proofs.WalkShapeLaws.{went_on, required, was_some, same_Ok, root_directory, trash_directory, parent_directory, of_length, of_dir, above, of_name}
 use Rattle.jv_links.specs.Linkable.{linkable}
 
 -- ---- the last step of a walk
@@ -172,18 +172,6 @@ module _ (t : Tree) (w : WholeShape (shape_of t)) (inode : ℕ) (leaf : is_direc
     abbrev entry_at : List ℕ → ℕ → Result EntryKey Fault
     entry_at name dir = Ok (record { dir = dir; name = name })
 
-    abbrev of_length : List ℕ → ℕ → Result EntryKey Fault
-    of_length name dir = require (nat_le (length name) MAX_NAME) NameTooLong >>= (λ _. entry_at name dir)
-
-    abbrev of_dir : List ℕ → ℕ → Result EntryKey Fault
-    of_dir name dir = require (is_directory t dir) NotADirectory >>= (λ _. of_length name dir)
-
-    abbrev above : Result ℕ Fault
-    above = walk MAX_SYMLINKS t true ROOT (all_but_last (names_of path))
-
-    abbrev of_name : List ℕ → Result EntryKey Fault
-    of_name name = require (not (is_dot name || is_dot_dot name)) Invalid >>= (λ _. above >>= of_dir name)
-
     own_by : nat_le (length path) MAX_PATH ≡ true → walk MAX_SYMLINKS t false ROOT (names_of path) ≡ Ok inode
         → Lasts (names_of path) → IsOwn t path inode
     unfolding walk walk_names
@@ -208,11 +196,11 @@ module _ (t : Tree) (w : WholeShape (shape_of t)) (inode : ℕ) (leaf : is_direc
             → is_directory t dir ≡ true → nat_le (length last) MAX_NAME ≡ true
             → entry_of t path ≡ Ok (record { dir = dir; name = last })
         ends fits last is plain dir walked within short =
-            ap (λ b. require b NameTooLong >>= (λ _. some_or (last_item (names_of path)) Invalid >>= of_name)) fits
-            ∙ ap (λ o. some_or o Invalid >>= of_name) is
-            ∙ ap (λ b. require b Invalid >>= (λ _. above >>= of_dir last)) plain
-            ∙ ap (λ r. r >>= of_dir last) walked
-            ∙ ap (λ b. require b NotADirectory >>= (λ _. of_length last dir)) within
+            ap (λ b. require b NameTooLong >>= (λ _. some_or (last_item (names_of path)) Invalid >>= of_name t path)) fits
+            ∙ ap (λ o. some_or o Invalid >>= of_name t path) is
+            ∙ ap (λ b. require b Invalid >>= (λ _. above t path >>= of_dir t path last)) plain
+            ∙ ap (λ r. r >>= of_dir t path last) walked
+            ∙ ap (λ b. require b NotADirectory >>= (λ _. of_length t path last dir)) within
             ∙ ap (λ b. require b NameTooLong >>= (λ _. entry_at last dir)) short
 
     -- the path's own entry names what it leads to

@@ -10,7 +10,7 @@ use Rattle.jv_model.specs.tree.Attempt.{◌>>=◌, require}
 use Rattle.jv_model.specs.tree.Caller.{Caller}
 use Rattle.jv_model.specs.tree.Removing.{may_go}
 use Rattle.jv_model.specs.tree.Renaming.{is_inside, without_target}
-use Rattle.jv_model.specs.tree.Tree.{Tree, EntryKey, is_directory, has_entries, is_sustained}
+use Rattle.jv_model.specs.tree.Tree.{Tree, EntryKey, is_directory, has_entries}
 use Rattle.jv_outside.specs.declared.batch.Change.{Change}
 use Rattle.jv_outside.specs.Store.{Store}
 use Rattle.jv_changes.specs.Drafting.{Minds}

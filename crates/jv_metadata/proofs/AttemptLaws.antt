@@ -1,5 +1,5 @@
 -- A transaction of an operation is that of the call which makes it, and its answer says what that returned.
-use Rattle.std.proofs.Common.{◌≡◌, ℕ, false, List, Option, Some, Result, Ok, Err, refl, sym, subst}
+use Rattle.std.proofs.Common.{◌≡◌, ℕ, false, List, Option, Some, Result, Ok, Err, sym, subst}
 use Rattle.jv_model.specs.declared.basics.How.{How}
 use Rattle.jv_model.specs.declared.fault.Fault.{Fault}
 use Rattle.jv_model.specs.declared.fault.RowFault.TheVariants.{Bad, Failed, Memory}

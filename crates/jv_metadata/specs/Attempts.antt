@@ -1,12 +1,10 @@
 -- The operations that are one transaction on metadata, and what is answered of them.
-use Rattle.std.specs.Prelude.{◌≡◌, ℕ, Bool, true, false, ◌&&◌, not, Option, None, Some, Result, Ok, Err, IfOk, MatchBool}
-use Rattle.jv_model.specs.declared.fault.Fault.{Fault}
+use Rattle.std.specs.Prelude.{◌≡◌, ℕ, false, Option, None, Some, Result, Ok, Err, IfOk, MatchBool}
 use Rattle.jv_model.specs.declared.fault.TxFault.{TxFault}
 use Rattle.jv_model.specs.declared.op.Op.{Op}
 use Rattle.jv_model.specs.declared.op.Reply.{Reply}
 use Rattle.jv_model.specs.journal.State.{is_refused}
 use Rattle.jv_model.specs.rows.RowKeys.{RowMap}
-use Rattle.jv_model.specs.tree.Tree.{Tree, is_sustained}
 use Rattle.jv_model.specs.tree.Caller.{Caller, outcome}
 pub use Rattle.jv_model.specs.tree.TreeAct.{attempt}
 use Rattle.jv_model.specs.client.OpForms.{takes_entries}

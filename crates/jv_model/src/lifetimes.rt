@@ -1,4 +1,4 @@
-//! Spans of time: when a removed file, a session or an upload is due.
+//! Spans of time: when a removed file, a session or an upload is due, and the hours of the trash.
 
 /// The seconds of an hour.
 pub const HOUR: u64 = 3_600;

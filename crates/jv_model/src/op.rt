@@ -206,6 +206,8 @@ pub enum Reply {
         before: u32,
         after: u32,
     },
+    /// What a cleaning took away: expired sessions, entries of the trash without its hours, removed files' lists, and
+    /// dead slices.
     Cleanup {
         sessions: u64,
         trash: u64,
@@ -219,6 +221,7 @@ pub enum Reply {
     },
     /// The block that was uploaded, or none.
     Uploaded(Option<BlockId>),
+    /// Blocks that reads found in the cache and that they did not, blocks in it now, and pending bytes.
     CacheStats {
         hits: u64,
         misses: u64,

@@ -93,7 +93,7 @@ pub struct SliceRow {
 pub struct Session {
     /// 0 to [`crate::LAST_CLIENT`].
     pub client: u8,
-    /// Seconds.
+    /// The moment from which on a cleaning may end it, in seconds since 1970.
     pub expiry: u64,
 }
 

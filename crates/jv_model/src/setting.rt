@@ -86,7 +86,7 @@ pub struct Attr {
     pub nlink: u32,
     pub uid: u32,
     pub gid: u32,
-    /// The length in bytes; 4,096 for a directory.
+    /// The length in bytes; [`crate::DIRECTORY_LENGTH`] for a directory.
     pub size: u64,
     /// Seconds.
     pub mtime: u64,

@@ -6,7 +6,7 @@ use crate::sequence::Sequence;
 /// One contiguous write inside a window: the positions from `pos` on show the bytes of a slice from `off` on.
 #[derive(Clone, Copy, Debug, PartialEq, Eq)]
 pub struct Rec {
-    /// The first position in the window.
+    /// The first position in the window, below [`crate::WINDOW`].
     pub pos: u32,
     /// The slice, or 0 for a part that reads zero.
     pub id: u64,
@@ -14,7 +14,7 @@ pub struct Rec {
     pub size: u32,
     /// Where in the slice the part begins.
     pub off: u32,
-    /// The length of the part in bytes.
+    /// The length of the part in bytes, from 1 on; it ends by the window's end.
     pub len: u32,
 }
 
@@ -64,6 +64,7 @@ pub struct Seen {
     pub name: Name,
     /// The object's length in bytes.
     pub size: u64,
+    /// The moment at which it was made ready to be published, in seconds since 1970.
     pub at: Moment,
 }
 

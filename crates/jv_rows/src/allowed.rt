@@ -3,7 +3,7 @@ ghost use Rattle.std.specs.Prelude.{◌≡◌};
 ghost use Rattle.std.specs.List.{list_all};
 ghost use Rattle.std.specs.Str.{is_utf8};
 ghost use Rattle.jv_model.specs.Lists.{has_no_zero};
-ghost use Rattle.jv_model.specs.rows.RowGrammar.{is_setting, is_block, is_volume_name, is_name_byte, is_bucket, is_counters, is_node, is_of_kind, is_target, is_edge, is_list, is_slice, is_session};
+ghost use Rattle.jv_model.specs.rows.RowGrammar.{is_setting, is_block_length, is_volume_name, is_name_byte, is_bucket, is_counters, is_node, is_of_kind, is_target, is_edge, is_list, is_slice, is_session};
 ghost use Rattle.jv_model.specs.blocks.Slices.{is_record, is_part};
 
 use jv_model::{
@@ -28,7 +28,7 @@ const BLOCK_SIZES: [u32; 9] = [
 
 /// Whether blocks may have this length.
 pub fn allows_block(size: u32) -> bool
-    ensures { result ≡ is_block size }
+    ensures { result ≡ is_block_length size }
 {
     BLOCK_SIZES.contains(&size)
 }
@@ -64,7 +64,7 @@ fn is_text(bytes: &[u8]) -> bool
     from_utf8(bytes).is_ok()
 }
 
-/// Whether objects may lie in this bucket: 1 to 1,024 bytes of UTF-8.
+/// Whether objects may lie in this bucket: 1 to [`MAX_BUCKET`] bytes of UTF-8.
 fn allows_bucket(bucket: &[u8]) -> bool
     ensures { result ≡ is_bucket bucket.now }
 {

@@ -3,7 +3,7 @@ use Rattle.std.proofs.Common.{◌≡◌, ◌≢◌, ◌⊎◌, inl, inr, ◌==�
 use Rattle.std.specs.List.{list_all, flat_map}
 use Rattle.std.proofs.lemmas.Bool.{eq-eqb, ne_eqb, lt-ltb, cases_eq}
 use Rattle.jv_model.specs.script.Spelling.{◌>>=◌}
-use Rattle.jv_model.specs.script.Grammar.{is_plain, is_escape, escape_bytes, bytes_between, unescaped, path_of, target_of}
+use Rattle.jv_model.specs.script.Grammar.{is_plain, is_escape, escape_bytes, bytes_of_escapes, unescaped, path_of, target_of}
 use Rattle.jv_model.specs.Lists.{parted}
 use Rattle.jv_model.specs.tree.Walk.{is_absolute}
 use Rattle.jv_model.specs.Optional.{provided}
@@ -11,7 +11,7 @@ use Rattle.jv_script.specs.Reading.{first_of}
 
 pub unescaped_parts : (text plain : List ℕ) (escapes : List (List ℕ)) → parted 37 text ≡ plain ∷ escapes → unescaped text ≡ provided (list_all is_plain plain && list_all is_escape escapes) (plain ++ flat_map escape_bytes escapes)
 unfolding unescaped
-unescaped_parts text plain escapes e = ap bytes_between e
+unescaped_parts text plain escapes e = ap bytes_of_escapes e
 
 sound : (a b : Bool) (bytes : List ℕ) → IsSome (provided (a && b) bytes) → (b ≡ true) × (provided (a && b) bytes ≡ Some bytes)
 sound true true bytes some = (refl, refl)

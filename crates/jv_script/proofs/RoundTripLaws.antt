@@ -9,7 +9,7 @@ use Rattle.std.proofs.lemmas.List.Splits.{slice_split-cons_no, slice_split-cons_
 use Rattle.jv_model.specs.blocks.BlockNames.{upper_digit}
 use Rattle.jv_model.specs.script.Spelling.{is_hex_digit, hex_value, byte_of}
 use Rattle.jv_model.specs.script.ReplyText.{is_kept_in_name, is_kept_in_path, escaped_byte, name_text, path_text}
-use Rattle.jv_model.specs.script.Grammar.{is_plain, is_escape, escape_bytes, bytes_between, unescaped, path_of, target_of}
+use Rattle.jv_model.specs.script.Grammar.{is_plain, is_escape, escape_bytes, bytes_of_escapes, unescaped, path_of, target_of}
 use Rattle.jv_model.specs.Lists.{parted}
 use Rattle.jv_model.specs.tree.Walk.{is_absolute}
 use Rattle.jv_model.specs.Optional.{provided}
@@ -57,9 +57,9 @@ some_part text = omega (arith, length-slice_split (λ c. c == 37) text)
 -- a byte that is written as itself
 plain_in_front : (c : ℕ) (text : List ℕ) → is_plain c ≡ true → (c == 37) ≡ false → unescaped (c ∷ text) ≡ option_map (λ bytes. c ∷ bytes) (unescaped text)
 unfolding unescaped
-plain_in_front c text plain other = ap bytes_between (slice_split-cons_no (λ c. c == 37) c text other) ∙ by_parts (parted 37 text) (some_part text)
+plain_in_front c text plain other = ap bytes_of_escapes (slice_split-cons_no (λ c. c == 37) c text other) ∙ by_parts (parted 37 text) (some_part text)
   where
-    by_parts : (parts : List (List ℕ)) → 0 < length parts → bytes_between (onto_first c parts) ≡ option_map (λ bytes. c ∷ bytes) (bytes_between parts)
+    by_parts : (parts : List (List ℕ)) → 0 < length parts → bytes_of_escapes (onto_first c parts) ≡ option_map (λ bytes. c ∷ bytes) (bytes_of_escapes parts)
     by_parts [] some = absurd (omega arith)
     by_parts (first ∷ escapes) some =
         rw plain (onto_value c (list_all is_plain first && list_all is_escape escapes) (first ++ flat_map escape_bytes escapes))
@@ -72,10 +72,10 @@ escape_in_front : (high low : ℕ) (text : List ℕ) → is_hex_digit high ≡ t
     → unescaped (37 ∷ high ∷ low ∷ text) ≡ option_map (λ bytes. byte_of high low ∷ bytes) (unescaped text)
 unfolding unescaped
 escape_in_front high low text is_high is_low some =
-    ap bytes_between (slice_split-cons_yes (λ c. c == 37) 37 (high ∷ low ∷ text) refl ∙ ap (λ (parts : List (List ℕ)). [] ∷ parts) (slice_split-cons_no (λ c. c == 37) high (low ∷ text) (hex_is_no_percent high is_high) ∙ ap (onto_first high) (slice_split-cons_no (λ c. c == 37) low text (hex_is_no_percent low is_low))))
+    ap bytes_of_escapes (slice_split-cons_yes (λ c. c == 37) 37 (high ∷ low ∷ text) refl ∙ ap (λ (parts : List (List ℕ)). [] ∷ parts) (slice_split-cons_no (λ c. c == 37) high (low ∷ text) (hex_is_no_percent high is_high) ∙ ap (onto_first high) (slice_split-cons_no (λ c. c == 37) low text (hex_is_no_percent low is_low))))
     ∙ by_parts (parted 37 text) (some_part text)
   where
-    by_parts : (parts : List (List ℕ)) → 0 < length parts → bytes_between ([] ∷ onto_first high (onto_first low parts)) ≡ option_map (λ bytes. byte_of high low ∷ bytes) (bytes_between parts)
+    by_parts : (parts : List (List ℕ)) → 0 < length parts → bytes_of_escapes ([] ∷ onto_first high (onto_first low parts)) ≡ option_map (λ bytes. byte_of high low ∷ bytes) (bytes_of_escapes parts)
     by_parts [] none = absurd (omega arith)
     by_parts (first ∷ escapes) more =
         rw (is_high, is_low, lt-ltb 0 (byte_of high low) some) (onto_value (byte_of high low) (list_all is_plain first && list_all is_escape escapes) (first ++ flat_map escape_bytes escapes))

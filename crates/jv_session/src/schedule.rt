@@ -73,8 +73,9 @@ impl Schedule {
     }
 
     /// Runs a line that is built, and whose number is one above that of the line before, over the rows of the keeper
-    /// and the blocks of the door's yard, which is in. Asks the clock before each step, and not for a line that makes
-    /// none. Returns how the line ended, and [`LineEnd`] says what is then left.
+    /// and the blocks of the door's yard, which is in. Asks the clock before each step and before the one entry of a line
+    /// that makes no step, and not for a line without an entry. Returns how the line ended, and [`LineEnd`] says what is
+    /// then left.
     pub fn line<K: Keeper, D: Depot, H: Shelf, C: Clock>(
         &mut self,
         line: Line,

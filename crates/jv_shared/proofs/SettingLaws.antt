@@ -9,7 +9,7 @@ use Rattle.jv_model.specs.declared.row.Row.TheVariants.{OfSetting}
 use Rattle.jv_model.specs.declared.setting.Setting.{Setting}
 use Rattle.jv_model.specs.FiniteMap.{get}
 use Rattle.jv_model.specs.rows.RowFields.{whole, byte_at, front_at, half_at, word_at, long_at}
-use Rattle.jv_model.specs.rows.RowGrammar.{block_sizes, is_block, is_setting, row_of, setting_of}
+use Rattle.jv_model.specs.rows.RowGrammar.{block_sizes, is_block_length, is_setting, row_of, setting_of}
 use Rattle.jv_model.specs.rows.RowKeys.{RowMap}
 use Rattle.jv_model.specs.rows.RowPlaces.{setting_key}
 use Rattle.jv_model.proofs.TestLaws.{then_all}
@@ -28,7 +28,7 @@ one_of block (size ∷ sizes) (first, others) h = by_test (size == block) refl h
     by_test true e h later = subst IsLength (eqb-true size block e) first
     by_test false e h later = later h
 
-a_length : (block : ℕ) → is_block block ≡ true → IsLength block
+a_length : (block : ℕ) → is_block_length block ≡ true → IsLength block
 a_length block h = one_of block block_sizes lengths h
   where
     lengths : AllByRecursion IsLength block_sizes

@@ -7,6 +7,7 @@ use Rattle.jv_outside.specs.declared.parcel.Parcel.{Parcel}
 use Rattle.jv_outside.specs.Objects.{IsPublished, bytes_at}
 use Rattle.jv_outside.specs.Blocks.{staged_at}
 use Rattle.jv_outside.specs.Parcels.{Carries}
+use Rattle.jv_yard.specs.declared.note.TheConstants.{MAIN}
 use Rattle.jv_yard.specs.declared.note.Note.{Note}
 use Rattle.jv_yard.specs.declared.note.What.{What}
 use Rattle.jv_yard.specs.declared.note.What.TheVariants.{Put}
@@ -38,7 +39,7 @@ GetsBlock client name before after (Err fault) = Refuses before after fault
 
 -- a note of main on a client's block
 abbrev pub note_of : ℕ → What → BlockId → Note
-note_of client what block = record { by = 0; client = client; what = what; block = block }
+note_of client what block = record { by = MAIN; client = client; what = what; block = block }
 
 -- a parcel for a block of the volume, with as many bytes as its name says
 pub record IsBlockParcel (setting : Setting) (parcel : Parcel) : Type 0 where

@@ -31,7 +31,7 @@ impl From<AllocError> for YardFault {
 }
 
 /// What an error of a device is to the yard, by what it is where the device failed.
-pub(crate) fn yard_fault(failed: YardFault, down: Down) -> YardFault
+pub(crate) fn fault_by(failed: YardFault, down: Down) -> YardFault
     ensures { result ≡ fault_by failed down }
 {
     match down {

@@ -5,7 +5,7 @@ ghost use Rattle.jv_yard.specs.Pages.{AddsNames, ListsPage, next_after};
 ghost use Rattle.jv_yard.specs.Starting.{FindsStaged, FindsAll};
 ghost use Rattle.jv_yard.specs.YardValue.{NamesBlock};
 
-use crate::faults::{YardFault, yard_fault};
+use crate::faults::{YardFault, fault_by};
 use crate::staging::ClientBlocks;
 use jv_model::{CLIENTS, ClientId, Moment, Name, NameList, Sequence, Setting, copied};
 use jv_outside::Shelf;
@@ -63,7 +63,7 @@ fn list_page<H: Shelf>(
 {
     match shelf.list(c, after, PAGE) {
         Ok(names) => Ok(names),
-        Err(down) => Err(yard_fault(YardFault::Shelf, down)),
+        Err(down) => Err(fault_by(YardFault::Shelf, down)),
     }
 }
 

@@ -24,7 +24,7 @@ pub enum What {
 pub struct Note {
     /// Who did it: [`MAIN`], or the number of a worker.
     pub by: u32,
-    /// The block's client, a number from 0 to 7.
+    /// The block's client, a number up to [`jv_model::LAST_CLIENT`].
     pub client: u8,
     pub what: What,
     pub block: BlockId,

@@ -6,7 +6,7 @@ ghost use Rattle.jv_yard.specs.BlockCalls.{GetsBlock, IsBlockParcel, PutsBlock};
 ghost use Rattle.jv_yard.specs.Starting.{IsStarted, ShelfRefuses};
 ghost use Rattle.jv_yard.specs.Staging.{staged_since};
 
-use crate::faults::{YardFault, yard_fault};
+use crate::faults::{YardFault, fault_by};
 use crate::finding::find_staged;
 use crate::note::{MAIN, Note, What};
 use crate::staging::ClientBlocks;
@@ -109,12 +109,12 @@ impl<D: Depot, H: Shelf> Yard<D, H> {
         if self.is_staged(c, name) {
             match self.shelf.get(c, name) {
                 Ok(bytes) => Ok(bytes),
-                Err(down) => Err(yard_fault(YardFault::Shelf, down)),
+                Err(down) => Err(fault_by(YardFault::Shelf, down)),
             }
         } else {
             match self.depot.get(name) {
                 Ok(bytes) => Ok(bytes),
-                Err(down) => Err(yard_fault(YardFault::Depot, down)),
+                Err(down) => Err(fault_by(YardFault::Depot, down)),
             }
         }
     }
@@ -149,7 +149,7 @@ impl<D: Depot, H: Shelf> Yard<D, H> {
                 push_in_room(&mut self.log, note);
                 Ok(())
             }
-            Err((parcel, down)) => Err((parcel, yard_fault(YardFault::Depot, down))),
+            Err((parcel, down)) => Err((parcel, fault_by(YardFault::Depot, down))),
         }
     }
 

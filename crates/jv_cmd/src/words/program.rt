@@ -178,7 +178,7 @@ fn with_staging<'a>(alloc: Global, command: Command<'a>) -> Result<Command<'a>, 
         "cache-dir",
         "TEXT",
         "juicevol-cache",
-        "The folder of staged and cached blocks",
+        "The folder of staged blocks",
     );
     let command = with_arg(command, writeback)?;
     with_arg(command, folder)

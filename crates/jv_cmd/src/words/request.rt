@@ -32,11 +32,11 @@ pub struct SessionOptions {
     /// The most pending bytes in MiB, from [`jv_model::options::MIN_BUFFER`] to [`jv_model::options::MAX_BUFFER`].
     pub buffer: u64,
     /// Uploads at once, at most [`jv_model::options::MAX_UPLOADS`]; with 0 there are none but those that a script line
-    /// asks for.
+    /// asks for. Without effect yet.
     pub uploads: u32,
-    /// Written blocks are staged first, and uploaded later.
+    /// Written blocks are staged first, and uploaded later. Without effect yet.
     pub writeback: bool,
-    /// The folder of staged and cached blocks.
+    /// The folder of staged blocks.
     pub cache_dir: Text,
     /// The seed of the script that is run in place of the source's.
     pub generate: Option<u64>,

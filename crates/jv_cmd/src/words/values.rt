@@ -2,7 +2,7 @@ ghost use Rattle.std.specs.Prelude.{◌≤◌, IfSome, ◌≡◌, ◌||◌, ◌=
 ghost use Rattle.std.specs.List.{list_all};
 ghost use Rattle.std.specs.Option.{option_copied};
 ghost use Rattle.jv_model.specs.script.Spelling.{is_numeral, is_decimal_digit, number_of};
-ghost use Rattle.jv_model.specs.rows.RowGrammar.{is_block};
+ghost use Rattle.jv_model.specs.rows.RowGrammar.{is_block_length};
 ghost use Rattle.jv_cmd.specs.Values.{number_of_digits, number_within, digits_of, unit_of, block_size_of, place_of};
 
 use jv_model::options::MAX_DIGITS;
@@ -92,7 +92,7 @@ fn unit(text: &[u8]) -> u64
 
 #[tactic(auto, using(crate::proofs::ValuesLaws::large_is_no_block))]
 fn is_block_size(bytes: u64) -> bool
-    ensures { result ≡ is_block bytes }
+    ensures { result ≡ is_block_length bytes }
 {
     bytes <= u64::from(MAX_BLOCK) && allows_block(bytes as u32)
 }

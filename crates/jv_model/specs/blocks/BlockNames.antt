@@ -1,5 +1,5 @@
 -- The names of blocks as objects.
-use Rattle.std.specs.Prelude.{◌≡◌, ℕ, ◌/◌, ◌%◌, ◌<◌, ◌≤◌, ◌^◌, ◌==◌, if◌then◌else◌, List, [], ◌∷◌, ◌++◌, slice_index, codes, decimal}
+use Rattle.std.specs.Prelude.{◌≡◌, ℕ, ◌/◌, ◌%◌, ◌<◌, ◌≤◌, ◌^◌, Bool, ◌&&◌, ◌==◌, nat_lt, nat_le, if◌then◌else◌, List, [], ◌∷◌, ◌++◌, slice_index, codes, decimal}
 use Rattle.jv_model.specs.declared.limits.TheConstants.{MAX_BLOCKS}
 use Rattle.jv_model.specs.declared.setting.Setting.{Setting}
 use Rattle.jv_model.specs.declared.slice.BlockId.{BlockId}
@@ -35,13 +35,19 @@ block_name_of setting id index size =
 abbrev pub name_in : Setting → BlockId → List ℕ
 name_in setting block = block_name_of setting block.id block.index block.size
 
--- what a block may be, where blocks have this length at most: a slice has at most 1,024 blocks
+-- what a block may be, where blocks have this length at most: a slice has at most MAX_BLOCKS blocks
 pub record IsBlock (block_size : ℕ) (block : BlockId) : Type 0 where
   pub id : 1 ≤ block.id
   pub id_in_range : block.id < 2 ^ 64
   pub index : block.index < MAX_BLOCKS
   pub some : 1 ≤ block.size
   pub size : block.size ≤ block_size
+
+-- the same as a test
+abbrev pub is_block : ℕ → BlockId → Bool
+is_block block_size block =
+    nat_le 1 block.id && nat_lt block.id (2 ^ 64) && nat_lt block.index MAX_BLOCKS
+    && nat_le 1 block.size && nat_le block.size block_size
 
 -- a text is the name of a block of a volume
 pub record IsBlockName (setting : Setting) (block : BlockId) (text : List ℕ) : Type 0 where

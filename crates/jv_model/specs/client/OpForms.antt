@@ -39,12 +39,13 @@ opens_file (op.Create path mode) = true
 opens_file (op.Open path) = true
 opens_file _ = false
 
--- the handle that an operation closes, which is open
+-- the handle that an operation closes
 abbrev pub closed_by : Op → Option ℕ
 closed_by (op.Close handle) = Some handle
 closed_by _ = None
 
--- the operations that are one transaction on metadata and no more
+-- the operations whose own transaction, after what they flush, is one on metadata; a close may make
+-- none
 abbrev pub is_metadata : Op → Bool
 is_metadata (op.Mount writeback) = false
 is_metadata op.Umount = true

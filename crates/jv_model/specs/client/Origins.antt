@@ -58,8 +58,8 @@ pub record Owed : Type 0 where
   pub client : ℕ
 
 -- whether that Commit is owed by another client than this one
-abbrev pub owes : ℕ → ℕ → Owed → Bool
-owes client commit owed = (owed.commit == commit) && not (owed.client == client)
+abbrev pub is_owed_by_another : ℕ → ℕ → Owed → Bool
+is_owed_by_another client commit owed = (owed.commit == commit) && not (owed.client == client)
 
 -- the number of the Commit of another client, or 0 for a byte from before the run, that may be
 -- missing for this client
@@ -68,5 +68,5 @@ missing_commit shelved owed client (Start inode position) =
     (if list_any (λ q. not (q == client)) (shelved inode position) then Some 0 else None)
 missing_commit shelved owed client Zero = None
 missing_commit shelved owed client (Committed entry) =
-    (if list_any (owes client entry) owed then Some entry else None)
+    (if list_any (is_owed_by_another client entry) owed then Some entry else None)
 missing_commit shelved owed client Made = None

@@ -23,15 +23,19 @@ abbrev pub tick_of : ActKind → ℕ
 tick_of (Ticked by) = by
 tick_of _ = 0
 
+-- the moment of an entry that asks the clock, where lines have let `ticks` seconds pass
+abbrev pub IsNow : Past → ℕ → ℕ → Type 0
+IsNow p ticks now =
+    MatchOption p.run.clock ((p.at ≤ now) × (now ≤ LAST_MOMENT))
+    (λ answers. now ≡ clock_moment p ticks answers)
+
 -- The clock is asked before each step, and its answer counts with the ticks so far, the line's own
 -- too. A moment is the larger of the last one and that, and at most the last moment there is. An
 -- answer has its step's moment. Entries of uploading threads don't ask.
 abbrev pub IsMoment : Past → Act → Type 0
 IsMoment p act = MatchBool (is_workers p) ((p.at ≤ act.at) × (act.at ≤ LAST_MOMENT))
     (MatchBool (asks_clock p act)
-    (MatchOption p.run.clock ((p.at ≤ act.at) × (act.at ≤ LAST_MOMENT))
-    (λ answers. act.at ≡ clock_moment p (p.ticks + tick_of act.kind) answers))
-    (act.at ≡ p.at))
+    (IsNow p (p.ticks + tick_of act.kind) act.at) (act.at ≡ p.at))
 
 -- the one entry of a refused submission, for which memory may run out too, but not where an
 -- operation goes on

@@ -28,8 +28,8 @@ abbrev pub block_sizes : List ℕ
 block_sizes = MIN_BLOCK ∷ 2 * MIN_BLOCK ∷ 4 * MIN_BLOCK ∷ 8 * MIN_BLOCK ∷ 16 * MIN_BLOCK
     ∷ 32 * MIN_BLOCK ∷ 64 * MIN_BLOCK ∷ 128 * MIN_BLOCK ∷ MAX_BLOCK ∷ []
 
-abbrev pub is_block : ℕ → Bool
-is_block size = is_among size block_sizes
+abbrev pub is_block_length : ℕ → Bool
+is_block_length size = is_among size block_sizes
 
 -- a lower-case letter, a digit or `-`
 abbrev pub is_name_byte : ℕ → Bool
@@ -46,7 +46,7 @@ is_bucket bucket = nat_le 1 (length bucket) && nat_le (length bucket) MAX_BUCKET
 
 -- of any version from 1 on
 abbrev pub is_setting : Setting → Bool
-is_setting s = nat_le 1 s.version && is_block s.block && nat_le s.trash_days MAX_TRASH_DAYS
+is_setting s = nat_le 1 s.version && is_block_length s.block && nat_le s.trash_days MAX_TRASH_DAYS
     && nat_le s.capacity MAX_CAPACITY && nat_le s.inodes FULL_COUNT && nat_le s.hash 1
     && is_volume_name s.name && is_bucket s.bucket
 
@@ -111,7 +111,7 @@ is_file n = n.parent == 0 && is_nil n.target
 abbrev pub is_directory : Node → Bool
 is_directory n = n.length == DIRECTORY_LENGTH && is_nil n.target
 
--- 1 to 4,096 bytes without the byte 0
+-- 1 to MAX_PATH bytes without the byte 0
 abbrev pub is_target : List ℕ → Bool
 is_target target = nat_le 1 (length target) && nat_le (length target) MAX_PATH && has_no_zero target
 

@@ -22,7 +22,7 @@ number_up_to limit text = do
   n ← number_of text
   at_most limit n
 
--- the seconds of a tick: 1 to 4,294,967,296
+-- the seconds of a tick: 1 to MAX_TICK
 unfoldable pub seconds_of : List ℕ → Option ℕ
 seconds_of text = do
   n ← number_up_to MAX_TICK text
@@ -45,15 +45,15 @@ escape_bytes (high ∷ low ∷ plain) = byte_of high low ∷ plain
 escape_bytes _ = []
 
 -- the bytes that a text spells, given its parts between the `%`
-abbrev pub bytes_between : List (List ℕ) → Option (List ℕ)
-bytes_between [] = None
-bytes_between (plain ∷ escapes) =
+abbrev pub bytes_of_escapes : List (List ℕ) → Option (List ℕ)
+bytes_of_escapes [] = None
+bytes_of_escapes (plain ∷ escapes) =
     provided (list_all is_plain plain && list_all is_escape escapes)
     (plain ++ flat_map escape_bytes escapes)
 
 -- the bytes that a text with escapes spells
 unfoldable pub unescaped : List ℕ → Option (List ℕ)
-unescaped text = bytes_between (parted 37 text)
+unescaped text = bytes_of_escapes (parted 37 text)
 
 -- a path is its bytes, of which the first is a slash: `%2Fa` is the path `/a`
 unfoldable pub path_of : List ℕ → Option (List ℕ)
@@ -100,7 +100,7 @@ all_parts_of (text ∷ texts) = do
   parts ← all_parts_of texts
   Some (part ∷ parts)
 
--- the bytes of parts, at most 8,388,608
+-- the bytes of parts, at most MAX_DATA
 unfoldable pub bytes_of_parts : List (List ℕ) → Option (List ℕ)
 bytes_of_parts texts = do
   parts ← all_parts_of texts

@@ -1,7 +1,7 @@
 -- How the fields of a script's line are spelled: words, numbers, modes, digits and letters.
-use Rattle.std.specs.Prelude.{ℕ, ◌+◌, ◌-◌, ◌*◌, Bool, true, false, ◌&&◌, ◌||◌, not, ◌==◌, nat_lt, nat_le, if◌then◌else◌, List, [], ◌∷◌, length, Option, None, Some, fold}
+use Rattle.std.specs.Prelude.{ℕ, ◌+◌, ◌-◌, ◌*◌, Bool, true, false, ◌&&◌, ◌||◌, not, ◌==◌, nat_le, if◌then◌else◌, List, [], ◌∷◌, length, Option, None, Some, fold}
 use Rattle.std.specs.List.{list_all}
-use Rattle.jv_model.specs.declared.limits.TheConstants.{MAX_DATA, MAX_NAME, LAST_CLIENT}
+use Rattle.jv_model.specs.declared.limits.TheConstants.{MAX_DATA, LAST_CLIENT}
 use Rattle.jv_model.specs.declared.options.TheConstants.{MAX_NUMBER}
 pub use Rattle.jv_model.specs.Optional.{◌>>=◌}
 use Rattle.jv_model.specs.Lists.{parted}
@@ -49,11 +49,6 @@ mode_of text =
 abbrev pub is_letter_or_digit : ℕ → Bool
 is_letter_or_digit c =
     is_decimal_digit c || (nat_le 65 c && nat_le c 90) || (nat_le 97 c && nat_le c 122)
-
--- the name of a file: 1 to MAX_NAME letters and digits
-abbrev pub is_name : List ℕ → Bool
-is_name name =
-    nat_lt 0 (length name) && nat_le (length name) MAX_NAME && list_all is_letter_or_digit name
 
 -- hexadecimal digits of either case
 abbrev pub is_hex_digit : ℕ → Bool
