@@ -2,9 +2,9 @@
 #![tactic(auto)]
 
 mod device;
-mod reader;
+mod reading;
 mod scene;
 
 pub use device::{DEVICES, WorldDevice};
-pub use reader::{BadSceneLine, BadScenes, read_scenes};
+pub use reading::{BadSceneLine, BadScenes, read_scenes};
 pub use scene::{Fragment, Further, Repeat, Scene, SweepRun, Variant, Words, bytes_of};

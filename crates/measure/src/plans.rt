@@ -34,7 +34,7 @@ fn record(number: u32, most: u32) -> Rec
     }
 }
 
-/// So many records that overlap.
+/// `count` records that overlap.
 fn records(alloc: Global, count: u32) -> Result<List, AllocError>
     ensures { IfOk result (λ list. All IsRecord list) }
 {
