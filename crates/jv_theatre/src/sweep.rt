@@ -12,11 +12,13 @@ use std::alloc::{AllocError, Global};
 /// The status of a run that a device's fault ended.
 const FAILED: u8 = 5;
 
-/// What is in rows and objects: the rows as they are compared, what the scene lists, and what is wrong with slices.
+/// What is in rows and objects: the rows as they are compared, what the scene lists, how many objects
+/// there are, and what is wrong with slices.
 #[derive(Drop)]
 struct Left {
     rows: String,
     listed: String,
+    objects: u64,
     broken: Option<&'static str>,
 }
 
@@ -33,6 +35,20 @@ struct Run {
     text: String,
     before: Left,
     after: Left,
+    /// Whether the depot is opened, and so the carrier too, unless that failed.
+    is_opened: bool,
+}
+
+impl Run {
+    /// How many calls of its carrier a run has made in which none failed: one that opens it, and one
+    /// for each object that is new.
+    fn carried(&self) -> u64 {
+        if self.played.faults(WorldDevice::Carrier) > 0 {
+            return 0;
+        }
+        let sent = self.after.objects.saturating_sub(self.before.objects);
+        sent.saturating_add(u64::from(self.is_opened))
+    }
 }
 
 /// Runs a sweep, and adds its outcome: each run that breaks the rule, and a sum for each device.
@@ -75,11 +91,13 @@ fn show(
     let mut text = String::new(alloc);
     push_played(alloc, &mut text, scene, &played, &theatre.tried)?;
     let after = left_on(alloc, scene, theatre)?;
+    let is_opened = theatre.tried.opened(WorldDevice::Depot).is_some();
     Ok(Run {
         played,
         text,
         before,
         after,
+        is_opened,
     })
 }
 
@@ -91,6 +109,7 @@ fn left_on(
 ) -> Result<Left, AllocError> {
     let stock = theatre.tried.stock(alloc)?;
     let rows = compared_text(alloc, scene, &stock.rows)?;
+    let objects = stock.objects.len() as u64;
     let broken = broken_slices(alloc, &stock)?;
     let mut listed = String::new(alloc);
     push_list(
@@ -104,6 +123,7 @@ fn left_on(
     Ok(Left {
         rows,
         listed,
+        objects,
         broken,
     })
 }
@@ -192,9 +212,26 @@ fn judge(
     theatre: &mut Theatre<impl Player>,
 ) -> Result<Sum, AllocError> {
     let (device, number) = failing;
-    let broken = broken_by(alloc, scene, base, now, device, theatre)?.or(now.after.broken);
+    let broken = broken_by(alloc, scene, base, now, device, theatre)?
+        .or(now.after.broken)
+        .or(broken_carriage(base, now, failing));
     push_broken(report, number, device, broken)?;
     Ok(sum.with(&base.played, &now.played, device, broken.is_some()))
+}
+
+/// What of the rule a run breaks in which one more call of the carrier was to fail. A carrier shows no
+/// calls, so one that is passed over, or made again after it failed, is seen by this alone: where the
+/// run without the fault makes the call, an answer or standard error has to say that it failed.
+fn broken_carriage(base: &Run, now: &Run, failing: (WorldDevice, u64)) -> Option<&'static str> {
+    let (device, number) = failing;
+    if device == WorldDevice::Carrier
+        && number <= base.carried()
+        && rise(&base.played, &now.played, device) == 0
+    {
+        Some("the failed call is passed over")
+    } else {
+        None
+    }
 }
 
 /// Adds what of the rule a run breaks, if it breaks any.

@@ -71,6 +71,10 @@
 //! the records that name it in all lists; each record that names a slice has a row for it, with its size; and each
 //! block of a slice that has a row, by its name and length under the setting, is an object or staged by a client.
 //!
+//! How often the carrier failed is read off the answers, since it shows no calls. The run without the
+//! fault makes one that opens it, and one for each object that is new; where one of these is to fail,
+//! it has to be answered so.
+//!
 //! A malformed line is refused with its number, and then nothing is run.
 #![tactic(auto)]
 
