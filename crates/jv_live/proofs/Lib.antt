@@ -2,6 +2,5 @@
 pub mod MindLaws
 pub mod SessionLaws
 pub mod KeptLaws
-pub mod NextLaws
 pub mod FindingLaws
 pub mod ClosingLaws

@@ -14,7 +14,7 @@ use Rattle.jv_model.specs.rows.RowKeys.{RowMap}
 use Rattle.jv_model.specs.rows.RowPlaces.{sustained_key}
 use Rattle.jv_model.specs.tree.Tree.{Tree}
 use Rattle.jv_outside.specs.Store.{Store}
-pub use Rattle.jv_rows.specs.Lists.{is_past, is_ahead}
+pub use Rattle.jv_rows.specs.Lists.{is_past, is_ahead, if_past}
 use Rattle.jv_rows.specs.Transactions.{Looks, without_answer}
 use Rattle.jv_volume.specs.TypedRows.{Rows, typed}
 use Rattle.jv_volume.specs.TreeOf.{session_of}
@@ -49,11 +49,6 @@ last_key sid (Some inode) = sustained_key sid inode
 -- the number that eight bytes spell
 abbrev pub number_in : List ℕ → Option ℕ
 number_in bytes = (if length bytes == 8 then Some (from_be_bytes w64 bytes) else None)
-
--- an inode, if it comes after one
-abbrev pub if_past : Option ℕ → Option ℕ → Option ℕ
-if_past after None = None
-if_past after (Some inode) = (if is_past after inode then Some inode else None)
 
 -- the file of the first of rows, if it is the session's and comes after one
 abbrev pub first_kept : ℕ → Option ℕ → List (RowKey × Row) → Option ℕ

@@ -22,5 +22,6 @@ pub mod NeedingLaws
 pub mod ArrivalLaws
 pub mod AdjustLaws
 pub mod NextRowLaws
+pub mod NumberedRowsLaws
 pub mod ListsLaws
 pub mod AppendingLaws

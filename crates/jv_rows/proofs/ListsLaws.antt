@@ -1,104 +1,73 @@
 -- What a scan of one row behind a window's finds: the next list of the file.
-use Rattle.std.proofs.Common.{◌≡◌, ◌≢◌, ℕ, ◌<◌, ◌≤◌, ◌^◌, Bool, true, false, ◌⊎◌, cond, List, [], ◌∷◌, ◌++◌, length, inl, inr, Option, None, Some, Result, Ok, Err, refl, sym, ap, subst, ◌∙◌, arith, true≢false, eq-eqb, eqb-true}
-use Rattle.std.specs.Prelude.{◌==◌, if◌then◌else◌, IfSome, IsTrue, ok_or}
+use Rattle.std.proofs.Common.{◌≡◌, ℕ, ◌^◌, Bool, true, false, List, [], ◌∷◌, ◌++◌, length, Option, None, Some, Ok, Err, refl, sym, ap, subst, ◌∙◌}
+use Rattle.std.specs.Prelude.{◌==◌, if◌then◌else◌, IfSome, IsTrue}
 use Rattle.std.specs.Int.{w32, from_be_bytes}
 use Rattle.std.specs.List.{AllByRecursion}
 use Rattle.std.specs.Option.{option_map}
-use Rattle.std.specs.declared.cmp.Ordering.TheVariants.{Less}
-use Rattle.std.specs.Ordering.{is_lt, nat_cmp, ordering_then}
-use Rattle.std.specs.Cmp.{nat_cmp_total, tied_itself}
-use Rattle.std.specs.Cmp.Lexicographic.{slice_cmp}
-use Rattle.std.proofs.lemmas.Bool.{cases_order, ltb-true, ltb-false}
+use Rattle.std.proofs.lemmas.Option.{IfSome_then}
 use Rattle.jv_model.specs.declared.tables.TheConstants.{TABLE_OF_LISTS}
 use Rattle.jv_model.specs.declared.fault.RowFault.{RowFault}
 use Rattle.jv_model.specs.declared.fault.RowFault.TheVariants.{Bad, Failed, Memory}
 use Rattle.jv_model.specs.declared.row.Row.{Row}
-use Rattle.jv_model.specs.declared.row.Row.TheVariants.{OfSetting, OfCounters, OfNode, OfEdge, OfList, OfSlice, OfSession, OfSustained, OfDropped, OfDead}
+use Rattle.jv_model.specs.declared.row.Row.TheVariants.{OfList}
 use Rattle.jv_model.specs.declared.row.RowKey.{RowKey}
 use Rattle.jv_model.specs.declared.slice.Rec.{Rec}
 use Rattle.jv_model.specs.FiniteMap.{get}
-use Rattle.jv_model.proofs.FiniteMapLaws.{first_where-found}
 use Rattle.jv_model.specs.rows.RowFields.{word}
-use Rattle.jv_model.specs.rows.RowGrammar.{row_of, list_of, is_list, is_row}
-use Rattle.jv_model.specs.rows.RowKeys.{RowMap, row_key, row_cmp}
+use Rattle.jv_model.specs.rows.RowGrammar.{list_of, is_row}
+use Rattle.jv_model.specs.rows.RowKeys.{RowMap}
 use Rattle.jv_model.specs.rows.RowPlaces.{list_key}
-use Rattle.jv_outside.specs.Rows.{rows_after}
 use Rattle.jv_outside.specs.Store.{Store}
-use Rattle.jv_volume.specs.TypedRows.{Cell, cell_of, typed}
-use Rattle.jv_volume.proofs.ShapeMapLaws.{first_where-none}
-use Rattle.jv_volume.proofs.TableLaws.{same_key_parts}
-use Rattle.jv_volume.proofs.TypedLaws.{get-typed}
-use Rattle.jv_rows.specs.Lists.{is_past, is_ahead, last_list_key, window_in, list_past, list_of_row, IsSpelled, HasList, HasNoList, HaveWindows, RefusesList, FindsList}
-use Rattle.jv_rows.specs.Scans.{rows_read, AreAllowed, RefusesScan, ScansRows}
+use Rattle.jv_volume.specs.TypedRows.{typed}
+use Rattle.jv_rows.specs.Lists.{is_past, if_past, last_list_key, window_in, list_past, list_of_row, IsSpelled, HasNoList, HaveWindows, RefusesList, FindsList}
+use Rattle.jv_rows.specs.Scans.{AreAllowed, RefusesScan, ScansRows}
 use Rattle.jv_rows.specs.Tables.{list_row}
-use Rattle.jv_rows.proofs.NextRowLaws.{word-less, word_below, not_both, not_itself, first_where-least, passes, IsRead, ReadsOne, NoRow, OneRow, reads-one, tab_of}
-use Rattle.jv_rows.proofs.ScannedLaws.{off-scan, number-rises}
-use Rattle.jv_rows.proofs.TransactionLaws.{of_known, if_known}
+use Rattle.jv_rows.proofs.NextRowLaws.{word-less, word_below, IsRead, of_read}
+use Rattle.jv_rows.proofs.NumberedRowsLaws.{NumberedTable, number_at, HasNumber, has_number, read_place, read_row, read_cell, read_there, none_between}
+use Rattle.jv_rows.proofs.ScannedLaws.{off-scan}
+use Rattle.jv_rows.proofs.TransactionLaws.{if_known}
 
--- ---- keys
-
-key-less : (inode a b : ℕ) → a < b → b < 2 ^ 32 → row_cmp (list_key inode a) (list_key inode b) ≡ Less
-key-less inode a b less small =
-    ap (λ o. ordering_then (nat_cmp 4 4) (ordering_then o (slice_cmp nat_cmp (word a) (word b)))) (tied_itself nat_cmp_total inode) ∙ word-less a b less small
-
-key-past : (inode : ℕ) (last : Option ℕ) (window : ℕ) → window < 2 ^ 32 → is_past last window ≡ true → row_cmp (last_list_key inode last) (list_key inode window) ≡ Less
-key-past inode None window small past = ap (λ o. ordering_then (nat_cmp 4 4) (ordering_then o Less)) (tied_itself nat_cmp_total inode)
-key-past inode (Some last) window small past = key-less inode last window (ltb-true last window past) small
-
-last_tab : (inode : ℕ) (last : Option ℕ) → (last_list_key inode last).tab ≡ TABLE_OF_LISTS
-last_tab inode None = refl
-last_tab inode (Some window) = refl
-
-last_number : (inode : ℕ) (last : Option ℕ) → (last_list_key inode last).a ≡ inode
-last_number inode None = refl
-last_number inode (Some window) = refl
-
-key_is : (inode : ℕ) (key : RowKey) (n : ℕ) → key.tab ≡ TABLE_OF_LISTS → key.a ≡ inode → key.b ≡ word n → list_key inode n ≡ key
-key_is inode key n tab number spelled = same_key_parts key TABLE_OF_LISTS inode (word n) (sym tab) (sym number) (sym spelled)
+-- the lists of files, by their windows
+abbrev lists : NumberedTable
+lists = record {
+  tab = TABLE_OF_LISTS;
+  width = 4;
+  limit = 2 ^ 32;
+  bytes_of = word;
+  number_of = from_be_bytes w32;
+  some_bytes = λ n. refl;
+  bytes_rise = word-less;
+  below_limit = word_below;
+}
 
 -- ---- the list of a row
 
-module _ (P : ℕ × List Rec → Type 0) where
-  if_by : (b : Bool) (f : ℕ × List Rec) → (b ≡ true → P f) → IfSome (if b then Some f else None) P
-  if_by true f h = h refl
-  if_by false f h = tt
+-- what was found is the row's list at its key's window
+abbrev IsListOf : ℕ → Option ℕ → RowKey → Row → ℕ × List Rec → Type 0
+IsListOf inode last key row found = HasNumber lists inode last key found.0 × (row ≡ OfList found.1)
 
-  past_by : (last o : Option ℕ) (records : List Rec) → ((window : ℕ) → o ≡ Some window → is_past last window ≡ true → P (window, records)) → IfSome (list_past last o records) P
-  past_by last None records h = tt
-  past_by last (Some window) records h = if_by (is_past last window) (window, records) (h window refl)
+module _ (inode : ℕ) (last : Option ℕ) (key : RowKey) (spelled : IsSpelled key) where
+  -- what was found is the row's list, and has the number
+  abbrev IsNumbered : List Rec → Option (ℕ × List Rec) → Option ℕ → Type 0
+  IsNumbered records found number = (option_map (λ f. f.0) found ≡ number) × IfSome found (IsListOf inode last key (OfList records))
 
-  -- what holds of the list of a row, if there is one
-  list_by : (inode : ℕ) (last : Option ℕ) (key : RowKey) (row : Row)
-      → ((window : ℕ) (records : List Rec) → row ≡ OfList records → key.a ≡ inode → window_in key.b ≡ Some window → is_past last window ≡ true → P (window, records))
-      → IfSome (list_of_row inode last key row) P
-  list_by inode last key (OfList records) h = by_number (key.a == inode) refl
+  list_numbered : (records : List Rec) → IsNumbered records (list_of_row inode last key (OfList records)) (number_at lists inode last key)
+  list_numbered records = by_owner (key.a == inode) (window_in key.b) (has_number lists inode last key spelled)
     where
-      by_number : (b : Bool) → (key.a == inode) ≡ b → IfSome (if b then list_past last (window_in key.b) records else None) P
-      by_number true is = past_by last (window_in key.b) records (λ window spells past. h window records refl (eqb-true key.a inode is) spells past)
-      by_number false is = tt
-  list_by inode last key (OfSetting x) h = tt
-  list_by inode last key (OfCounters x) h = tt
-  list_by inode last key (OfNode x) h = tt
-  list_by inode last key (OfEdge x) h = tt
-  list_by inode last key (OfSlice x) h = tt
-  list_by inode last key (OfSession x) h = tt
-  list_by inode last key OfSustained h = tt
-  list_by inode last key (OfDropped x) h = tt
-  list_by inode last key (OfDead x) h = tt
+      by_past : (b : Bool) (window : ℕ) → IfSome (if b then Some window else None) (HasNumber lists inode last key)
+          → IsNumbered records (if b then Some (window, records) else None) (if b then Some window else None)
+      by_past true window has = (refl, (has, refl))
+      by_past false window has = (refl, tt)
 
-spelled_at : (key : RowKey) (window : ℕ) → IsSpelled key → window_in key.b ≡ Some window → key.b ≡ word window
-spelled_at key window spelled is = subst (λ (o : Option ℕ). IfSome o (λ w. key.b ≡ word w)) is spelled
+      by_owner : (b : Bool) (o : Option ℕ) → IfSome (if b then if_past last o else None) (HasNumber lists inode last key)
+          → IsNumbered records (if b then list_past last o records else None) (if b then if_past last o else None)
+      by_owner true None has = (refl, tt)
+      by_owner true (Some window) has = by_past (is_past last window) window has
+      by_owner false o has = (refl, tt)
 
-window_of : (bytes : List ℕ) (window : ℕ) → window_in bytes ≡ Some window → window ≡ from_be_bytes w32 bytes
-window_of bytes window h = by_length (length bytes == 4) h
-  where
-    by_length : (b : Bool) → (if b then Some (from_be_bytes w32 bytes) else None) ≡ Some window → window ≡ from_be_bytes w32 bytes
-    by_length true e = cc
-    by_length false e = absurd (cc)
-
-window_small : (key : RowKey) (window : ℕ) → IsSpelled key → window_in key.b ≡ Some window → window < 2 ^ 32
-window_small key window spelled is =
-    subst (λ n. n < 2 ^ 32) (ap (from_be_bytes w32) (sym (spelled_at key window spelled is)) ∙ sym (window_of key.b window is)) (word_below window)
+  list_found : (row : Row) → IfSome (list_of_row inode last key row) (IsListOf inode last key row)
+  list_found (OfList records) = (list_numbered records).1
+  list_found _ = tt
 
 list_is : (o : Option (List Rec)) (row : Row) → option_map OfList o ≡ Some row → (records : List Rec) × (row ≡ OfList records)
 list_is None row h = absurd (cc)
@@ -140,152 +109,70 @@ last_allowed : {A : Type 0} (P : A → Type 0) (xs : List A) (x : A) → AllByRe
 last_allowed P [] x all = all.0
 last_allowed P (y ∷ ys) x all = last_allowed P ys x all.1
 
-module _ (inode : ℕ) (last : Option ℕ) (before now : Store) (list : List (RowKey × Row)) (s : ScansRows 4 (Some (last_list_key inode last)) 1 before now (Ok list))
-    (found : Option (ℕ × List Rec)) (found_is : (e : RowKey × Row) → list ≡ e ∷ [] → found ≡ list_of_row inode last e.0 e.1)
-    (none_is : list ≡ [] → found ≡ None) (spelled : (e : RowKey × Row) → list ≡ e ∷ [] → IsSpelled e.0) where
-  abbrev behind : RowKey
-  behind = last_list_key inode last
-
-  read : (known : RowMap) → before.rows ≡ Some known → ReadsOne 4 behind known list
-  read known is = reads-one 4 behind known list (of_known (λ known. rows_read (rows_after known 4 (Some behind) 1) ≡ Ok list) before.rows known is s.found)
-
-  module _ (known : RowMap) (e : RowKey × List ℕ) (r : IsRead 4 behind known list e) where
-    table : (e.0.tab ≡ TABLE_OF_LISTS) × (row_cmp behind e.0 ≡ Less)
-    table = tab_of TABLE_OF_LISTS behind e.0 e.1 (first_where-found row_key (passes TABLE_OF_LISTS behind) known e r.first).passes
-
-    row_is : (records : List Rec) × (r.row ≡ OfList records)
-    row_is = list_is (list_of e.1) r.row (sym (list_row e.1) ∙ ap (λ (t : ℕ). row_of t e.1) (sym table.0) ∙ r.read)
-
-    cell_there : get (typed known) e.0 ≡ Some (Ok r.row)
-    cell_there = get-typed known e.0 ∙ ap (option_map (cell_of e.0)) (first_where-found row_key (passes TABLE_OF_LISTS behind) known e r.first).there
-        ∙ ap (λ o. Some (ok_or o e.1)) r.read
-
-    of_list : IfSome (list_of_row inode last e.0 r.row) (λ f. get (typed known) (list_key inode f.0) ≡ Some (Ok (OfList f.1)))
-    of_list = list_by (λ f. get (typed known) (list_key inode f.0) ≡ Some (Ok (OfList f.1))) inode last e.0 r.row (λ window records is number spells past.
-        ap (get (typed known)) (key_is inode e.0 window table.0 number (spelled_at e.0 window (spelled (e.0, r.row) r.list_is) spells))
-        ∙ cell_there ∙ ap (λ row. Some (Ok row)) is)
-
-    -- a window between has no list
-    module _ (wide : HaveWindows (typed known)) (j : ℕ) (small : j < 2 ^ 32) (past : is_past last j ≡ true) (ahead : is_ahead (option_map (λ f. f.0) found) j ≡ true)
-        (least : (list_key inode j ≡ e.0) ⊎ (row_cmp e.0 (list_key inode j) ≡ Less)) where
-      abbrev n : ℕ
-      n = from_be_bytes w32 e.0.b
-
-      below_inode : e.0.a ≤ inode
-      below_inode = elim least [
-        | inl same ↦ (let e_is : e.0.a ≡ inode = ap (λ (k : RowKey). k.a) (sym same) in omega (arith, e_is))
-        | inr less ↦ number-rises e.0 (list_key inode j) table.0 less
-      ]
-
-      inode_is : e.0.a ≡ inode
-      inode_is =
-          let up = number-rises behind e.0 (last_tab inode last ∙ sym table.0) table.1 in
-          let from = last_number inode last in
-          let down = below_inode in
-          omega (arith, up, from, down)
-
-      four : length e.0.b ≡ 4
-      four = wide e.0 table.0 (λ none. (let both = sym cell_there ∙ none in absurd (cc)))
-
-      spells : window_in e.0.b ≡ Some n
-      spells = ap (λ b. if b then Some n else None) (eq-eqb (length e.0.b) 4 four)
-
-      bytes_are : e.0.b ≡ word n
-      bytes_are = spelled_at e.0 n (spelled (e.0, r.row) r.list_is) spells
-
-      n_small : n < 2 ^ 32
-      n_small = window_small e.0 n (spelled (e.0, r.row) r.list_is) spells
-
-      e_is : list_key inode n ≡ e.0
-      e_is = key_is inode e.0 n table.0 inode_is bytes_are
-
-      first_by : (b : Bool) → is_past last n ≡ b → found ≡ (if b then Some (n, row_is.0) else None)
-      first_by b is = found_is (e.0, r.row) r.list_is ∙ ap (list_of_row inode last e.0) row_is.1
-          ∙ ap (λ t. if t then list_past last (window_in e.0.b) row_is.0 else None) (eq-eqb e.0.a inode inode_is) ∙ ap (λ o. list_past last o row_is.0) spells
-          ∙ ap (λ t. if t then Some (n, row_is.0) else None) is
-
-      too_late : j < n → ⊥
-      too_late less = elim least [
-        | inl same ↦ not_itself (list_key inode j) (subst (λ k. row_cmp (list_key inode j) k ≡ Less) (e_is ∙ sym same) (key-less inode j n less n_small))
-        | inr under ↦ not_both (list_key inode j) e.0 (subst (λ k. row_cmp (list_key inode j) k ≡ Less) e_is (key-less inode j n less n_small)) under
-      ]
-
-      not_past : (o : Option ℕ) → o ≡ last → is_past o n ≡ false → ⊥
-      not_past None is h = absurd (true≢false h)
-      not_past (Some a) is h =
-          let low : n ≤ a = ltb-false a n h in
-          let a_past : a < j = ltb-true a j (ap (λ o. is_past o j) is ∙ past) in
-          let after_a : row_cmp (list_key inode a) (list_key inode n) ≡ Less = subst (λ k. row_cmp (list_key inode a) k ≡ Less) (sym e_is)
-          (subst (λ o. row_cmp (last_list_key inode o) e.0 ≡ Less) (sym is) table.1) in
-          elim (cases_order n a) [
-            | inl same ↦ not_itself (list_key inode a) (subst (λ k. row_cmp (list_key inode a) (list_key inode k) ≡ Less) same after_a)
-            | inr other ↦ elim other [
-              | inl less ↦ not_both (list_key inode a) (list_key inode n) after_a (key-less inode n a less (omega (arith, a_past, small)))
-              | inr more ↦ absurd (omega (arith, low, more))
-            ]
-          ]
-
-      is_none : (b : Bool) → is_past last n ≡ b → ⊥
-      is_none true is = too_late (ltb-true j n (sym (ap (λ o. is_ahead (option_map (λ f. f.0) o) j) (first_by true is)) ∙ ahead))
-      is_none false is = not_past last refl is
-
-      not_between : ⊥
-      not_between = is_none (is_past last n) refl
-
-  list_there : (known : RowMap) → ReadsOne 4 behind known list → IfSome found (λ f. get (typed known) (list_key inode f.0) ≡ Some (Ok (OfList f.1)))
-  list_there known (NoRow first none) = subst (λ o. IfSome o (λ f. get (typed known) (list_key inode f.0) ≡ Some (Ok (OfList f.1)))) (sym (none_is none)) tt
-  list_there known (OneRow e r) = subst (λ o. IfSome o (λ f. get (typed known) (list_key inode f.0) ≡ Some (Ok (OfList f.1)))) (sym (found_is (e.0, r.row) r.list_is)) (of_list known e r)
-
-  has_list : (o : Option (ℕ × List Rec)) → found ≡ o → IfSome o (HasList before inode)
-  has_list None is = tt
-  has_list (Some f) is = if_known (λ known. get (typed known) (list_key inode f.0) ≡ Some (Ok (OfList f.1))) before.rows
-      (λ known known_is. subst (λ o. IfSome o (λ f. get (typed known) (list_key inode f.0) ≡ Some (Ok (OfList f.1)))) is (list_there known (read known known_is)))
-
-  none_by : (known : RowMap) → HaveWindows (typed known) → (j : ℕ) → j < 2 ^ 32 → is_past last j ≡ true → is_ahead (option_map (λ f. f.0) found) j ≡ true → (y : List ℕ)
-      → get known (list_key inode j) ≡ Some y → ReadsOne 4 behind known list → ⊥
-  none_by known wide j small past ahead y stored (NoRow first none) = first_where-none row_key (passes TABLE_OF_LISTS behind) known (list_key inode j) y first
-      stored (ap is_lt (key-past inode last j small past))
-  none_by known wide j small past ahead y stored (OneRow e r) = not_between known e r wide j small past ahead
-      (first_where-least row_key (passes TABLE_OF_LISTS behind) known e (list_key inode j) y r.first stored (ap is_lt (key-past inode last j small past)))
-
-  has_none : (known : RowMap) → before.rows ≡ Some known → HaveWindows (typed known) → HasNoList (typed known) inode last (option_map (λ f. f.0) found)
-  has_none known is wide j small past ahead = by_stored (get known (list_key inode j)) refl
-    where
-      by_stored : (o : Option (List ℕ)) → get known (list_key inode j) ≡ o → get (typed known) (list_key inode j) ≡ None
-      by_stored None stored = get-typed known (list_key inode j) ∙ ap (option_map (cell_of (list_key inode j))) stored
-      by_stored (Some y) stored = absurd (none_by known wide j small past ahead y stored (read known is))
-
-  pub finds-read : IfSome found (λ f. is_past last f.0 ≡ true) → IfSome found (λ f. f.0 < 2 ^ 32) → IfSome found (λ f. IsTrue (is_list f.1))
-      → FindsList inode last before now (Ok found)
-  finds-read past small allowed = record {
-    rows_are = s.rows_are;
-    opened_at = s.opened_at;
-    counts = s.counts;
-    past = past;
-    small = small;
-    allowed = allowed;
-    there = has_list found refl;
-    least = has_none;
-    refused = tt;
-  }
+-- no window between has a list, whatever row was read
+no_list_between : (inode : ℕ) (last : Option ℕ) (before now : Store) (list : List (RowKey × Row)) (found : Option (ℕ × List Rec))
+    → ScansRows 4 (Some (last_list_key inode last)) 1 before now (Ok list)
+    → ((e : RowKey × Row) → list ≡ e ∷ [] → (found ≡ list_of_row inode last e.0 e.1) × IsSpelled e.0) → (known : RowMap) → before.rows ≡ Some known
+    → HaveWindows (typed known) → HasNoList (typed known) inode last (option_map (λ f. f.0) found)
+no_list_between inode last before now list found s found_is known is wide =
+    none_between lists inode last known list before now s is (option_map (λ f. f.0) found) read
+  where
+    read : (e : RowKey × List ℕ) → IsRead 4 (last_list_key inode last) known list e
+        → (length e.0.b ≡ 4) × IsSpelled e.0 × (option_map (λ f. f.0) found ≡ number_at lists inode last e.0)
+    read e r =
+        let of = found_is (e.0, r.row) r.list_is in
+        let row = list_is (list_of e.1) r.row (sym (list_row e.1) ∙ read_row lists inode last known list e r) in
+        let there = read_cell lists inode last known list e r in (
+          wide e.0 (read_place lists inode last known list e r).0 (λ none. (let both = sym there ∙ none in absurd (cc))),
+          of.1,
+          ap (option_map (λ f. f.0)) (of.0 ∙ ap (list_of_row inode last e.0) row.1) ∙ (list_numbered inode last e.0 of.1 row.0).0,
+        )
 
 -- the last of the rows is the first
-pub finds-last : (inode : ℕ) (last : Option ℕ) (after : RowKey) (before now : Store) (list init : List (RowKey × Row)) (key : RowKey) (row : Row) (found : Option (ℕ × List Rec))
-    → after ≡ last_list_key inode last → ScansRows 4 (Some after) 1 before now (Ok list) → list ≡ init ++ (key, row) ∷ []
+pub finds-last : (inode : ℕ) (last : Option ℕ) (after : RowKey) (before now : Store) (list init : List (RowKey × Row)) (key : RowKey) (row : Row)
+    (found : Option (ℕ × List Rec)) → after ≡ last_list_key inode last → ScansRows 4 (Some after) 1 before now (Ok list) → list ≡ init ++ (key, row) ∷ []
     → found ≡ list_of_row inode last key row → IsSpelled key → FindsList inode last before now (Ok found)
-finds-last inode last after before now list init key row found after_is s ends found_is spelled =
-    finds-read inode last before now list (subst (λ (k : RowKey). ScansRows 4 (Some k) 1 before now (Ok list)) after_is s) found
-    (λ e is. found_is ∙ ap (λ (p : RowKey × Row). list_of_row inode last p.0 p.1) (one_last init (key, row) e (sym ends ∙ is)))
-    (λ none. absurd (none_last init (key, row) (sym ends ∙ none)))
-    (λ e is. subst (λ (p : RowKey × Row). IsSpelled p.0) (one_last init (key, row) e (sym ends ∙ is)) spelled)
-    (subst (λ o. IfSome o (λ f. is_past last f.0 ≡ true)) (sym found_is) (list_by (λ f. is_past last f.0 ≡ true) inode last key row (λ window records is number spells past. past)))
-    (subst (λ o. IfSome o (λ f. f.0 < 2 ^ 32)) (sym found_is) (list_by (λ f. f.0 < 2 ^ 32) inode last key row (λ window records is number spells past. window_small key window spelled spells)))
-    (subst (λ o. IfSome o (λ f. IsTrue (is_list f.1))) (sym found_is) (list_by (λ f. IsTrue (is_list f.1)) inode last key row (λ window records is number spells past.
-    subst (λ r. IsTrue (is_row r)) is (last_allowed (λ (r : RowKey × Row). IsTrue (is_row r.1)) init (key, row) (subst AreAllowed ends s.allowed)))))
+finds-last inode last after before now list init key row found after_is s ends found_is spelled = record {
+  rows_are = s.rows_are;
+  opened_at = s.opened_at;
+  counts = s.counts;
+  past = IfSome_then found is_list (λ f of. of.0.past);
+  small = IfSome_then found is_list (λ f of. of.0.small);
+  allowed = IfSome_then found is_list (λ f of. subst (λ r. IsTrue (is_row r)) of.1
+      (last_allowed (λ (r : RowKey × Row). IsTrue (is_row r.1)) init (key, row) (subst AreAllowed ends s.allowed)));
+  there = IfSome_then found is_list (λ f of. of_read (λ known. get (typed known) (list_key inode f.0) ≡ Some (Ok (OfList f.1))) 4 (last_list_key inode last)
+      before now list scans (λ none. none_last init (key, row) (sym ends ∙ none)) (λ known e r. there f of known e r));
+  least = no_list_between inode last before now list found scans (λ e is.
+      let same = one_last init (key, row) e (sym ends ∙ is) in
+      (found_is ∙ ap (λ (p : RowKey × Row). list_of_row inode last p.0 p.1) same, subst (λ (p : RowKey × Row). IsSpelled p.0) same spelled));
+  refused = tt;
+}
+  where
+    scans : ScansRows 4 (Some (last_list_key inode last)) 1 before now (Ok list)
+    scans = subst (λ (k : RowKey). ScansRows 4 (Some k) 1 before now (Ok list)) after_is s
+
+    is_list : IfSome found (IsListOf inode last key row)
+    is_list = subst (λ o. IfSome o (IsListOf inode last key row)) (sym found_is) (list_found inode last key spelled row)
+
+    there : (f : ℕ × List Rec) → IsListOf inode last key row f → (known : RowMap) (e : RowKey × List ℕ) → IsRead 4 (last_list_key inode last) known list e
+        → get (typed known) (list_key inode f.0) ≡ Some (Ok (OfList f.1))
+    there f of known e r =
+        let same = one_last init (key, row) (e.0, r.row) (sym ends ∙ r.list_is) in
+        let here = subst (λ (p : RowKey × Row). IsListOf inode last p.0 p.1 f) same of in
+        read_there lists inode last known list e r f.0 here.0 ∙ ap (λ row. Some (Ok row)) here.1
 
 -- there are no rows
 pub finds-none : (inode : ℕ) (last : Option ℕ) (after : RowKey) (before now : Store) (list : List (RowKey × Row))
     → after ≡ last_list_key inode last → ScansRows 4 (Some after) 1 before now (Ok list) → list ≡ [] → FindsList inode last before now (Ok None)
-finds-none inode last after before now list after_is s none =
-    finds-read inode last before now list (subst (λ (k : RowKey). ScansRows 4 (Some k) 1 before now (Ok list)) after_is s) None
-    (λ e is. (let both = sym none ∙ is in absurd (cc))) (λ is. refl) (λ e is. (let both = sym none ∙ is in absurd (cc))) tt tt tt
+finds-none inode last after before now list after_is s none = record {
+  rows_are = s.rows_are;
+  opened_at = s.opened_at;
+  counts = s.counts;
+  past = tt;
+  small = tt;
+  allowed = tt;
+  there = tt;
+  least = no_list_between inode last before now list None (subst (λ (k : RowKey). ScansRows 4 (Some k) 1 before now (Ok list)) after_is s)
+      (λ e is. (let both = sym none ∙ is in absurd (cc)));
+  refused = tt;
+}

@@ -1,6 +1,6 @@
 -- The first row behind a key: numbers go as their bytes do, and a scan of one row finds the least that passes.
-use Rattle.std.proofs.Common.{◌≡◌, ℕ, ◌+◌, ◌*◌, ◌<◌, ◌≤◌, ◌^◌, ◌⊎◌, Bool, true, false, cond, T, List, [], ◌∷◌, length, take, inl, inr, Option, None, Some, Result, Ok, Err, refl, sym, ap, subst, ◌∙◌, arith, true≢false, eqb-true}
-use Rattle.std.specs.Prelude.{◌==◌, ◌&&◌, filter}
+use Rattle.std.proofs.Common.{◌≡◌, ℕ, ◌+◌, ◌*◌, ◌<◌, ◌≤◌, ◌^◌, ◌⊎◌, Bool, true, false, cond, T, List, [], ◌∷◌, length, take, inl, inr, Option, None, Some, Ok, refl, sym, ap, subst, ◌∙◌, arith, true≢false, eqb-true}
+use Rattle.std.specs.Prelude.{◌==◌, ◌&&◌, filter, IfSome}
 use Rattle.std.specs.Int.{w32, w64, from_be_bytes}
 use Rattle.std.specs.List.{AllByRecursion}
 use Rattle.std.specs.declared.cmp.Ordering.{Ordering}
@@ -20,7 +20,9 @@ use Rattle.jv_model.specs.rows.RowGrammar.{row_of}
 use Rattle.jv_model.specs.rows.RowKeys.{RowMap, row_cmp, row_cmp_total}
 use Rattle.jv_model.proofs.TestLaws.{first_of_both, second_of_both, less_is, tie_is, nat_less}
 use Rattle.jv_outside.specs.Rows.{is_after, rows_after}
-use Rattle.jv_rows.specs.Scans.{row_then, rows_read}
+use Rattle.jv_outside.specs.Store.{Store}
+use Rattle.jv_rows.specs.Scans.{row_then, rows_read, ScansRows}
+use Rattle.jv_rows.proofs.TransactionLaws.{of_known, if_known}
 
 -- ---- numbers and their bytes
 
@@ -119,12 +121,10 @@ word_below n =
 
 -- ---- keys
 
--- no key is both before and behind another
-pub not_both : (x y : RowKey) → row_cmp x y ≡ Less → row_cmp y x ≡ Less → ⊥
-not_both x y p q = (let back = row_cmp_total.antisymm x y ∙ ap ordering_reverse q in let both = sym p ∙ back in absurd (cc))
-
-pub not_itself : (x : RowKey) → row_cmp x x ≡ Less → ⊥
-not_itself x p = not_both x x p p
+-- no key is before another and also that one, or behind it
+pub not_behind : (x y : RowKey) → row_cmp x y ≡ Less → (x ≡ y) ⊎ (row_cmp y x ≡ Less) → ⊥
+not_behind x y less (inl same) = (let both = sym (tied_itself row_cmp_total y) ∙ subst (λ k. row_cmp k y ≡ Less) same less in absurd (cc))
+not_behind x y less (inr back) = (let both = sym less ∙ row_cmp_total.antisymm x y ∙ ap ordering_reverse back in absurd (cc))
 
 -- ---- the first row that passes is the least
 
@@ -216,8 +216,19 @@ module _ (tab : ℕ) (last : RowKey) (known : RowMap) (list : List (RowKey × Ro
   by_first None first h = NoRow first (cc)
   by_first (Some e) first h = by_row e first (row_of e.0.tab e.1) refl h
 
-  pub reads-one : rows_read (rows_after known tab (Some last) 1) ≡ Ok list → ReadsOne tab last known list
-  reads-one h = by_first (first_behind tab last known) refl (ap rows_read (sym (one-behind tab known last)) ∙ h)
+  pub reads-one : (before now : Store) → ScansRows tab (Some last) 1 before now (Ok list) → before.rows ≡ Some known → ReadsOne tab last known list
+  reads-one before now s is = by_first (first_behind tab last known) refl (ap rows_read (sym (one-behind tab known last))
+      ∙ of_known (λ known. rows_read (rows_after known tab (Some last) 1) ≡ Ok list) before.rows known is s.found)
+
+-- what holds wherever a row was read holds of known rows, if the scan found one
+pub of_read : (P : RowMap → Type 0) (tab : ℕ) (last : RowKey) (before now : Store) (list : List (RowKey × Row))
+    → ScansRows tab (Some last) 1 before now (Ok list) → (list ≡ [] → ⊥)
+    → ((known : RowMap) (e : RowKey × List ℕ) → IsRead tab last known list e → P known) → IfSome before.rows P
+of_read P tab last before now list s some h = if_known P before.rows (λ known is. by_read known (reads-one tab last known list before now s is))
+  where
+    by_read : (known : RowMap) → ReadsOne tab last known list → P known
+    by_read known (NoRow first none) = absurd (some none)
+    by_read known (OneRow e r) = h known e r
 
 -- such a key is of the table, and behind
 pub tab_of : (tab : ℕ) (last key : RowKey) (bytes : List ℕ) → passes tab last key bytes ≡ true → (key.tab ≡ tab) × (row_cmp last key ≡ Less)

@@ -28,6 +28,11 @@ abbrev pub is_ahead : Option ℕ → ℕ → Bool
 is_ahead None number = true
 is_ahead (Some next) number = nat_lt number next
 
+-- a number, if it comes after one
+abbrev pub if_past : Option ℕ → Option ℕ → Option ℕ
+if_past last None = None
+if_past last (Some number) = (if is_past last number then Some number else None)
+
 -- the key of a window of a file, or one below the keys of all its windows
 abbrev pub last_list_key : ℕ → Option ℕ → RowKey
 last_list_key inode None = record { tab = TABLE_OF_LISTS; a = inode; b = [] }
