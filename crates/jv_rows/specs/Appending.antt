@@ -1,6 +1,6 @@
 -- One more record in the list of a window: how the bytes of its row are judged, and what the
 -- changes are then.
-use Rattle.std.specs.Prelude.{◌≡◌, ℕ, List, [], ◌∷◌, ◌++◌, Option, Some, IfSome, Result, Ok, Err}
+use Rattle.std.specs.Prelude.{ℕ, List, [], ◌∷◌, ◌++◌, Option, Some, Result, Ok, Err}
 use Rattle.std.specs.Option.{IsSome, unwrap_or}
 use Rattle.jv_model.specs.declared.fault.Down.{Down}
 use Rattle.jv_model.specs.declared.fault.RowFault.{RowFault}
@@ -24,7 +24,8 @@ Judges (Ok unit) read = IsSome read
 Judges (Err e) read = Misses e read
 
 -- looking for the bytes that changes leave at a key, by the result
-abbrev pub FindsLeft : List Change → RowKey → Store → Store → Result (Option (List ℕ)) Down → Type 0
+abbrev pub FindsLeft : List Change → RowKey → Store → Store → Result (Option (List ℕ)) Down
+    → Type 0
 FindsLeft changes key before after result =
     Answers (held before) (held after) result (λ known. get (applied changes known) key)
 
