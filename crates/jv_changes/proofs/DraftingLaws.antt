@@ -215,7 +215,7 @@ module _ {A : Type 0} (ready : Tree → Type 0) (before middle after : Store) (w
   unfolding drafted
   landed known bytes answer t c is m whole ends = record {
     left = applied was known;
-    is = c.rows_are ∙ ap (option_map (applied was)) (p.rows_are ∙ is);
+    is = c.content_is ∙ ap (option_map (applied was)) (p.rows_are ∙ is);
     whole = whole;
     quiet = m.quiet;
     model = ends ∙ ap (λ u. answered u answer) (sym m.tree);

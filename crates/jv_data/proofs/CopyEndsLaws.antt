@@ -400,7 +400,7 @@ module _ (sid now src dst from to len : ℕ) (due : Setting → ℕ) where
                         (drafted d2 known) added (y known is whole) n 0 enough left adjusted
 
                     stands : last.rows ≡ Some (applied d3 known)
-                    stands = commits.rows_are ∙ ap (option_map (applied d3)) (past_counted.rows_are ∙ is)
+                    stands = commits.content_is ∙ ap (option_map (applied d3)) (past_counted.rows_are ∙ is)
 
                     changed : (known_bytes : KnownBytes) → Changed (makes n) known last.rows known_bytes (Count n) act
                     unfolding drafted

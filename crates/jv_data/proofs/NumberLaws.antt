@@ -233,7 +233,7 @@ module _ (sid : ℕ) (before middle : Store) where
         lands = λ known is whole. (
           (seen (typed known)).goes_on known is whole no_bytes ∙ ap (λ b. require b NoSpace >>= (λ unit. Ok (next_slice (typed known))))
               (ap (λ n. nat_lt n FULL_COUNT) (next_is known is) ∙ lt-ltb c.slice FULL_COUNT room) ∙ ap (λ n. Ok n) (next_is known is),
-          subst (λ o. Numbered known o c.slice) (sym (commits.rows_are ∙ ap (option_map (applied changes)) ((seen (typed known)).rows_are ∙ is)))
+          subst (λ o. Numbered known o c.slice) (sym (commits.content_is ∙ ap (option_map (applied changes)) ((seen (typed known)).rows_are ∙ is)))
               (numbered_as (typed known) c whole (there known is) (leb-true 1 c.slice low) room known (applied changes known) refl (rows_are known)),
         );
         bad = tt;

@@ -193,7 +193,7 @@ module _ (sid now inode window : ℕ) (rec : Rec) (started : ℕ) where
             counts = commits.calm ∙ r.looks.counts ∙ so_far.calm;
             undone = tt;
             lands = λ known is whole known_bytes new. changed known is whole known_bytes bytes due new last_store.rows
-                (commits.rows_are ∙ ap (option_map (applied d2)) (r.looks.rows_are ∙ so_far.rows_are ∙ is));
+                (commits.content_is ∙ ap (option_map (applied d2)) (r.looks.rows_are ∙ so_far.rows_are ∙ is));
             bad = tt;
           }
 
@@ -202,4 +202,4 @@ module _ (sid now inode window : ℕ) (rec : Rec) (started : ℕ) where
       record-rest last_store commits known left is whole here key other =
           let so_far = began sid now inode end started before middle begun_by b end [] (omega arith) in
           of_left (λ rows. get rows key ≡ get (typed known) key) d2 known left last_store.rows
-          (commits.rows_are ∙ ap (option_map (applied d2)) (r.looks.rows_are ∙ so_far.rows_are ∙ is)) here (rest known is whole key other)
+          (commits.content_is ∙ ap (option_map (applied d2)) (r.looks.rows_are ∙ so_far.rows_are ∙ is)) here (rest known is whole key other)

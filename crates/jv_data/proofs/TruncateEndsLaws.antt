@@ -243,7 +243,7 @@ module _ (sid now inode len : ℕ) where
             ]
 
             stands : last.rows ≡ Some (applied d2 known)
-            stands = commits.rows_are ∙ ap (option_map (applied d2)) (z.looks.rows_are ∙ at_sized)
+            stands = commits.content_is ∙ ap (option_map (applied d2)) (z.looks.rows_are ∙ at_sized)
 
             tree_left : (known_bytes : KnownBytes) → tree_with known_bytes left ≡ truncated (tree_with known_bytes (typed known)) now inode len
             tree_left known_bytes = by_lists (λ rows. tree_with known_bytes rows ≡ truncated (tree_with known_bytes (typed known)) now inode len)

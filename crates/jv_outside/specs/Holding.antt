@@ -1,4 +1,5 @@
--- What is seen of a device that holds a map, and what a call does to it.
+-- What is seen of a device that holds a map, as a keeper its rows, a depot its objects and a shelf
+-- its staged blocks, and what a call does to it.
 use Rattle.std.specs.Prelude.{◌≡◌, ℕ, List, Option, Some, IfSome, Result, Ok, Err}
 use Rattle.std.specs.Option.{option_map}
 use Rattle.jv_model.specs.declared.fault.Down.{Down}

@@ -3,8 +3,8 @@ pub mod Causes
 pub mod Rows
 pub mod Stream
 pub mod Ticks
-pub mod Store
 pub mod Holding
+pub mod Store
 pub mod Overlaid
 pub mod Parcels
 pub mod Objects

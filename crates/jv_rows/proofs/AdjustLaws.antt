@@ -24,7 +24,8 @@ use Rattle.jv_model.specs.rows.RowPlaces.{slice_key, dead_key}
 use Rattle.jv_model.specs.Lists.{is_nil}
 use Rattle.jv_model.proofs.TestLaws.{and_false}
 use Rattle.jv_outside.specs.declared.batch.Change.{Change}
-use Rattle.jv_outside.specs.Store.{Store, IsSame}
+use Rattle.jv_outside.specs.Holding.{Becomes}
+use Rattle.jv_outside.specs.Store.{Store, held}
 use Rattle.jv_volume.specs.TypedRows.{Cell, Rows}
 use Rattle.jv_volume.specs.Slices.{records_naming}
 use Rattle.jv_volume.proofs.MapLaws.{get-alter-here, get-alter-apart}
@@ -246,7 +247,7 @@ pub data Stands (gone added : List Rec) (fewer more : Option ℕ) (id : ℕ) : T
 -- what a loop over slices has reached
 pub record IsAdjusting (gone added : List Rec) (due : ℕ) (fewer more : Counts) (start now : Store) (changes changed : List Change) : Type 0 where
   pub stands : (id : ℕ) → Stands gone added (fewer id) (more id) id
-  pub same : IsSame start now
+  pub same : Becomes (held start) (held now) start.rows start.opened
   pub done : IfSome start.rows (λ known. (id : ℕ) → IsTrue (is_named gone added id) → is_left fewer more id ≡ false
       → Recounted id (records_naming id gone) (records_naming id added) due (drafted changes known) (drafted changed known))
   pub others : LeavesOthers (is_done gone added fewer more) changes changed
@@ -304,7 +305,7 @@ pub none_adjusted : (gone added : List Rec) (due : ℕ) (fewer more : Counts) (s
     → IsAdjusting gone added due fewer more start start changes changes
 none_adjusted gone added due fewer more start changes f m = record {
   stands = λ id. ToTake (f id) (m id);
-  same = record { rows_are = refl; opened_at = refl; calm = refl };
+  same = record { content_is = refl; opened_at = refl; calm = refl };
   done = if_known (λ known. (id : ℕ) → IsTrue (is_named gone added id) → is_left fewer more id ≡ false
       → Recounted id (records_naming id gone) (records_naming id added) due (drafted changes known) (drafted changes known)) start.rows
       (λ known is id named left. absurd (true≢false (sym (stored_left id (records_naming id gone) (records_naming id added) named)
@@ -411,7 +412,7 @@ module _ (gone added : List Rec) (due id : ℕ) (fewer more fewer' more' : Count
             (recounted_from id (records_naming id gone) (records_naming id added) due (drafted changes known) (drafted between known) (drafted changed known)
             (h.others known (slice_key id) (still gone added due id fewer more fewer' more' start middle now changes between changed h left out_fewer out_more id left))
             (h.others known (dead_key id) (still gone added due id fewer more fewer' more' start middle now changes between changed h left out_fewer out_more id left))
-            (of_known (λ known. Recounted id (records_naming id gone) (records_naming id added) due (drafted between known) (drafted changed known)) middle.rows known (h.same.rows_are ∙ is) r.done))
+            (of_known (λ known. Recounted id (records_naming id gone) (records_naming id added) due (drafted between known) (drafted changed known)) middle.rows known (h.same.content_is ∙ is) r.done))
         | inr ne ↦ recounted_to q (records_naming q gone) (records_naming q added) due (drafted changes known) (drafted between known) (drafted changed known)
             (r.others known (slice_key q) (ne_eqb q id (λ e. ne (sym e)))) (r.others known (dead_key q) (ne_eqb q id (λ e. ne (sym e))))
             (of_known (λ known. (q : ℕ) → IsTrue (is_named gone added q) → is_left fewer more q ≡ false
@@ -427,7 +428,7 @@ module _ (gone added : List Rec) (due id : ℕ) (fewer more fewer' more' : Count
   pub one_adjusted : IsAdjusting gone added due fewer' more' start now changes changed
   one_adjusted = record {
     stands = stands_next gone added due id fewer more fewer' more' start middle now changes between changed h left out_fewer out_more;
-    same = record { rows_are = r.rows_are ∙ h.same.rows_are; opened_at = r.opened_at ∙ h.same.opened_at; calm = r.counts ∙ h.same.calm };
+    same = record { content_is = r.rows_are ∙ h.same.content_is; opened_at = r.opened_at ∙ h.same.opened_at; calm = r.counts ∙ h.same.calm };
     done = if_known (λ known. (q : ℕ) → IsTrue (is_named gone added q) → is_left fewer' more' q ≡ false
         → Recounted q (records_naming q gone) (records_naming q added) due (drafted changes known) (drafted changed known)) start.rows done_next;
     others = others_next;
@@ -439,7 +440,7 @@ pub all_adjusted : (gone added : List Rec) (due : ℕ) (fewer more : Counts) (st
     → IsAdjusting gone added due fewer more start now changes changed → ((id : ℕ) → (fewer id ≡ None) × (more id ≡ None))
     → Adjusts gone added due start now changes changed (Ok tt)
 all_adjusted gone added due fewer more start now changes changed h none = record {
-  rows_are = h.same.rows_are;
+  rows_are = h.same.content_is;
   opened_at = h.same.opened_at;
   counts = h.same.calm;
   done = if_known (λ known. Adjusted gone added due (drafted changes known) (drafted changed known)) start.rows (λ known is. record {
@@ -488,11 +489,11 @@ one_failed gone added due id fewer more start middle now changes between changed
     let took = to_take gone added id (fewer id) (more id) (h.stands id) left in
     let still : is_done gone added fewer more id ≡ false = ap (λ b. is_named gone added id && not b) left ∙ ap (λ b. b && false) took.named in
     record {
-      rows_are = r.rows_are ∙ h.same.rows_are;
+      rows_are = r.rows_are ∙ h.same.content_is;
       opened_at = r.opened_at ∙ h.same.opened_at;
       counts = subst (λ n. FaultCause n now.faults fault) h.same.calm r.counts;
       done = tt;
-      refused = subst (λ rows. RefusesAdjust gone added changes rows fault) h.same.rows_are
+      refused = subst (λ rows. RefusesAdjust gone added changes rows fault) h.same.content_is
           (why_not gone added id changes between middle.rows took.named (λ known. h.others known (slice_key id) still) fault r.refused);
     }
 

@@ -230,7 +230,7 @@ finds-stored changes key before after (Err down) none f = f
 pub finds-changed : (changes : List Change) (key : RowKey) (store : Store) (change : Change) (found : Option (List ℕ)) → Some change ≡ last_change key changes
     → found ≡ left_by (Some change) None → FindsLeft changes key store store (Ok found)
 finds-changed changes key store change found last is = (
-  record { rows_are = refl; opened_at = refl; calm = refl },
+  record { content_is = refl; opened_at = refl; calm = refl },
   if_known (λ known. found ≡ get (applied changes known) key) store.rows (λ known here.
       is ∙ sym (get-applied changes known key ∙ ap (λ o. left_by o (get known key)) (sym last))),
 )
@@ -247,7 +247,7 @@ module _ (inode window : ℕ) (rec : Rec) (changes : List Change) where
       → ReadsPut list_of is_list key bytes result → Sees OfList is_list key changes before after result
   sees-bytes before after bytes (Ok None) f r = absurd r.found
   sees-bytes before after bytes (Ok (Some list)) f r = record {
-    rows_are = f.0.rows_are;
+    rows_are = f.0.content_is;
     opened_at = f.0.opened_at;
     counts = f.0.calm;
     found = if_known (λ known. get (drafted changes known) key ≡ Some (Ok (OfList list))) before.rows (λ known here.
@@ -257,7 +257,7 @@ module _ (inode window : ℕ) (rec : Rec) (changes : List Change) where
     refused = tt;
   }
   sees-bytes before after bytes (Err (Bad bad_at malformed)) f r = record {
-    rows_are = f.0.rows_are;
+    rows_are = f.0.content_is;
     opened_at = f.0.opened_at;
     counts = f.0.calm;
     found = tt;
@@ -271,7 +271,7 @@ module _ (inode window : ℕ) (rec : Rec) (changes : List Change) where
     );
   }
   sees-bytes before after bytes (Err Failed) f r = absurd r.refused
-  sees-bytes before after bytes (Err Memory) f r = record { rows_are = f.0.rows_are; opened_at = f.0.opened_at; counts = f.0.calm; found = tt; allowed = tt; refused = tt }
+  sees-bytes before after bytes (Err Memory) f r = record { rows_are = f.0.content_is; opened_at = f.0.opened_at; counts = f.0.calm; found = tt; allowed = tt; refused = tt }
 
   -- a list was found
   pub appends-found : (before after : Store) (bytes : List ℕ) (left : List Change) (result : Result (Unit {0}) RowFault) → FindsLeft changes key before after (Ok (Some bytes))
@@ -285,7 +285,7 @@ module _ (inode window : ℕ) (rec : Rec) (changes : List Change) where
   appends-first low is before after left f ok = record {
     found = None;
     sees = record {
-      rows_are = f.0.rows_are;
+      rows_are = f.0.content_is;
       opened_at = f.0.opened_at;
       counts = f.0.calm;
       found = if_known (λ known. get (drafted changes known) key ≡ None) before.rows (λ known here.
@@ -300,7 +300,7 @@ module _ (inode window : ℕ) (rec : Rec) (changes : List Change) where
       → Appends inode window rec changes left before after (Err Memory)
   appends-memory before after found left f same = record {
     found = None;
-    sees = record { rows_are = f.0.rows_are; opened_at = f.0.opened_at; counts = f.0.calm; found = tt; allowed = tt; refused = tt };
+    sees = record { rows_are = f.0.content_is; opened_at = f.0.opened_at; counts = f.0.calm; found = tt; allowed = tt; refused = tt };
     drafts = record { done = tt; undone = same };
   }
 
@@ -315,11 +315,11 @@ module _ (inode window : ℕ) (rec : Rec) (changes : List Change) where
   pub appends-down : (before after : Store) (down : Down) → FindsLeft changes key before after (Err down) → Appends inode window rec changes changes before after (Err (row_fault down))
   appends-down before after DeviceFailed f = record {
     found = None;
-    sees = record { rows_are = f.rows_are; opened_at = f.opened_at; counts = f.cause; found = tt; allowed = tt; refused = tt };
+    sees = record { rows_are = f.content_is; opened_at = f.opened_at; counts = f.cause; found = tt; allowed = tt; refused = tt };
     drafts = record { done = tt; undone = refl };
   }
   appends-down before after DeviceMemory f = record {
     found = None;
-    sees = record { rows_are = f.rows_are; opened_at = f.opened_at; counts = f.cause; found = tt; allowed = tt; refused = tt };
+    sees = record { rows_are = f.content_is; opened_at = f.opened_at; counts = f.cause; found = tt; allowed = tt; refused = tt };
     drafts = record { done = tt; undone = refl };
   }

@@ -258,7 +258,7 @@ module _ {A : Type 0} (ready : Tree → Type 0) (before middle after : Store) (r
     counts = c.calm ∙ p.calm;
     undone = tt;
     lands = λ known is whole bytes is_ready. let made = makes known is whole bytes is_ready in
-        landed-makes known changes after.rows bytes (reply x) act (c.rows_are ∙ ap (option_map (applied changes)) (p.rows_are ∙ is)) (record {
+        landed-makes known changes after.rows bytes (reply x) act (c.content_is ∙ ap (option_map (applied changes)) (p.rows_are ∙ is)) (record {
           whole = made.whole;
           quiet = made.quiet;
           model = p.goes_on known is whole bytes ∙ made.model;
@@ -273,8 +273,8 @@ fails-memory store = record { rows_are = refl; opened_at = refl; cause = refl; w
 
 -- a commit that wasn't made
 pub fails-commit : (before after : Store) (down : Down) (changes : List Change) → Commits before after (Err down) changes → Fails before after (OfRows (row_fault down))
-fails-commit before after DeviceFailed changes c = record { rows_are = c.rows_are; opened_at = c.opened_at; cause = c.cause; why = tt }
-fails-commit before after DeviceMemory changes c = record { rows_are = c.rows_are; opened_at = c.opened_at; cause = c.cause; why = tt }
+fails-commit before after DeviceFailed changes c = record { rows_are = c.content_is; opened_at = c.opened_at; cause = c.cause; why = tt }
+fails-commit before after DeviceMemory changes c = record { rows_are = c.content_is; opened_at = c.opened_at; cause = c.cause; why = tt }
 
 -- A reading of a row that stands as it did before the changes.
 module _ {A : Type 0} (row : A → Row) (is_allowed : A → Bool) (key : RowKey) (changes : List Change) (before after : Store)

@@ -1,6 +1,6 @@
 -- One more record in the list of a window: how the bytes of its row are judged, and what the
 -- changes are then.
-use Rattle.std.specs.Prelude.{◌≡◌, ℕ, List, [], ◌∷◌, ◌++◌, Option, Some, IfSome, Result, Ok, Err}
+use Rattle.std.specs.Prelude.{ℕ, List, [], ◌∷◌, ◌++◌, Option, Some, Result, Ok, Err}
 use Rattle.std.specs.Option.{IsSome, unwrap_or}
 use Rattle.jv_model.specs.declared.fault.Down.{Down}
 use Rattle.jv_model.specs.declared.fault.RowFault.{RowFault}
@@ -11,8 +11,9 @@ use Rattle.jv_model.specs.FiniteMap.{get}
 use Rattle.jv_model.specs.rows.RowGrammar.{is_list, list_of}
 use Rattle.jv_model.specs.rows.RowPlaces.{list_key}
 use Rattle.jv_outside.specs.declared.batch.Change.{Change}
+use Rattle.jv_outside.specs.Holding.{Answers}
 use Rattle.jv_outside.specs.Rows.{applied}
-use Rattle.jv_outside.specs.Store.{Store, IsSame, FailsToKeep}
+use Rattle.jv_outside.specs.Store.{Store, held}
 use Rattle.jv_rows.specs.declared.misread.Misread.{Misread}
 use Rattle.jv_rows.specs.Drafts.{cell, Drafts, ReadsPut, Sees}
 use Rattle.jv_rows.specs.Reads.{Misses}
@@ -23,10 +24,10 @@ Judges (Ok unit) read = IsSome read
 Judges (Err e) read = Misses e read
 
 -- looking for the bytes that changes leave at a key, by the result
-abbrev pub FindsLeft : List Change → RowKey → Store → Store → Result (Option (List ℕ)) Down → Type 0
-FindsLeft changes key before after (Ok found) =
-    IsSame before after × IfSome before.rows (λ known. found ≡ get (applied changes known) key)
-FindsLeft changes key before after (Err down) = FailsToKeep before after down
+abbrev pub FindsLeft : List Change → RowKey → Store → Store → Result (Option (List ℕ)) Down
+    → Type 0
+FindsLeft changes key before after result =
+    Answers (held before) (held after) result (λ known. get (applied changes known) key)
 
 -- a reading that finds this row, and fails where a call failed
 abbrev pub reading : Option (List Rec) → Result (Unit {0}) RowFault

@@ -61,7 +61,7 @@ pub puts-node : {E : Type 0} (inode : ℕ) (row : NodeRow) (before after : Store
 puts-node inode row before after none changes (Ok u) unit is_none d ok c = record {
   opened_at = c.opened_at;
   counts = c.calm;
-  done = λ known is. put_of changes inode row known after.rows (c.rows_are ∙ ap (option_map (applied changes)) is)
+  done = λ known is. put_of changes inode row known after.rows (c.content_is ∙ ap (option_map (applied changes)) is)
       (d.done known ∙ ap (λ (l : List Change). insert (drafted l known) (node_key inode) (Ok (OfNode row))) is_none);
   undone = tt;
   cause = tt;

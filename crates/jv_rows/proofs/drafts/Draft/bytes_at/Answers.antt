@@ -8,7 +8,7 @@ use Rattle.jv_rows.proofs.drafts.Draft.bytes_at.Goals as goal
 pub returns-in_err-copied-in-Some-Put : goal.returns-in_err-copied-in-Some-Put
 returns-in_err-copied-in-Some-Put g c =
     let p = err_from_is_err_and c.from_residual.result c.from_residual.ensures.1 in
-    rw (p.1, p.2) (record { rows_are = refl; opened_at = refl; cause = refl })
+    rw (p.1, p.2) (record { content_is = refl; opened_at = refl; cause = refl })
 
 pub returns-in-None : goal.returns-in-None
 returns-in-None g c =
