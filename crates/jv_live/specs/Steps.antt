@@ -1,6 +1,6 @@
 -- What changes of a draft do to a tree: sessions that come and go, and files that a session lets
 -- go.
-use Rattle.std.specs.Prelude.{◌≡◌, ℕ, ◌<◌, ◌^◌, Bool, true, false, ◌==◌, nat_lt, if◌then◌else◌, List, [], ◌∷◌, length, Option, None, Some, Result, Ok, IfOk, IfSome}
+use Rattle.std.specs.Prelude.{◌≡◌, ℕ, ◌<◌, ◌^◌, true, false, ◌==◌, if◌then◌else◌, List, [], ◌∷◌, length, Option, None, Some, Result, Ok, IfOk, IfSome}
 use Rattle.std.specs.Int.{w64, from_be_bytes}
 use Rattle.jv_model.specs.declared.tables.TheConstants.{TABLE_OF_SUSTAINED}
 use Rattle.jv_model.specs.declared.fault.TxFault.{TxFault}
