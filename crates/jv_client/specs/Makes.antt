@@ -165,22 +165,11 @@ abbrev pub is_failure_entry : Device → ActKind → Bool
 is_failure_entry device (Answered told) = is_failure_of device told
 is_failure_entry device _ = false
 
--- the same, with the entries appended to a journal
+-- A step was made, and its entries are appended to a journal.
 pub record Steps (line now : ℕ) (h after : ClientValue) (before used : Shared)
     (journal more : List Act) (step : Step) : Type 0 where
   pub made : Made
+  pub makes : Makes now (length journal + 1) h after before used made
+  pub stats : AnswersStats h made
   pub step_is : step ≡ step_of made
   pub appends : more ≡ journal ++ entries_of line now h.id (kinds_of made)
-  pub id : after.id ≡ h.id
-  pub limits : after.limits ≡ h.limits
-  pub ready : IsReady after
-  pub devices : UsesDevices made before used
-  pub yard : YardUse now h made before.yard used.yard
-  pub cache : CacheUse h after made before.yard used.yard
-  pub stats : AnswersStats h made
-  pub alone : FailsAlone made
-  pub falls : Falls step h after
-  pub leads : (s : State) (g : Known) → s.count ≡ length journal → HasStore s.tree g before
-      → Holds s.tree (s.clients h.id)
-      → IsClient g before (s.clients h.id) s.count h
-      → StepsTo s g before h now (kinds_of made) step after used

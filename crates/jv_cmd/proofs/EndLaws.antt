@@ -32,11 +32,11 @@ use Rattle.jv_cmd.proofs.ReadingLaws.{IsKnownClock-earlier, each_more, first_is,
 use Rattle.jv_cmd.proofs.StepLaws.{InLine-cut, Legal-cut, Legal-reached, Stands-reached, printed-cut, text_of-reached}
 
 -- what the end of a run leaves
-Leaves-stands : (p : Past) (s : ScheduleValue) (v : Shared) → Stands p s v → Leaves v p.state.tree
-Leaves-stands p s v stands = record { known = stands.known; store = stands.state.has_store }
-
 Leaves-in_line : (p : Past) (s : ScheduleValue) (v : Shared) → InLine p s v → Leaves v p.state.tree
 Leaves-in_line p s v stands = record { known = stands.known; store = stands.state.has_store }
+
+Leaves-stands : (p : Past) (s : ScheduleValue) (v : Shared) → Stands p s v → Leaves v p.state.tree
+Leaves-stands p s v stands = Leaves-in_line p s v stands.in_line
 
 -- nothing was run since
 pub record IsIdle (now after : StageValue) : Type 0 where

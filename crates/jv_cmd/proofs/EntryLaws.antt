@@ -75,7 +75,7 @@ OfNext-from n p before after s k here none stands e =
       acts = e.acts;
       grows = e.grows;
       own = AreBetween-own n p e.acts here none
-          (stands.alone (p.state.count + 1)) e.allowed e.line;
+          (stands.in_line.alone (p.state.count + 1)) e.allowed e.line;
     }
 
 pub OfNext-settled : (left : Option (List ℕ)) (before now after : StageValue) (n : ℕ) (text : List ℕ) (line : Line)

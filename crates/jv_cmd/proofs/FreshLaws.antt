@@ -124,20 +124,22 @@ pub Stands-start : (start : Beginning) (before : StageValue) (setting : Setting)
     (status : ℕ) → StartsWhole before start → before.devices.yard.setting ≡ setting
     → Stands (at_start (session_run start known lines status)) (fresh_schedule setting before.limits) before.devices
 Stands-start start before setting known lines status w is = record {
-  complete = refl;
-  over = refl;
-  at = refl;
-  last = omega arith;
-  ticks = refl;
-  alone = λ entry. refl;
-  limits = w.limits;
-  setting = setting_first start before w ∙ is;
-  known = known_first start before w;
-  state = record {
-    has_store = HasStore-start start before w;
-    within = within_first start before w;
-    clients_are = each_fresh setting before.limits (IsClientAt (known_first start before w) (state_at_start (start_of start).tree) before.devices)
-        (IsClientAt-start (known_first start before w) (start_of start).tree before.devices before.limits);
-    apart = apart_first setting before.limits;
+  in_line = record {
+    complete = refl;
+    at = refl;
+    last = omega arith;
+    ticks = refl;
+    alone = λ entry. refl;
+    limits = w.limits;
+    setting = setting_first start before w ∙ is;
+    known = known_first start before w;
+    state = record {
+      has_store = HasStore-start start before w;
+      within = within_first start before w;
+      clients_are = each_fresh setting before.limits (IsClientAt (known_first start before w) (state_at_start (start_of start).tree) before.devices)
+          (IsClientAt-start (known_first start before w) (start_of start).tree before.devices before.limits);
+      apart = apart_first setting before.limits;
+    };
   };
+  over = refl;
 }

@@ -103,32 +103,36 @@ Advances-said line number before after s s' text says = record {
 -- where nothing more is due of the present line, the schedule stands too
 pub Stands-settled : (p : Past) (s : ScheduleValue) (k : Shared) → Stands p s k → Stands (record p { due = NoMore }) s k
 Stands-settled p s k st = record {
-  complete = st.complete;
+  in_line = record {
+    complete = st.in_line.complete;
+    at = st.in_line.at;
+    last = st.in_line.last;
+    ticks = st.in_line.ticks;
+    alone = st.in_line.alone;
+    limits = st.in_line.limits;
+    setting = st.in_line.setting;
+    known = st.in_line.known;
+    state = st.in_line.state;
+  };
   over = refl;
-  at = st.at;
-  last = st.last;
-  ticks = st.ticks;
-  alone = st.alone;
-  limits = st.limits;
-  setting = st.setting;
-  known = st.known;
-  state = st.state;
 }
 
 -- an empty line does nothing
 Stands-after_line : (p : Past) (more : List Line) (s : ScheduleValue) (k : Shared) → Stands p s k
     → Stands (begun (after_line p more) Empty) s k
 Stands-after_line p more s k st = record {
-  complete = and_from p.complete (is_over p) st.complete st.over;
+  in_line = record {
+    complete = and_from p.complete (is_over p) st.in_line.complete st.over;
+    at = st.in_line.at;
+    last = st.in_line.last;
+    ticks = st.in_line.ticks;
+    alone = st.in_line.alone;
+    limits = st.in_line.limits;
+    setting = st.in_line.setting;
+    known = st.in_line.known;
+    state = st.in_line.state;
+  };
   over = refl;
-  at = st.at;
-  last = st.last;
-  ticks = st.ticks;
-  alone = st.alone;
-  limits = st.limits;
-  setting = st.setting;
-  known = st.known;
-  state = st.state;
 }
 
 next_is : (p : Past) (more : List Line) → p.rest ≡ Empty ∷ more → begin_next p ≡ begun (after_line p more) Empty
@@ -189,7 +193,7 @@ Legal-reached run n asked text journal s k size r =
     record {
       allowed = r.allowed;
       ends = and_from (at_end run journal).complete (is_over (at_end run journal) || may_be_cut run.status && may_stop
-          (at_end run journal)) end.stands.complete
+          (at_end run journal)) end.stands.in_line.complete
           (or_left (is_over (at_end run journal)) (may_be_cut run.status && may_stop (at_end run journal))
           end.stands.over);
     }

@@ -31,6 +31,7 @@ use Rattle.jv_requests.specs.Request.{Request}
 use Rattle.jv_client.specs.ClientValue.{ClientValue}
 use Rattle.jv_client.specs.Held.{IsClient, Holds, in_flight}
 use Rattle.jv_client.specs.Makes.{StepsTo, entries_of, kinds_of}
+use Rattle.jv_client.proofs.StepOfLaws.{leads-of}
 use Rattle.jv_session.specs.declared.line_end.LineEnd.{LineEnd}
 use Rattle.jv_session.specs.declared.line_end.LineEnd.TheVariants.{Broken as LineBroken}
 use Rattle.jv_session.specs.declared.line_end.Stopped.{Stopped}
@@ -124,8 +125,8 @@ module _ (number client : ℕ) (before after : LineState) (step : Step) (m : Ste
     kinds_in = kinds_of m.steps.made
 
     pub stepped_uses : LineUses before after 1 failed_in
-    stepped_uses = uses_step before after number m.now m.old m.steps.made m.steps.appends m.steps.alone
-        m.moment.answered.passes m.steps.devices m.steps.yard
+    stepped_uses = uses_step before after number m.now m.old m.steps.made m.steps.appends m.steps.makes.alone
+        m.moment.answered.passes m.steps.makes.devices m.steps.makes.yard
         (ap (λ (s : ScheduleValue). s.at) m.same) (ap (λ (s : ScheduleValue). s.limits) m.same)
 
     -- from the past where the line stands
@@ -145,7 +146,7 @@ module _ (number client : ℕ) (before after : LineState) (step : Step) (m : Ste
       leads_own =
           let own = client_at q.run.start at.known q.state before.schedule.clients told client m.old state_told m.found
           in
-          m.steps.leads q.state at.known count state_told.has_store
+          leads-of m.steps q.state at.known count state_told.has_store
           (subst (λ k. Holds q.state.tree (q.state.clients k)) (sym m.id) own.holds)
           (subst (λ k. IsClient at.known told (q.state.clients k) q.state.count m.old) (sym m.id) own.is_client)
 
@@ -417,7 +418,7 @@ module _ (client number : ℕ) (before after : LineState) where
           uses = stepped_uses number client before after (Broken key bytes) m;
           calm = m.moment.answered.calm;
           bad = stopped_bad m.steps.made (at_moment m.now before.devices) after.devices key bytes
-              (sym m.steps.step_is) m.steps.devices;
+              (sym m.steps.step_is) m.steps.makes.devices;
           never = λ q due line at count clock. (once (Broken key bytes) m q due line at count clock).on.after;
         }
 

@@ -23,6 +23,7 @@ use Rattle.jv_contents.proofs.BlockLaws.{grows-then}
 use Rattle.jv_shared.specs.Shared.{present_in}
 use Rattle.jv_client.specs.ClientValue.{ClientValue}
 use Rattle.jv_client.specs.UnderWay.{steps_left}
+use Rattle.jv_client.proofs.StepOfLaws.{falls-of}
 use Rattle.jv_session.specs.declared.line_end.LineEnd.{LineEnd}
 use Rattle.jv_session.specs.declared.line_end.LineEnd.TheVariants.{Broken as LineBroken}
 use Rattle.jv_session.specs.declared.line_end.Stopped.{Stopped}
@@ -169,7 +170,7 @@ module _ (client number : ℕ) (start now later : LineState) (h : Reached client
     uses = uses_more More m;
     calm = calm_more More m;
     busy = ap (λ (v : ScheduleValue). client_is_busy v client) m.same
-        ∙ busy_set now.schedule.clients client m.old m.new m.found m.steps.falls.1;
+        ∙ busy_set now.schedule.clients client m.old m.new m.found (falls-of m.steps).1;
     yard = (stepped_uses number client now later More m).yard h.yard;
     leads = leads_more_steps m;
   }
@@ -265,7 +266,7 @@ module _ (client number : ℕ) (start now later : LineState) (h : Reached client
           uses = uses_more (Broken key bytes) m;
           calm = calm_more (Broken key bytes) m;
           bad = stopped_bad m.steps.made (at_moment m.now now.devices) later.devices key bytes
-              (sym m.steps.step_is) m.steps.devices;
+              (sym m.steps.step_is) m.steps.makes.devices;
           never = never_bad key bytes m;
         }
 
@@ -286,7 +287,7 @@ falls_at client number now later m =
     let is : steps_at later.schedule client ≡ steps_left m.new =
     ap (λ (v : ScheduleValue). steps_at v client) m.same
     ∙ ap steps_in (slice_get-set now.schedule.clients client m.new m.old m.found) in
-    let falls = m.steps.falls.0 in
+    let falls = (falls-of m.steps).0 in
     omega (arith, was, is, falls)
 
 pub falls_step : (client number : ℕ) (now later : LineState) (made : Result Step Stopped)

@@ -59,7 +59,7 @@ pub record Enters (line : Line) (number : ℕ) (s : ScheduleValue) (Where : Past
 
 next_of : (p : Past) (s : ScheduleValue) (v : Shared) (line : Line) (more : List Line) → Stands p s v
     → p.rest ≡ line ∷ more → IsNext p line more
-next_of p s v line more st rest = record { complete = st.complete; over = st.over; rest = rest }
+next_of p s v line more st rest = record { complete = st.in_line.complete; over = st.over; rest = rest }
 
 -- with the line begun, a schedule stands in it that has the line's clients
 in_line : (p q : Past) (s : ScheduleValue) (v : Shared) (more : List Line) (due : Due) (said : List ℕ)
@@ -68,12 +68,12 @@ in_line : (p q : Past) (s : ScheduleValue) (v : Shared) (more : List Line) (due 
     → InLine q (record s { clients = clients }) v
 in_line p q s v more due said state clients g st b tree is_state = record {
   complete = b.complete;
-  at = b.at ∙ st.at;
-  last = subst (λ at. at ≤ LAST_MOMENT) (sym b.at) st.last;
-  ticks = ap (min LAST_MOMENT) b.ticks ∙ st.ticks;
-  alone = alone_at p q b.run st.alone;
-  limits = ap (λ (run : Setup). run.limits) b.run ∙ st.limits;
-  setting = ap (λ (x : State). x.tree.setting) b.state_is ∙ ap (λ (t : Tree). t.setting) tree ∙ st.setting;
+  at = b.at ∙ st.in_line.at;
+  last = subst (λ at. at ≤ LAST_MOMENT) (sym b.at) st.in_line.last;
+  ticks = ap (min LAST_MOMENT) b.ticks ∙ st.in_line.ticks;
+  alone = alone_at p q b.run st.in_line.alone;
+  limits = ap (λ (run : Setup). run.limits) b.run ∙ st.in_line.limits;
+  setting = ap (λ (x : State). x.tree.setting) b.state_is ∙ ap (λ (t : Tree). t.setting) tree ∙ st.in_line.setting;
   known = g;
   state = subst (λ (run : Setup). IsState run.start g q.state clients v) (sym b.run)
       (subst (λ (x : State). IsState p.run.start g x clients v) (sym b.state_is) is_state);
@@ -91,16 +91,16 @@ accepted : (p : Past) (s s1 : ScheduleValue) (v : Shared) (client : ℕ) (o : Op
     → HasBegun s s1 client o → Accepts p s s1 v client o
 accepted p s s1 v client o st h =
     let m = p.state.clients client in
-    let old = client_at p.run.start st.known p.state s.clients v client h.old st.state h.found in
-    let both = h.is_new st.known v m p.state.count old.is_client in
+    let old = client_at p.run.start st.in_line.known p.state s.clients v client h.old st.in_line.state h.found in
+    let both = h.is_new st.in_line.known v m p.state.count old.is_client in
     record {
       accepts = both.0;
-      known = st.known;
+      known = st.in_line.known;
       clients = slice_set s.clients client h.new;
       same = h.same;
-      state = set_state p.run.start st.known p.state s.clients v st.state client (submitted p.run.limits o m) h.old
+      state = set_state p.run.start st.in_line.known p.state s.clients v st.in_line.state client (submitted p.run.limits o m) h.old
           h.new h.found h.no_flight
-          (subst (λ (l : Limits). IsClient st.known v (submitted l o m) p.state.count h.new) (sym st.limits) both.1)
+          (subst (λ (l : Limits). IsClient st.in_line.known v (submitted l o m) p.state.count h.new) (sym st.in_line.limits) both.1)
           (holds-doing p.state.tree m _ old.holds);
     }
 
@@ -108,8 +108,8 @@ refuses : (p : Past) (s s1 : ScheduleValue) (v : Shared) (client : ℕ) (o : Op)
     → HasRefused s s1 client o fault
     → submission (p.state.clients client) o ≡ Some fault
 refuses p s s1 v client o fault st h =
-    h.refused st.known v (p.state.clients client) p.state.count
-    (client_at p.run.start st.known p.state s.clients v client h.old st.state h.found).is_client
+    h.refused st.in_line.known v (p.state.clients client) p.state.count
+    (client_at p.run.start st.in_line.known p.state s.clients v client h.old st.in_line.state h.found).is_client
 
 -- whether an operation of the client is in progress is the same of both
 
@@ -122,8 +122,8 @@ busy_of g q v client (Some c) some h = some-same IsDoing (q.clients client).doin
 busy_same : (p : Past) (s : ScheduleValue) (v : Shared) (client : ℕ) → client < length s.clients
     → Stands p s v → is_busy p client ≡ client_is_busy s client
 busy_same p s v client inside st =
-    busy_of st.known p.state v client (slice_get s.clients client)
-    (ap is_some (slice_get_inside s.clients client inside).1) (st.state.clients_are client)
+    busy_of st.in_line.known p.state v client (slice_get s.clients client)
+    (ap is_some (slice_get_inside s.clients client inside).1) (st.in_line.state.clients_are client)
 
 -- a line that has all its entries when it is begun, and says this
 pub record SaysAlone (text : List ℕ) (q : Past) : Type 0 where
@@ -157,7 +157,7 @@ same_line p q s v more due said Where st b at = record {
   state = p.state;
   begun = b;
   place = at;
-  in_line = in_line p q s v more due said p.state s.clients st.known st b refl st.state;
+  in_line = in_line p q s v more due said p.state s.clients st.in_line.known st b refl st.in_line.state;
 }
 
 refused_line : (p q : Past) (s s1 : ScheduleValue) (v : Shared) (client : ℕ) (o : Op) (fault : Fault)
@@ -317,18 +317,7 @@ module _ (p q : Past) (more : List Line) (number : ℕ) (due : Due) (said : List
     acts = f.acts;
     end = f.end;
     appends = appends f.acts f.end next begins b f.goes;
-    stands = record {
-      complete = f.in_line.complete;
-      over = f.over;
-      at = f.in_line.at;
-      last = f.in_line.last;
-      ticks = f.in_line.ticks;
-      alone = f.in_line.alone;
-      limits = f.in_line.limits;
-      setting = f.in_line.setting;
-      known = f.in_line.known;
-      state = f.in_line.state;
-    };
+    stands = record { in_line = f.in_line; over = f.over };
     kept = f.kept;
     said = f.said;
   }

@@ -75,20 +75,8 @@ pub record IsState (start : Start) (g : Known) (q : State) (clients : List Clien
   pub clients_are : (k : ℕ) → IfSome (slice_get clients k) (IsClientAt g q v k)
   pub apart : AreApart clients
 
--- between two lines; no uploading thread makes an entry
-pub record Stands (q : Past) (s : ScheduleValue) (v : Shared) : Type 0 where
-  pub complete : q.complete ≡ true
-  pub over : is_over q ≡ true
-  pub at : q.at ≡ s.at
-  pub last : q.at ≤ LAST_MOMENT
-  pub ticks : min LAST_MOMENT q.ticks ≡ s.ticks
-  pub alone : (n : ℕ) → q.run.by_worker n ≡ false
-  pub limits : q.run.limits ≡ s.limits
-  pub setting : q.state.tree.setting ≡ s.setting
-  pub known : Known
-  pub state : IsState q.run.start known q.state s.clients v
-
--- the schedule stands where the past is, whose present line is begun
+-- the schedule stands where the past is, whose present line is begun; no uploading thread makes an
+-- entry
 pub record InLine (q : Past) (s : ScheduleValue) (v : Shared) : Type 0 where
   pub complete : q.complete ≡ true
   pub at : q.at ≡ s.at
@@ -99,6 +87,11 @@ pub record InLine (q : Past) (s : ScheduleValue) (v : Shared) : Type 0 where
   pub setting : q.state.tree.setting ≡ s.setting
   pub known : Known
   pub state : IsState q.run.start known q.state s.clients v
+
+-- between two lines: the present one has no entry to come
+pub record Stands (q : Past) (s : ScheduleValue) (v : Shared) : Type 0 where
+  pub in_line : InLine q s v
+  pub over : is_over q ≡ true
 
 -- whether an operation of the client at a place is in progress
 abbrev pub busy_in : Option ClientValue → Bool

@@ -26,7 +26,7 @@ invariant_of-self g c =
     let is = c.in_ok-now.ensures.moment.is in
     let steps = c.step-step.ensures in
     stepped_schedule c.self.inside.limits c.self.inside.at c.self.inside.ticks c.seconds-self-inside.result clients k
-    old c.step-step.new.self c.self.invariant (omega (arith, seconds, is)) m steps.id steps.limits steps.ready
+    old c.step-step.new.self c.self.invariant (omega (arith, seconds, is)) m steps.makes.id steps.makes.limits steps.makes.ready
 
 pub returns : goal.returns
 returns g c =
