@@ -23,11 +23,13 @@ use Rattle.jv_client.specs.UnderWay.{FlushesFor, Closes, Syncs, Describes, Reads
 use Rattle.jv_client.specs.UnderWay.{Truncates as FlushTruncates}
 use Rattle.jv_client.specs.UnderWay.{IsForm, Mounts, Transacts, Leaves, Writes, Flushes, Copies}
 use Rattle.jv_client.specs.UnderWay.{SaysStats, IsUnderWay, ClosesOpen, asks_more, ends_itself}
-use Rattle.jv_client.specs.UnderWay.{has_not_seen, has_segment, moved_to, reading_steps, steps_in, steps_left}
+use Rattle.jv_client.specs.UnderWay.{covered, has_not_seen, has_segment, moved_to, reading_steps, steps_in, steps_left}
 use Rattle.jv_client.specs.Flushing.{without_segment}
 use Rattle.jv_client.proofs.GoesOnLaws.{Continues, form-on}
+use Rattle.jv_client.proofs.CoveredLaws.{covered-without}
 use Rattle.jv_client.proofs.NextSegmentLaws.{own_file}
 use Rattle.jv_client.proofs.ReadyLaws.{few-none}
+use Rattle.jv_client.proofs.WithoutLaws.{length-parted}
 
 -- ---- what is open
 
@@ -164,7 +166,9 @@ module _ (h : ClientValue) (d : Doing) (segment : Segment) (form : IsForm h d)
         → quiets ≤ 1 + segment.len → 0 < segment.len → h.doing ≡ Some d
         → steps_left after_request < steps_left h
     falls-without quiets started id at few some busy =
-        let before : steps_left h ≡ 3 * length h.pending + reading_steps d.does - quiets =
+        let before : steps_left h ≡ 3 * length (covered d.flush h.pending) + reading_steps d.does - quiets =
         ap (λ (o : Option Doing). steps_left (record h { doing = o })) busy
-        ∙ ap (λ p. steps_in (length h.pending) (record d { progress = p })) at in
-        omega (arith, before, fewer, few, some)
+        ∙ ap (λ p. steps_in h.pending (record d { progress = p })) at in
+        let left = covered-without d.flush segment h.pending next in
+        let own = length-parted segment h.pending in
+        omega (arith, before, left, own, fewer, few, some)

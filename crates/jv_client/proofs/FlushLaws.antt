@@ -35,7 +35,7 @@ use Rattle.jv_client.specs.Flushing.{bytes_of}
 use Rattle.jv_client.specs.Held.{IsClient, IsOnWay, flight_by, flush_of_code}
 use Rattle.jv_client.specs.Held.{in_flight, number_of, segment_left, stage_of}
 use Rattle.jv_client.specs.UnderWay.{IsReady, IsWorking, has_segment, asks_more, left, moved_to, progress_of, reading_steps}
-use Rattle.jv_client.specs.UnderWay.{steps_in}
+use Rattle.jv_client.specs.UnderWay.{covered, steps_in}
 use Rattle.jv_client.specs.Makes.{Makes, UsesDevices}
 use Rattle.jv_client.specs.YardUse.{YardUse}
 use Rattle.jv_client.specs.Transacting.{EndsUnmade}
@@ -43,7 +43,8 @@ use Rattle.jv_handles.proofs.TableLaws.{the_some}
 use Rattle.jv_client.proofs.HeldLaws.{client-doing, doing_of, holds-doing}
 use Rattle.jv_client.proofs.KeptLaws.{client-asks}
 use Rattle.jv_client.proofs.GoesOnLaws.{goes-on, in_progress}
-use Rattle.jv_client.proofs.LeftLaws.{flight-flying, flight-is, left-is, segment-short}
+use Rattle.jv_client.proofs.LeftLaws.{flight-flying, flight-is, left-is}
+use Rattle.jv_client.proofs.CoveredLaws.{segment-short}
 use Rattle.jv_client.proofs.UnmadeLaws.{UnmadeLeads, InState, not_taken, unmade, uses-keeper}
 use Rattle.jv_client.proofs.AnswerLaws.{makes-as, same-yard}
 
@@ -83,14 +84,14 @@ module _ (now entry : ℕ) (h : ClientValue) (d : Doing) (before used : Shared) 
   flying : flight_by h.pending d.flush stage ≡ Some flight
   flying = flight-flying h.pending d.flush (quiets + 1) quiets moment number segment (omega arith) next_is
 
-  fewer : steps_in (length h.pending) asking < steps_in (length h.pending) d
+  fewer : steps_in h.pending asking < steps_in h.pending d
   fewer =
-      let was : steps_in (length h.pending) d ≡ 3 * length h.pending + reading_steps d.does - quiets =
-      ap (λ (p : Progress). steps_in (length h.pending) (record d { progress = p })) at in
-      let short = segment-short d.flush h.pending segment next_is in
+      let was : steps_in h.pending d ≡ 3 * length (covered d.flush h.pending) + reading_steps d.does - quiets =
+      ap (λ (p : Progress). steps_in h.pending (record d { progress = p })) at in
+      let short = segment-short d.flush segment h.pending next_is in
       let low = short.0 in
-      let pending = short.1 in
-      omega (arith, was, few, low, pending)
+      let some_left = short.1 in
+      omega (arith, was, few, low, some_left)
 
   works : IsWorking after asking (quiets + 1) number
   works = record {

@@ -101,7 +101,7 @@ module _ (now entry : ℕ) (h after : ClientValue) (d : Doing) (p : Progress) (k
   -- The client becomes `after`, whose operation made a request of this kind and is at `p`.
   pub goes-on : after.id ≡ h.id → after.cache ≡ h.cache → Continues h after → after.doing ≡ Some (moved_to p d)
       → IsAt after (moved_to p d) p → IsTrue (has_more after (moved_to p d) p)
-      → steps_in (length after.pending) (moved_to p d) < steps_in (length h.pending) d
+      → steps_in after.pending (moved_to p d) < steps_in h.pending d
       → UsesDevices (AsksFor kind) before used → YardUse now h (AsksFor kind) before.yard used.yard
       → is_answer kind ≡ false
       → ((s : State) (g : Known) → s.count + 1 ≡ entry → HasStore s.tree g before → Holds s.tree (s.clients h.id)
@@ -124,9 +124,8 @@ module _ (now entry : ℕ) (h after : ClientValue) (d : Doing) (p : Progress) (k
     cache = cache-stays h d busy after (AsksFor kind) before.yard used.yard refl kept tt;
     alone = asks;
     falls = (
-      (let now_left : steps_left after ≡ steps_in (length after.pending) asked =
-          ap (steps_of (length after.pending)) is in
-          let was_left : steps_left h ≡ steps_in (length h.pending) d = ap (steps_of (length h.pending)) busy in
+      (let now_left : steps_left after ≡ steps_in after.pending asked = ap (steps_of after.pending) is in
+          let was_left : steps_left h ≡ steps_in h.pending d = ap (steps_of h.pending) busy in
           omega (arith, now_left, was_left, fewer)),
       ap is_some is,
     );

@@ -29,6 +29,7 @@ pub mod CommitLaws
 pub mod CommittedLaws
 pub mod GoesOnLaws
 pub mod LeftLaws
+pub mod CoveredLaws
 pub mod UnmadeLaws
 pub mod FlushLaws
 pub mod PutBlockLaws

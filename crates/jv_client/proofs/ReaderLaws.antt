@@ -1,5 +1,5 @@
 -- A reading in progress: its form, the model's reading that it stands for, and that it may ask for something.
-use Rattle.std.proofs.Common.{◌≡◌, ℕ, zero, suc, ◌+◌, ◌*◌, ◌≤◌, ◌<◌, true, false, not, List, length, Option, None}
+use Rattle.std.proofs.Common.{◌≡◌, ℕ, zero, suc, ◌≤◌, ◌<◌, true, false, not, List, Option, None}
 use Rattle.std.proofs.Common.{Some, refl, sym, ap, subst, ◌∙◌, arith}
 use Rattle.std.specs.Prelude.{is_some, IsTrue, IfSome, IsSomeAnd}
 use Rattle.jv_model.specs.declared.limits.TheConstants.{FILE_END, MAX_DATA, WINDOW}
@@ -161,7 +161,7 @@ pub record IsAsking (block : ℕ) (h : ClientValue) (d : Doing) (offset len : �
   pub wants : Wants reads.file.views fetch next
   pub lacks : LacksNeed next cache
   pub looked : LooksUp (cache_in h.limits.entries h.cache) cache
-  pub fewer : 3 * length h.pending + fetch_left fetch ≤ steps_left h
+  pub fewer : fetch_left fetch ≤ steps_left h
   pub goes : (g : Known) (v : Shared) (m : ModelClient) (count : ℕ) → v.yard.setting.block ≡ block
       → IsClient g v m count h
       → (fetch.block ≡ v.yard.setting.block) × IsFetching g.blocks reads.file.views (asked_parts offset len) fetch
@@ -226,9 +226,8 @@ is_asking block h c next a ready after none need = by_cache (the_some c.cache re
         (some_is (λ (handle : Handle). CanFetch handle.views a.fetch × Wants handle.views a.fetch a.next)
         (file_of c.handles (handle_of a.d.op)) reads.file opened reading.goes_on)
 
-    steps : steps_left c ≡ 3 * length h.pending + fetch_left a.fetch
-    steps = ap (λ o. steps_of (length c.pending) o) here
-        ∙ ap (λ (pending : List PendingByte). 3 * length pending + fetch_left a.fetch) pending
+    steps : steps_left c ≡ fetch_left a.fetch
+    steps = ap (steps_of c.pending) here
 
     by_cache : (cache : Cached) × (c.cache ≡ Some cache) → Asking block h c next
     by_cache (cache, is) = record {

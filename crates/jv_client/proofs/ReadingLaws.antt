@@ -41,7 +41,7 @@ use Rattle.jv_client.specs.Held.{GoesOn, IsClient, IsHeld, flush_of_code, segmen
 use Rattle.jv_client.specs.UnderWay.{FlushesFor, Closes, Syncs, Describes, ReadsNothing, Reads, Truncates as CutsOff}
 use Rattle.jv_client.specs.UnderWay.{IsForm, Mounts, Transacts, Leaves, Writes, Flushes, Copies, SaysStats}
 use Rattle.jv_client.specs.UnderWay.{IsAt, IsReading, IsReady, IsUnderWay, LacksNeed, does_of, has_segment, left}
-use Rattle.jv_client.specs.UnderWay.{left_of, reading_steps, steps_in, steps_left, steps_of}
+use Rattle.jv_client.specs.UnderWay.{covered, left_of, reading_steps, steps_in, steps_left, steps_of}
 use Rattle.jv_client.specs.Reading.{Already, Begins, ClientComesTo, ComesTo, FromStart, GoesAhead, IsAhead, IsCachedAs}
 use Rattle.jv_client.specs.Reading.{IsMade, LookedUp, OnlyLooksUp, ReadsAtOnce, Untouched, cache_in, need_at, need_in}
 use Rattle.jv_client.specs.Reading.{new_cache, put_at, read_of}
@@ -254,12 +254,11 @@ module _ (offset len block : ℕ) (h : ClientValue) (d : Doing) (busy : h.doing 
   not_begun = not-begun h d (under_way h d busy ready) (flushed-here h d busy none) (ap need_in (sym busy) ∙ first)
 
   -- the steps that are left before it
-  most : steps_left h ≡ 3 * length h.pending + (len + 2) - 0
+  most : steps_left h ≡ 3 * length (covered d.flush h.pending) + (len + 2) - 0
   most =
-      let n = length h.pending in
-      ap (steps_of n) busy
-      ∙ ap (λ (p : Progress). steps_in n (record d { progress = p })) not_begun.progress
-      ∙ ap (λ (x : Does). 3 * n + reading_steps x - 0) is
+      ap (steps_of h.pending) busy
+      ∙ ap (λ (p : Progress). steps_in h.pending (record d { progress = p })) not_begun.progress
+      ∙ ap (λ (x : Does). 3 * length (covered d.flush h.pending) + reading_steps x - 0) is
 
   module _ (cache later : Cached) (has : HasCache h cache) (looks : LooksUp cache later) where
     abbrev went : ClientValue

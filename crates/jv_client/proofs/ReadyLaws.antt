@@ -1,12 +1,14 @@
 -- An operation that was begun goes on well.
-use Rattle.std.proofs.Common.{◌≡◌, ℕ, zero, suc, ◌+◌, ◌≤◌, ◌<◌, Bool, true, false, ◌&&◌, ◌||◌, not, List, [], ◌∷◌, length, Option, None, Some, inl, inr, refl, sym, ap, subst, ◌∙◌, arith}
+use Rattle.std.proofs.Common.{◌≡◌, ℕ, zero, suc, ◌+◌, ◌-◌, ◌*◌, ◌≤◌, ◌<◌, Bool, true, false, ◌&&◌, ◌||◌, not, List, [], ◌∷◌, length, Option, None, Some, inl, inr, refl, sym, ap, subst, ◌∙◌, arith}
 use Rattle.std.specs.Prelude.{IfSome, nat_lt, nat_le, is_some, ◌==◌, if◌then◌else◌}
 use Rattle.std.proofs.lemmas.Bool.{leb-false, leb-true, ltb-false, not-false, not-true, or_parts}
 use Rattle.std.proofs.lemmas.Bool.Decides.{eqb_tells}
 use Rattle.jv_model.specs.declared.limits.TheConstants.{FILE_END, MAX_DATA, MAX_HANDLES}
 use Rattle.jv_model.specs.declared.fault.Fault.TheVariants.{InProgress, NotConnected, BadHandle, TooManyHandles, FileTooLarge}
+use Rattle.jv_model.specs.declared.basics.Limits.{Limits}
 use Rattle.jv_model.specs.declared.op.Op.{Op}
 use Rattle.jv_model.specs.declared.op.Op.TheVariants as op
+use Rattle.jv_model.specs.declared.profile.Does.{Does}
 use Rattle.jv_model.specs.declared.profile.Does.TheVariants as does
 use Rattle.jv_model.specs.declared.profile.Answer.TheVariants as answer
 use Rattle.jv_model.specs.declared.profile.Profile.{Profile}
@@ -24,6 +26,7 @@ use Rattle.jv_client.specs.declared.doing.Flush.TheVariants as flush
 use Rattle.jv_client.specs.ClientValue.{ClientValue}
 use Rattle.jv_client.specs.Held.{begun, flush_here, segment_left}
 use Rattle.jv_client.specs.UnderWay.{Alone, Beside, Closes, Copies, Describes, Flushes, FlushesFor, HasRoom, IsForm, IsReady, IsUnderWay, Leaves, Mounts, Reads, ReadsNothing, Syncs, SaysStats, Transacts, Truncates, Writes}
+use Rattle.jv_client.specs.UnderWay.{covered, most_steps, reading_steps, steps_in}
 
 -- a submission that isn't refused
 
@@ -191,3 +194,17 @@ begun-ready h o d ready built none same =
       asks = λ moved. absurd (cc moved);
     } in
     record { buffer = ready.buffer; doing = subst (IsUnderWay (record h { doing = Some d })) (sym same) way }
+
+-- ---- how many steps it makes
+
+reading-same : (limits : Limits) (what : Does) → reading_steps (by_limits limits what) ≡ reading_steps what
+reading-same limits (does.Mounts writeback) = refl
+reading-same limits _ = refl
+
+-- At its begin fewer than its most steps are left before its last one.
+pub steps-bounded : (h : ClientValue) (o : Op) (d : Doing) → d ≡ starts h o → steps_in h.pending d < most_steps h o
+steps-bounded h o d same =
+    let begins : steps_in h.pending d ≡ 3 * length (covered (flush_here h (profile o)) h.pending)
+    + reading_steps (by_limits h.limits (profile o).does) - 0 = ap (steps_in h.pending) same in
+    let reads = reading-same h.limits (profile o).does in
+    omega (arith, begins, reads)

@@ -1,5 +1,5 @@
 -- What holds of a client's own state before each step.
-use Rattle.std.specs.Prelude.{◌≡◌, ◌≢◌, ℕ, ◌+◌, ◌-◌, ◌*◌, ◌/◌, ◌≤◌, ◌<◌, Bool, true, false, ◌||◌, not, IsTrue, IfSome, IsSomeAnd, List, [], length, is_some, Option, None, Some}
+use Rattle.std.specs.Prelude.{◌≡◌, ◌≢◌, ℕ, ◌+◌, ◌-◌, ◌*◌, ◌/◌, ◌≤◌, ◌<◌, Bool, true, false, ◌||◌, not, IsTrue, IfSome, IsSomeAnd, List, [], filter, length, is_some, Option, None, Some}
 use Rattle.jv_model.specs.declared.limits.TheConstants.{FILE_END, MAX_DATA, WINDOW}
 use Rattle.jv_model.specs.declared.op.Op.{Op}
 use Rattle.jv_model.specs.declared.op.Op.TheVariants as op
@@ -13,9 +13,10 @@ use Rattle.jv_model.specs.declared.profile.Does.TheVariants as does
 use Rattle.jv_model.specs.script.Spelled.{is_spelled}
 use Rattle.jv_pending.specs.Held.{PendingValue}
 use Rattle.jv_model.specs.client.Pending.{PendingByte, Segment, written}
-use Rattle.jv_model.specs.client.Profile.{handle_of}
-use Rattle.jv_model.specs.client.ModelClient.{file_of}
+use Rattle.jv_model.specs.client.Profile.{handle_of, profile}
+use Rattle.jv_model.specs.client.ModelClient.{Flush as ModelFlush, OfFiles, OfAll, file_of}
 use Rattle.jv_model.specs.client.OpForms.{closed_by, is_transaction}
+use Rattle.jv_model.specs.Lists.{is_among}
 use Rattle.jv_cache.specs.Cached.{Cached}
 use Rattle.jv_fetching.specs.declared.need.Need.{Need}
 use Rattle.jv_fetching.specs.declared.need.Need.TheVariants as need
@@ -31,7 +32,7 @@ use Rattle.jv_client.specs.declared.doing.Flush.TheVariants as flush
 use Rattle.jv_client.specs.declared.doing.Progress.{Progress}
 use Rattle.jv_client.specs.declared.doing.Progress.TheVariants.{Working, Reading}
 use Rattle.jv_client.specs.ClientValue.{ClientValue}
-use Rattle.jv_client.specs.Held.{is_last_here, segment_left}
+use Rattle.jv_client.specs.Held.{flush_here, flush_of_code, is_last_here, segment_left}
 use Rattle.jv_client.specs.Ending.{told_here}
 
 abbrev pub has_segment : ClientValue → Doing → Bool
@@ -149,19 +150,35 @@ abbrev pub reading_steps : Does → ℕ
 reading_steps (does.Reads offset len) = len + 2
 reading_steps _ = 0
 
+-- whether a flush commits what is pending of an inode
+abbrev pub covers : ModelFlush → ℕ → Bool
+covers (OfFiles inodes) inode = is_among inode inodes
+covers OfAll inode = true
+
+-- the pending bytes that a flush commits
+abbrev pub covered : Flush → List PendingByte → List PendingByte
+covered first = filter (λ b. covers (flush_of_code first) b.inode)
+
 -- the most steps that an operation still makes before its last one
-abbrev pub steps_in : ℕ → Doing → ℕ
+abbrev pub steps_in : List PendingByte → Doing → ℕ
 steps_in pending d = elim d.progress [
-  | Working quiets started id ↦ 3 * pending + reading_steps d.does - quiets
-  | Reading fetch next ↦ 3 * pending + fetch_left fetch
+  | Working quiets started id ↦
+      3 * length (covered d.flush pending) + reading_steps d.does - quiets
+  | Reading fetch next ↦ fetch_left fetch
 ]
 
-abbrev pub steps_of : ℕ → Option Doing → ℕ
+abbrev pub steps_of : List PendingByte → Option Doing → ℕ
 steps_of pending None = 0
 steps_of pending (Some d) = steps_in pending d
 
 abbrev pub steps_left : ClientValue → ℕ
-steps_left h = steps_of (length h.pending) h.doing
+steps_left h = steps_of h.pending h.doing
+
+-- the most steps that an operation makes, its last one too: one, three for each byte that it
+-- flushes, and those of its reading
+abbrev pub most_steps : ClientValue → Op → ℕ
+most_steps h o =
+    1 + 3 * length (covered (flush_here h (profile o)) h.pending) + reading_steps (profile o).does
 
 -- parts of the operation in progress
 

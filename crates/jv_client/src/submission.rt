@@ -1,5 +1,5 @@
 //! How an operation begins.
-ghost use Rattle.std.specs.Prelude.{◌≡◌, ℕ, ◌≤◌, IfErr, IsSome, IsTrue, is_some, length, OnOk, OnErr, Some, None};
+ghost use Rattle.std.specs.Prelude.{◌≡◌, ℕ, ◌≤◌, ◌<◌, IfErr, IsSome, IsTrue, is_some, length, OnOk, OnErr, Some, None};
 ghost use Rattle.jv_model.specs.declared.act.Told.TheVariants.{Refused};
 ghost use Rattle.jv_model.specs.declared.limits.TheConstants.{MAX_HANDLES, FILE_END};
 ghost use Rattle.jv_model.specs.client.ModelClient.{ModelClient, open_count};
@@ -9,7 +9,7 @@ ghost use Rattle.jv_client.specs.Built.{is_built_op};
 ghost use Rattle.jv_handles.specs.Handles.{inode_here};
 ghost use Rattle.jv_shared.specs.Shared.{Known, Shared};
 ghost use Rattle.jv_client.specs.Makes.{IsCalm};
-ghost use Rattle.jv_client.specs.UnderWay.{IsReady};
+ghost use Rattle.jv_client.specs.UnderWay.{IsReady, most_steps, steps_left};
 ghost use Rattle.jv_client.specs.Held.{IsClient, begun, flush_here, full_flush, files_here, in_flight, refused_with};
 
 use crate::client::Client;
@@ -21,8 +21,9 @@ impl Client {
     /// Begins an operation. Refuses, with the operation handed back, by the first of these that holds: `InProgress`
     /// where one is in progress or a mounted client mounts, `NotConnected` where the client isn't mounted, `BadHandle`
     /// where a handle that it names isn't open, `TooManyHandles` where it would open one handle more than there may be,
-    /// and `FileTooLarge` where a write ends past the longest file. On error nothing has changed. POSIX.1-2017, 2.3
-    /// "Error Numbers".
+    /// and `FileTooLarge` where a write ends past the longest file. On error nothing has changed. The operation takes one
+    /// step at most, three more for each pending byte of the files that it flushes, and for a read two more and one for
+    /// each byte asked. POSIX.1-2017, 2.3 "Error Numbers".
     pub fn submit(&mut self, op: Op) -> Result<(), (Op, Fault)>
         ensures refusal { (g : Known) (v : Shared) (m : ModelClient) (count : ℕ)
             → IsClient g v m count self.old → refused_with result ≡ submission m op }
@@ -33,6 +34,7 @@ impl Client {
         ensures no_flight { OnOk result (in_flight self.new ≡ 0) }
         ensures ready { IsReady self.old → IsTrue (is_built_op self.old.limits op)
             → OnOk result (IsReady self.new) }
+        ensures bounded { OnOk result (steps_left self.new < most_steps self.old op) }
         ensures busy { OnOk result (IsSome self.new.doing) }
         ensures still { self.new ≡ record self.old { doing = self.new.doing } }
         ensures err { OnErr result (self.new ≡ self.old) }

@@ -1,5 +1,5 @@
 -- The client in memory and the model's are refused alike, and begin alike.
-use Rattle.std.proofs.Common.{◌≡◌, is_some, sym, ap, subst, ◌∙◌, Option, Some}
+use Rattle.std.proofs.Common.{◌≡◌, ◌<◌, is_some, sym, ap, subst, ◌∙◌, Option, Some}
 use Rattle.jv_model.specs.client.Profile.{profile}
 use Rattle.jv_model.specs.declared.profile.Profile.{Profile}
 use Rattle.jv_model.specs.client.ModelClient.{open_count}
@@ -7,8 +7,8 @@ use Rattle.jv_model.specs.client.Submission.{submitted, submission_of, names_clo
 use Rattle.jv_client.specs.declared.doing.Doing.{Doing}
 use Rattle.jv_client.specs.ClientValue.{ClientValue}
 use Rattle.jv_client.specs.Held.{IsClient, begun, flush_here}
-use Rattle.jv_client.specs.UnderWay.{IsReady}
-use Rattle.jv_client.proofs.ReadyLaws.{begun-ready}
+use Rattle.jv_client.specs.UnderWay.{IsReady, most_steps, steps_left}
+use Rattle.jv_client.proofs.ReadyLaws.{begun-ready, steps-bounded}
 use Rattle.jv_client.proofs.SubmissionLaws.{refusal-by, refusal-calm, begun-stands}
 use Rattle.jv_client.proofs.client.Client.submit.Goals as goal
 
@@ -64,3 +64,19 @@ returns-clause-ready c ready built =
     let stands = begun-ready value o c.begun.result ready built none doing in
     let placed = subst (λ (d : Option Doing). IsReady (record value { doing = d })) (sym c.begin.ensures) stands in
     subst (λ (v : ClientValue). IsReady (record v { doing = c.begin.new.doing })) (sym seen) placed
+
+pub returns-clause-bounded : goal.returns-clause-bounded
+returns-clause-bounded c =
+    let value : ClientValue = c.args.self.now in
+    let o = c.args.op in
+    let row : c.profile-row.result ≡ profile o = c.profile-row.ensures in
+    let seen = c.self.view_is in
+    let does = c.by_limits-does.ensures ∙ ap (λ (r : Profile). by_limits c.self.inside.limits r.does) row
+    ∙ ap (λ (v : ClientValue). by_limits v.limits (profile o).does) seen in
+    let flush = c.flush_of-flush.ensures ∙ ap (λ r. flush_here value r) row in
+    let doing = c.begun.ensures ∙ ap (λ does. begun o does c.flush_of-flush.result) does
+    ∙ ap (begun o (by_limits value.limits (profile o).does)) flush in
+    let few = steps-bounded value o c.begun.result doing in
+    let placed = subst (λ (d : Option Doing). steps_left (record value { doing = d }) < most_steps value o)
+    (sym c.begin.ensures) few in
+    subst (λ (v : ClientValue). steps_left (record v { doing = c.begin.new.doing }) < most_steps value o) (sym seen) placed
