@@ -13,9 +13,7 @@ use jiff::Timestamp;
 use jiff::civil::DateTime;
 use jiff::tz::Offset;
 use jv_model::lifetimes::{FIRST_HOUR, HOUR};
-use jv_model::{
-    MAX_NAME, Moment, Name, READ_ONLY_MODE, TRASH_ROOT, TxFault, copied,
-};
+use jv_model::{MAX_NAME, Moment, Name, READ_ONLY_MODE, TRASH_ROOT, TxFault, copied};
 use jv_outside::Keeper;
 use jv_rows::{Draft, needed_node, new_directory};
 use std::alloc::{AllocError, Global};
