@@ -38,7 +38,7 @@ returns-in_err-put_entry-clause-step g c =
     c.hour_inode-inode.result (c.hour_inode-inode.ensures ∙ ap (λ n. hour_inode (n / HOUR)) c.seconds.ensures.seconds)
     c.in_ok-node.ensures
     (sym c.is_some.ensures ∙ c.if-is_some.false) (g.K.Keeper.seen c.needed_node.new.k) c.in_ok-needed_node.field-0
-    c.in_ok-needed_node.ensures c.put_node.new.self c.new_directory.result c.new_directory.ensures
+    c.in_ok-needed_node.ensures c.put_node.new.self c.new_directory-hour.result c.new_directory-hour.ensures
     (was_drafted _ _ _ _ c.put_node.result c.in_ok-put_node.was c.put_node.ensures) c.in_ok-name.name
     (c.in_ok-name.ensures ∙ c.as_slice.ensures
     ∙ c.hour_name.ensures) (g.K.Keeper.seen c.put_entry.new.k) c.put_entry.new.draft c.in_err-put_entry.field-0.0
@@ -52,7 +52,7 @@ returns-clause-step g c =
     c.hour_inode-inode.result (c.hour_inode-inode.ensures ∙ ap (λ n. hour_inode (n / HOUR)) c.seconds.ensures.seconds)
     c.in_ok-node.ensures
     (sym c.is_some.ensures ∙ c.if-is_some.false) (g.K.Keeper.seen c.needed_node.new.k) c.in_ok-needed_node.field-0
-    c.in_ok-needed_node.ensures c.put_node.new.self c.new_directory.result c.new_directory.ensures
+    c.in_ok-needed_node.ensures c.put_node.new.self c.new_directory-hour.result c.new_directory-hour.ensures
     (was_drafted _ _ _ _ c.put_node.result c.in_ok-put_node.was c.put_node.ensures) c.in_ok-name.name
     (c.in_ok-name.ensures ∙ c.as_slice.ensures
     ∙ c.hour_name.ensures) (g.K.Keeper.seen c.put_entry.new.k) c.put_entry.new.draft c.in_ok-put_entry.ensures
