@@ -6,6 +6,7 @@ use Rattle.jv_model.specs.journal.State.{State}
 use Rattle.jv_shared.specs.Shared.{Shared, Known, HasStore}
 use Rattle.jv_client.specs.declared.made.Made.{Made}
 use Rattle.jv_client.specs.ClientValue.{ClientValue}
+use Rattle.jv_client.specs.Held.{Holds, IsClient}
 use Rattle.jv_client.specs.Stats.{AnswersStats}
 use Rattle.jv_client.specs.Makes.{Falls, Makes, Steps, StepsTo, entries_of, kinds_of, step_of}
 
