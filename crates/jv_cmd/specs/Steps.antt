@@ -20,7 +20,7 @@ use Rattle.jv_cmd.specs.declared.ended.Ended.TheVariants.{LineNotRun, BadRow, Ou
 use Rattle.jv_model.specs.declared.limits.TheConstants.{MAX_LINE, MAX_LINES}
 use Rattle.jv_cmd.specs.Texts.{texts_of}
 use Rattle.jv_cmd.specs.Stages.{StageValue}
-use Rattle.jv_cmd.specs.Run.{Beginning, IsKnownClock, IsBuilt, StartsWhole, session_run}
+use Rattle.jv_cmd.specs.Run.{Beginning, IsKnownClock, IsBuilt, StartsWhole, session_run, IsTextNotRun}
 use Rattle.jv_cmd.specs.Generating.{EndsScript}
 
 -- a past after `done` lines of a run, with these lines to come: the schedule stands there, and this
