@@ -16,7 +16,7 @@ use crate::client::{Client, forget};
 use crate::made::Made;
 use jv_cache::BlockCache;
 use jv_handles::{Handle, clear, inode_at, named};
-use jv_model::{ActKind, Answer, Does, Fault, Gone, Handles, Op, Reply, Sequence, Told};
+use jv_model::{ActKind, Answer, Does, Fault, Gone, Op, Reply, Sequence, Told};
 use jv_pending::Pending;
 use std::alloc::AllocError;
 
@@ -113,7 +113,7 @@ impl Client {
         ensures { IfSome self.now.doing (λ d. result ≡ handle_of d.op) }
     {
         match &self.doing {
-            Some(doing) => handle_of(&doing.op),
+            Some(doing) => doing.op.handle(),
             None => unreachable!(),
         }
     }
@@ -208,21 +208,6 @@ fn cache_numbers(cache: &Option<BlockCache>) -> (u64, u64, u64)
     match cache {
         Some(cache) => (cache.hits(), cache.misses(), cache.len() as u64),
         None => (0, 0, 0),
-    }
-}
-
-/// The first handle that an operation names, 0 where it names none. A read asks at each of its steps, so it is found without
-/// the whole profile.
-pub(crate) fn handle_of(op: &Op) -> u64
-    ensures { result ≡ handle_of op.now }
-{
-    if let Op::Read { handle, .. } = op {
-        return *handle;
-    }
-    match op.profile().handles {
-        Handles::None => 0,
-        Handles::One(handle) => handle,
-        Handles::Two(handle, _) => handle,
     }
 }
 

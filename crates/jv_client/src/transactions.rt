@@ -17,7 +17,7 @@ ghost use Rattle.jv_model.specs.declared.op.Reply.TheVariants.{SessionMade};
 ghost use Rattle.jv_model.specs.declared.profile.Does.TheVariants.{Releases};
 ghost use Rattle.jv_model.specs.client.OpForms.{is_tried};
 
-use crate::answers::{handle_of, looks};
+use crate::answers::looks;
 use crate::client::Client;
 use crate::made::Made;
 use jv_handles::{Handle, Views, free_handle, held, inode_at, is_open_elsewhere, set};
@@ -169,7 +169,7 @@ fn attempt<K: Keeper>(
         now,
     };
     let handle = free_handle(handles);
-    let inode = inode_at(handles, handle_of(op));
+    let inode = inode_at(handles, op.handle());
     transact(alloc, k, &who, handle, inode, op)
 }
 

@@ -54,7 +54,8 @@ fn push_read(text: &mut Vec<u8>, handle: u64, offset: u64, len: u32) -> Result<(
 }
 
 fn push_write(text: &mut Vec<u8>, handle: u64, offset: u64, bytes: &[u8]) -> Result<(), AllocError>
-    ensures { OnOk result (text.new.items ≡ text.old.items ++ words_of_write handle offset bytes.now) }
+    ensures { OnOk result (text.new.items
+        ≡ text.old.items ++ words_of_write handle offset bytes.now) }
 {
     text.extend_from_slice(b"write")?;
     push_number(text, handle)?;

@@ -8,13 +8,11 @@ use Rattle.jv_model.specs.rows.RowKeys.{RowMap}
 use Rattle.jv_model.specs.tree.Caller.{Caller, outcome}
 pub use Rattle.jv_model.specs.tree.TreeAct.{attempt}
 use Rattle.jv_model.specs.client.OpForms.{takes_entries}
-pub use Rattle.jv_model.specs.client.OpForms.{is_metadata}
 use Rattle.jv_outside.specs.Store.{Store}
 use Rattle.jv_volume.specs.TypedRows.{typed}
 use Rattle.jv_volume.specs.TreeOf.{tree_of}
 use Rattle.jv_volume.specs.Whole.{Whole}
 use Rattle.jv_links.specs.Removals.{HoldsFiles, KeepsAnew}
-pub use Rattle.jv_model.specs.script.Spelled.{is_spelled}
 use Rattle.jv_metadata.specs.declared.answers.Answer.{Answer}
 
 -- a result with its value changed

@@ -2,9 +2,7 @@
 #![tactic(auto)]
 
 mod answers;
-mod forms;
 mod transactions;
 
 pub use answers::Answer;
-pub use forms::{is_metadata, is_spelled};
 pub use transactions::transact;

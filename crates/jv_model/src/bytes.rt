@@ -1,5 +1,7 @@
 //! Byte strings.
 ghost use Rattle.std.specs.Prelude.{◌≡◌, IfOk};
+ghost use Rattle.std.specs.List.{list_all};
+ghost use Rattle.jv_model.specs.Lists.{has_no_zero};
 
 use crate::sequence::Sequence;
 use std::alloc::{AllocError, Global};
@@ -21,4 +23,11 @@ pub fn copied(alloc: Global, bytes: &[u8]) -> Result<Bytes, AllocError>
     ensures { IfOk result (λ copy. copy ≡ bytes.now) }
 {
     Ok(Sequence::from_vec(bytes.to_vec(alloc)?))
+}
+
+/// Whether no byte is 0: paths and the targets of symlinks have none.
+pub fn has_no_zero(bytes: &[u8]) -> bool
+    ensures { result ≡ has_no_zero bytes.now }
+{
+    bytes.iter().all(|byte| *byte != 0)
 }

@@ -16,11 +16,12 @@ mod row;
 mod sequence;
 mod setting;
 mod slice;
+mod spelled;
 pub mod tables;
 
 pub use act::{Act, ActKind, NO_CLIENT, Told};
 pub use basics::{ClientId, How, InodeList, Limits, Moment, Who};
-pub use bytes::{Bytes, Name, Path, Text, copied};
+pub use bytes::{Bytes, Name, Path, Text, copied, has_no_zero};
 pub use fault::{Busy, Device, Down, Fault, Gone, RowFault, TxFault};
 pub use journal::Journal;
 pub use limits::{

@@ -1,6 +1,6 @@
 //! What a client has to know of an operation before its first step.
 ghost use Rattle.std.specs.Prelude.{◌≡◌};
-ghost use Rattle.jv_model.specs.client.Profile.{profile, of_mounted, of_any_client, flushing_all, opening, on_file, on_files, read_does, write_profile};
+ghost use Rattle.jv_model.specs.client.Profile.{profile, handle_of, of_mounted, of_any_client, flushing_all, opening, on_file, on_files, read_does, write_profile};
 
 use crate::limits::FILE_END;
 use crate::op::Op;
@@ -85,6 +85,21 @@ const TRANSACTION: Profile = Profile {
 };
 
 impl Op {
+    /// The first handle that the operation names, 0 where it names none. A read asks for it at each of its steps, so it is
+    /// found without the whole profile.
+    pub fn handle(&self) -> u64
+        ensures { result ≡ handle_of self.now }
+    {
+        if let Op::Read { handle, .. } = self {
+            return *handle;
+        }
+        match self.profile().handles {
+            Handles::None => 0,
+            Handles::One(handle) => handle,
+            Handles::Two(handle, _) => handle,
+        }
+    }
+
     /// What the operation needs before its first step, what it commits first, and what it does then.
     pub fn profile(&self) -> Profile
         ensures { result ≡ profile self.now }

@@ -2,14 +2,13 @@
 ghost use Rattle.std.specs.Prelude.{◌≡◌};
 ghost use Rattle.std.specs.List.{list_all};
 ghost use Rattle.std.specs.Str.{is_utf8};
-ghost use Rattle.jv_model.specs.Lists.{has_no_zero};
 ghost use Rattle.jv_model.specs.rows.RowGrammar.{is_setting, is_block_length, is_volume_name, is_name_byte, is_bucket, is_counters, is_node, is_of_kind, is_target, is_edge, is_list, is_slice, is_session};
 ghost use Rattle.jv_model.specs.blocks.Slices.{is_record, is_part};
 
 use jv_model::{
     Counters, DIRECTORY_LENGTH, Edge, FULL_COUNT, LAST_CLIENT, List, MAX_BLOCK, MAX_BUCKET,
     MAX_CAPACITY, MAX_MODE, MAX_PATH, MAX_TRASH_DAYS, MAX_VOLUME_NAME, MIN_BLOCK, MIN_VOLUME_NAME,
-    Node, Rec, Session, Setting, SliceRow, WINDOW,
+    Node, Rec, Session, Setting, SliceRow, WINDOW, has_no_zero,
 };
 use std::str::from_utf8;
 
@@ -90,13 +89,6 @@ pub fn allows_counters(c: &Counters) -> bool
     ensures { result ≡ is_counters c.now }
 {
     1 <= c.inode && 1 <= c.slice && 1 <= c.session
-}
-
-/// Whether no byte is 0: paths and the targets of symlinks have none.
-pub fn has_no_zero(bytes: &[u8]) -> bool
-    ensures { result ≡ has_no_zero bytes.now }
-{
-    bytes.iter().all(|byte| *byte != 0)
 }
 
 /// Whether a symlink may have this target: 1 to [`MAX_PATH`] bytes without the byte 0.

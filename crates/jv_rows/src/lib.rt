@@ -25,7 +25,7 @@ mod writing;
 pub use adjusting::adjust;
 pub use allowed::{
     allows_block, allows_counters, allows_edge, allows_list, allows_node, allows_record,
-    allows_session, allows_setting, allows_slice, has_no_zero,
+    allows_session, allows_setting, allows_slice,
 };
 pub use drafts::Draft;
 pub use fresh::{default_setting, fresh_rows, new_directory};

@@ -3,7 +3,6 @@ ghost use Rattle.std.specs.Prelude.{◌≡◌};
 ghost use Rattle.jv_client.specs.Built.{is_built_line, is_built_op};
 
 use crate::schedule::Schedule;
-use jv_metadata::is_spelled;
 use jv_model::{Limits, Line, MAX_DATA, Op};
 
 impl Schedule {
@@ -29,6 +28,6 @@ fn is_built_op(limits: &Limits, op: &Op) -> bool
         Op::Compact { .. } | Op::Clean | Op::Gc { .. } | Op::Upload => false,
         Op::Read { len, .. } => u64::from(*len) <= MAX_DATA,
         Op::Write { bytes, .. } => bytes.len() as u64 <= MAX_DATA,
-        _ => is_spelled(op),
+        _ => op.is_spelled(),
     }
 }

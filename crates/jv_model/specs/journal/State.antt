@@ -490,7 +490,8 @@ after_item s client k = set_client s client (with_stage (Cleans k) (s.clients cl
 abbrev pub after_expiry : State → ℕ → ℕ → Doing → State
 after_expiry s client sid d =
     let k = cleaning_of d.stage in
-    after_item (with_tree (without_session s.tree sid) s) client (record k { sessions = k.sessions + 1 })
+    after_item (with_tree (without_session s.tree sid) s) client
+    (record k { sessions = k.sessions + 1 })
 
 abbrev pub after_purge : State → ℕ → ℕ → Doing → State
 after_purge s client inode d =

@@ -22,6 +22,6 @@ returns g c h id session handles =
     (c.in_ok-held.ensures ∙ ap held_here (sym handles))
     refl
     (c.free_handle-handle.ensures.free ∙ ap free_handle (sym handles))
-    (c.inode_at-inode.ensures ∙ ap (inode_here c.args.handles.now) c.handle_of.ensures
+    (c.inode_at-inode.ensures ∙ ap (inode_here c.args.handles.now) c.handle.ensures
     ∙ ap (λ handles. inode_here handles (handle_of c.args.op.now)) (sym handles))
     c.transact.ensures.does c.transact.ensures.says c.transact.ensures.answers
