@@ -1,6 +1,5 @@
 //! Answers that need no further request.
-ghost use Rattle.std.specs.Prelude.{◌≡◌, ℕ, ◌+◌, ◌≤◌, length, IfSome, IsSome, IsTrue, IfOk, OnErr, false, None, Some, if◌then◌else◌};
-ghost use Rattle.jv_model.specs.declared.limits.TheConstants.{FILE_END};
+ghost use Rattle.std.specs.Prelude.{◌≡◌, ℕ, IfSome, IsSome, IsTrue, IfOk, OnErr, false, None, Some, if◌then◌else◌};
 ghost use Rattle.jv_model.specs.declared.act.Told.TheVariants.{Looks};
 ghost use Rattle.jv_model.specs.client.ModelClient.{file_of};
 ghost use Rattle.jv_model.specs.client.Profile.{handle_of};

@@ -1,5 +1,5 @@
 //! Operations that are one metadata transaction, after what they flush.
-ghost use Rattle.std.specs.Prelude.{◌≡◌, ℕ, ◌+◌, ◌≤◌, IsSome, IsTrue, IfSome, OnOk, None, Some, vec_len, vec_capacity};
+ghost use Rattle.std.specs.Prelude.{◌≡◌, ◌+◌, ◌≤◌, IsSome, IsTrue, IfSome, OnOk, None, Some, vec_len, vec_capacity};
 ghost use Rattle.jv_model.specs.client.ModelClient.{free_handle, with_file};
 ghost use Rattle.jv_model.specs.journal.State.{gift_of};
 ghost use Rattle.jv_model.specs.journal.Steps.{entry_of_gift, told_of};

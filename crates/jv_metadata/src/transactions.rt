@@ -1,5 +1,5 @@
 //! An operation's transaction.
-ghost use Rattle.std.specs.Prelude.{◌≡◌, IsTrue};
+ghost use Rattle.std.specs.Prelude.{IsTrue};
 ghost use Rattle.jv_metadata.specs.Attempts.{AnswersPlainly, Asks, attempt, SaysKept};
 ghost use Rattle.jv_model.specs.script.Spelled.{is_spelled};
 ghost use Rattle.jv_links.specs.Removals.{HoldsFiles};

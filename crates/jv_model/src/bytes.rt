@@ -1,6 +1,5 @@
 //! Byte strings.
 ghost use Rattle.std.specs.Prelude.{◌≡◌, IfOk};
-ghost use Rattle.std.specs.List.{list_all};
 ghost use Rattle.jv_model.specs.Lists.{has_no_zero};
 
 use crate::sequence::Sequence;
