@@ -24,7 +24,7 @@ use Rattle.jv_volume.proofs.StoredLaws.{found_node, no_node, whole-stored}
 use Rattle.jv_rows.specs.Drafts.{Sees, cell}
 use Rattle.jv_rows.specs.Transactions.{Looks}
 use Rattle.jv_rows.proofs.NeedingLaws.{session_is}
-use Rattle.jv_rows.proofs.TransactionLaws.{Past, if_known, past-start, past-as, past-calm, past-looks, past-fails, past-gives, past-refuses, fails-sees, stands-sees, as_stored}
+use Rattle.jv_rows.proofs.TransactionLaws.{Past, if_known, past-start, past-as, past-calm, past-looks, past-fails, past-gives, past-refuses, fails-sees, stands-sees, as_stored, node-seen}
 use Rattle.jv_data.specs.Committing.{HasFile}
 
 -- what a look does once its session is there
@@ -53,8 +53,7 @@ module _ (before middle : Store) (sid inode : ℕ) where
       seen = past-calm before middle after act (length_at inode) asked s.rows_are s.opened_at s.counts
 
       stands : (known : RowMap) → before.rows ≡ Some known → node_row_at (typed known) inode ≡ node_in (row_in (cell OfNode found))
-      stands known is = ap (λ c. node_in (row_in c))
-          (stands-sees OfNode is_node (node_key inode) [] middle after (as_stored (node_key inode) middle) found s known (asked.rows_are ∙ is))
+      stands known is = node-seen inode middle after found s known (asked.rows_are ∙ is)
 
     pub file-gone : Sees OfNode is_node (node_key inode) [] middle after (Ok None) → HasFile sid inode before after (Err (Refused (Stale (GoneNode inode))))
     file-gone s =

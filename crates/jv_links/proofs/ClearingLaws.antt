@@ -20,7 +20,7 @@ use Rattle.jv_links.specs.declared.fates.Removed.{Removed}
 use Rattle.jv_links.specs.Removals.{MayLose, SaysFate, is_inode, kept_by}
 use Rattle.jv_links.specs.Replacements.{MayClear, SaysCleared}
 use Rattle.jv_changes.proofs.DraftStepLaws.{steps-then, steps-ended, step-as, step-fails, step-value, drafting-err, drafting-exit}
-use Rattle.jv_links.proofs.RemovalStepLaws.{stands_at, empty_apart, empty_goes}
+use Rattle.jv_links.proofs.RemovalStepLaws.{drops, stands_at, empty_apart, empty_goes}
 use Rattle.jv_links.proofs.UnlinkLaws.{kept-remove_entry}
 
 module _ (t : Tree) (who : Caller) (place : EntryKey) (inode : ℕ) where
@@ -59,9 +59,6 @@ module _ (who : Caller) (place : EntryKey) (inode : ℕ) (was : List Change) (be
     abbrev takes : Tree → Result Tree Fault
     takes t = Ok (take_entry t now place)
 
-    abbrev drops : Tree → Result Tree Fault
-    drops t = Ok (drop_node t inode)
-
     -- its entry wasn't taken
     pub clear-not_taken : (result : Result (Option Removed) TxFault) (fault : TxFault)
         → IsErrAnd result (λ e. e ≡ fault)
@@ -84,21 +81,21 @@ module _ (who : Caller) (place : EntryKey) (inode : ℕ) (was : List Change) (be
       -- its node wasn't dropped
       pub clear-not_dropped : (result : Result (Option Removed) TxFault) (fault : TxFault)
           → IsErrAnd result (λ e. e ≡ fault)
-          → Drafting {A = Unit {0}} (λ t. MayGo t inode) taken changes middle after (Err fault) drops
+          → Drafting {A = Unit {0}} (λ t. MayGo t inode) taken changes middle after (Err fault) (drops inode)
           → Drafting is_empty was changes before after result step
       clear-not_dropped result fault is e = drafting-exit is_empty was changes before after step result fault is
           (steps-ended is_empty was taken changes before middle after (tt {0}) takes (λ t. take_entry t now place) took
           (λ known at bytes t m r. refl)
-          (λ t. MayGo t inode) drops step (λ t. drop_node (take_entry t now place) inode) fault e
+          (λ t. MayGo t inode) (drops inode) step (λ t. drop_node (take_entry t now place) inode) fault e
           (λ known at bytes t m r. goes t r) (λ known at bytes t m r. refl))
 
       -- it is gone
-      pub clear-dropped : Drafting {A = Unit {0}} (λ t. MayGo t inode) taken changes middle after (Ok tt) drops
+      pub clear-dropped : Drafting {A = Unit {0}} (λ t. MayGo t inode) taken changes middle after (Ok tt) (drops inode)
           → Drafting {A = Option Removed} is_empty was changes before after (Ok None) step
       clear-dropped e = step-value is_empty was changes before after (tt {0}) None step
           (steps-then is_empty was taken changes before middle after (tt {0}) takes (λ t. take_entry t now place) took
           (λ known at bytes t m r. refl)
-          (λ t. MayGo t inode) drops step (Ok (tt {0})) e
+          (λ t. MayGo t inode) (drops inode) step (Ok (tt {0})) e
           (λ known at bytes t m r. goes t r)
           (λ known at bytes t m r. ap (λ n. Ok (remove_directory t n place inode)) (sym same) ∙ ap Ok
           (sym (target_dir t who place inode r.kind))))

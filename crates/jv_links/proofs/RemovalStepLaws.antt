@@ -1,10 +1,11 @@
 -- What lets the small changes of a removal be made: facts of whole trees.
-use Rattle.std.proofs.Common.{◌≡◌, ◌≢◌, ℕ, ◌<◌, true, false, not, ◌==◌, inl, inr, Some, is_some, sym, ap, subst, ◌∙◌, arith, ne_eqb}
+use Rattle.std.proofs.Common.{◌≡◌, ◌≢◌, ℕ, ◌<◌, true, false, not, ◌==◌, inl, inr, Some, Result, Ok, is_some, sym, ap, subst, ◌∙◌, arith, ne_eqb}
 use Rattle.std.specs.Prelude.{nat_lt}
 use Rattle.std.proofs.lemmas.Bool.{false≢true, and_from, not-true, or_parts, lt-ltb, eqb-false, cases_lt}
 use Rattle.jv_model.specs.declared.limits.TheConstants.{ROOT, TRASH_ROOT}
+use Rattle.jv_model.specs.declared.fault.Fault.{Fault}
 use Rattle.jv_model.specs.FiniteMap.{get}
-use Rattle.jv_model.specs.tree.Changes.{touched, take_entry}
+use Rattle.jv_model.specs.tree.Changes.{touched, take_entry, drop_node}
 use Rattle.jv_model.specs.tree.Removing.{may_go}
 use Rattle.jv_model.specs.tree.Tree.{Tree, EntryKey, entry_key, is_counted, is_directory, has_entries, node_at}
 use Rattle.jv_model.specs.tree.Walk.{is_trash}
@@ -13,6 +14,10 @@ use Rattle.jv_volume.specs.Shape.{WholeShape, shape_of, is_dir, names}
 use Rattle.jv_volume.proofs.ChangeLaws.{change_node-apart, change_node-next_inode}
 use Rattle.jv_volume.proofs.RemovalLaws.{directory_may_go, leaf_empty}
 use Rattle.jv_volume.proofs.ShapeMapLaws.{was_kept, only_one, is_there-form, is_dir-form}
+
+-- the step in which a node goes
+abbrev pub drops : ℕ → Tree → Result Tree Fault
+drops inode t = Ok (drop_node t inode)
 
 module _ (t : Tree) (place : EntryKey) (inode : ℕ) (whole : WholeShape (shape_of t))
     (is : get t.entries place ≡ Some inode) where

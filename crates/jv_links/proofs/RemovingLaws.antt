@@ -32,7 +32,7 @@ use Rattle.jv_changes.proofs.DraftingLaws.{PastSteps, OfWhole, steps-start, step
 use Rattle.jv_links.specs.declared.removing.Removable.{Removable}
 use Rattle.jv_links.specs.Removable.{removable_at, removable_place, ComesToRemovable}
 use Rattle.jv_links.proofs.RemovableLaws.{IsRemovable, is_removable}
-use Rattle.jv_links.proofs.RemovalStepLaws.{stands_at, empty_apart, empty_goes}
+use Rattle.jv_links.proofs.RemovalStepLaws.{drops, stands_at, empty_apart, empty_goes}
 
 -- ---- the operations by their parts
 
@@ -237,9 +237,6 @@ module _ (who : Who) (caller : Caller) (is_for : IsFor who caller) (path : List 
               (λ t. StandsAt t (removable_place entry) inode) takes without d stands
               (λ known at whole bytes unit. refl)
 
-          abbrev drops : Tree → Result Tree Fault
-          drops t = Ok (drop_node t inode)
-
           goes : OfWhole Always before (λ t. MayGo (without t) inode)
           goes known is whole bytes unit =
               let t = tree_of bytes (typed known) in
@@ -251,17 +248,17 @@ module _ (who : Who) (caller : Caller) (is_for : IsFor who caller) (path : List 
           -- its node wasn't dropped
           pub rmdir-not_dropped : (result : Result (Unit {0}) TxFault) (fault : TxFault)
               → IsErrAnd result (λ e. e ≡ fault)
-              → Drafting {A = Unit {0}} (λ t. MayGo t inode) less all taken gone (Err fault) drops
+              → Drafting {A = Unit {0}} (λ t. MayGo t inode) less all taken gone (Err fault) (drops inode)
               → Transacts Always before gone result says removes
           rmdir-not_dropped result fault is e = transacts-error Always before gone says removes result fault is
               (steps-stop Always before taken gone less all without says removes rest took fault
-              (λ t. MayGo t inode) drops e goes
+              (λ t. MayGo t inode) (drops inode) e goes
               (λ known at whole bytes unit refused e. absurd (cc)))
 
-          module _ (e : Drafting {A = Unit {0}} (λ t. MayGo t inode) less all taken gone (Ok tt) drops)
+          module _ (e : Drafting {A = Unit {0}} (λ t. MayGo t inode) less all taken gone (Ok tt) (drops inode))
               (last : Store) where
             dropped : PastSteps Always before gone all (λ t. drop_node (without t) inode) removes rest
-            dropped = steps-on Always before taken gone less all without removes rest took tt (λ t. MayGo t inode) drops
+            dropped = steps-on Always before taken gone less all without removes rest took tt (λ t. MayGo t inode) (drops inode)
                 (λ t. drop_node (without t) inode) e goes
                 (λ known at whole bytes unit. refl)
 

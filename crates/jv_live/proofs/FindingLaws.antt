@@ -30,7 +30,8 @@ use Rattle.jv_volume.specs.Whole.{Whole}
 use Rattle.jv_volume.proofs.TableLaws.{long_below}
 use Rattle.jv_live.specs.Steps.{last_key, first_kept, IsSpelled, FindsKept}
 
-abbrev finds : Tree → Result (Unit {0}) Fault
+-- what is made of a tree by a step that only finds something
+abbrev pub finds : Tree → Result (Unit {0}) Fault
 finds t = Ok tt
 
 module _ (sid : ℕ) (after : Option ℕ) (last : RowKey) (before now : Store) where

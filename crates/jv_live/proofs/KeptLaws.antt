@@ -114,9 +114,6 @@ module _ (sid inode : ℕ) (small : inode < 2 ^ 64) (before after : Store) (pair
   abbrev ReadsNode : Result (Option NodeRow) RowFault → Type 0
   ReadsNode result = ReadsRow node_of node_bytes is_node (node_key inode) before after result
 
-  abbrev finds : Tree → Result (Unit {0}) Fault
-  finds t = Ok tt
-
   seen_node : (result : Result (Option NodeRow) RowFault) → ReadsNode result → Sees OfNode is_node (node_key inode) [] before after result
   seen_node result r = sees_stored OfNode node_of 2 node_row (node_key inode) refl node_bytes is_node [] before after result refl r
 

@@ -10,10 +10,14 @@ use Rattle.jv_model.specs.declared.fault.RowFault.TheVariants.{Bad, Failed, Memo
 use Rattle.jv_model.specs.declared.fault.TxFault.{TxFault}
 use Rattle.jv_model.specs.declared.fault.TxFault.TheVariants.{Refused, Moved, Rows as OfRows}
 use Rattle.jv_model.specs.declared.op.Reply.{Reply}
+use Rattle.jv_model.specs.declared.row.Node.{Node as NodeRow}
 use Rattle.jv_model.specs.declared.row.Row.{Row}
+use Rattle.jv_model.specs.declared.row.Row.TheVariants.{OfNode}
 use Rattle.jv_model.specs.declared.row.RowKey.{RowKey}
 use Rattle.jv_model.specs.FiniteMap.{get}
 use Rattle.jv_model.specs.rows.RowFaults.{row_fault}
+use Rattle.jv_model.specs.rows.RowGrammar.{is_node}
+use Rattle.jv_model.specs.rows.RowPlaces.{node_key}
 use Rattle.jv_model.specs.rows.RowKeys.{RowMap}
 use Rattle.jv_model.specs.tree.Attempt.{◌>>=◌}
 use Rattle.jv_model.specs.tree.Caller.{Outcome, answered}
@@ -22,6 +26,7 @@ use Rattle.jv_outside.specs.declared.batch.Change.{Change}
 use Rattle.jv_outside.specs.Rows.{applied}
 use Rattle.jv_outside.specs.Store.{Store, Commits}
 use Rattle.jv_volume.specs.TypedRows.{typed}
+use Rattle.jv_volume.specs.Views.{node_in, node_row_at, row_in}
 use Rattle.jv_volume.specs.TreeOf.{tree_of}
 use Rattle.jv_volume.specs.Whole.{Whole, Quiet}
 use Rattle.jv_volume.proofs.StoredLaws.{whole-typed}
@@ -291,6 +296,13 @@ module _ {A : Type 0} (row : A → Row) (is_allowed : A → Bool) (key : RowKey)
 
   pub stands-sees : (found : Option A) → Sees row is_allowed key changes before after (Ok found) → (known : RowMap) → before.rows ≡ Some known → get (typed known) key ≡ cell row found
   stands-sees found s known is = sym (kept known is) ∙ of_known (λ known. get (drafted changes known) key ≡ cell row found) before.rows known is s.found
+
+-- a node that was read, over no changes, is the one that the rows have
+pub node-seen : (inode : ℕ) (before after : Store) (found : Option NodeRow)
+    → Sees OfNode is_node (node_key inode) [] before after (Ok found) → (known : RowMap) → before.rows ≡ Some known
+    → node_row_at (typed known) inode ≡ node_in (row_in (cell OfNode found))
+node-seen inode before after found s known is =
+    ap (λ c. node_in (row_in c)) (stands-sees OfNode is_node (node_key inode) [] before after (as_stored (node_key inode) before) found s known is)
 
 -- a reading over a new draft is one over no changes
 pub seen-fresh : {A : Type 0} (row : A → Row) (is_allowed : A → Bool) (key : RowKey) (changes : List Change) (before after : Store) (result seen : Result (Option A) RowFault)

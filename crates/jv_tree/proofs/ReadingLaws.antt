@@ -38,7 +38,7 @@ use Rattle.jv_rows.specs.Transactions.{IsFor, Looks, Transacts, Always}
 use Rattle.jv_rows.specs.Walks.{Comes}
 use Rattle.jv_rows.specs.declared.walking.Place.{Place}
 use Rattle.jv_rows.proofs.NeedingLaws.{session_is, SettingNeeded, CountersNeeded, stands-needs, fails-needed}
-use Rattle.jv_rows.proofs.TransactionLaws.{Past, past-as, past-calm, past-looks, past-stops, past-fails, past-refuses, transacts-refused, transacts-exit, transacts-answers, fails-sees, stands-sees, as_stored}
+use Rattle.jv_rows.proofs.TransactionLaws.{Past, past-as, past-calm, past-looks, past-stops, past-fails, past-refuses, transacts-refused, transacts-exit, transacts-answers, fails-sees, as_stored, node-seen}
 use Rattle.jv_rows.proofs.ArrivalLaws.{has-node, arrives, past-session, stops-session}
 use Rattle.jv_tree.specs.Attributes.{kind_in, attr_in}
 
@@ -322,7 +322,7 @@ module _ (before middle after : Store) (who : Who) (caller : Caller) (is_for : I
       seen = past-calm before middle after fstat_act (described_open inode) asked s.rows_are s.opened_at s.counts
 
       stands : (known : RowMap) → before.rows ≡ Some known → node_row_at (typed known) inode ≡ node_in (row_in (cell OfNode found))
-      stands known is = ap (λ c. node_in (row_in c)) (stands-sees OfNode is_node (node_key inode) [] middle after (as_stored (node_key inode) middle) found s known (asked.rows_are ∙ is))
+      stands known is = node-seen inode middle after found s known (asked.rows_are ∙ is)
 
     pub fstat-there : (node : NodeRow) (attr : Attr) → Sees OfNode is_node (node_key inode) [] middle after (Ok (Some node)) → attr ≡ attr_in inode node
         → Transacts Always before after (Ok attr) (λ attr. Described attr) fstat_act
