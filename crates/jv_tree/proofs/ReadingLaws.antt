@@ -23,7 +23,7 @@ use Rattle.jv_model.specs.rows.RowKeys.{RowMap}
 use Rattle.jv_model.specs.tree.Attempt.{◌>>=◌, require, some_or}
 use Rattle.jv_model.specs.tree.Caller.{Caller, Outcome, answered, in_session}
 use Rattle.jv_model.specs.tree.Reading.{lookup, readdir, entries_of, stat, lstat, fstat, open_file, readlink, statfs, described, attr_of, usage_of, file_kind}
-use Rattle.jv_model.specs.tree.Tree.{Tree, Kind, File, Directory, Symlink, node_at, is_directory, target_at}
+use Rattle.jv_model.specs.tree.Tree.{Tree, File, Directory, Symlink, node_at, is_directory, target_at}
 use Rattle.jv_model.specs.tree.Walk.{inode_by}
 use Rattle.jv_model.specs.tree.Changes.{content_of}
 use Rattle.jv_outside.specs.Store.{Store}
