@@ -1,15 +1,19 @@
-//! The plain program that bench/data compares with: it runs the lines of standard input that write, truncate, copy and
-//! read, over one map of pages a file, in memory. It knows one client's lines as juicevol prints them, checks nothing, and
-//! keeps nothing: no sessions, no transactions, no blocks and no proofs. Its answers are juicevol's where those are `ok`.
+//! The plain program that bench/session and bench/data compare with: it runs the lines of their scripts over one map of
+//! pages a file, in memory. It knows these lines as juicevol prints them and checks nothing. It has no sessions, rows,
+//! transactions, blocks, caches or proofs, and each client sees what another one wrote at once. Its answers are
+//! juicevol's for these scripts, each handed to the kernel by a call of its own, as juicevol's are.
 use std::collections::HashMap;
 use std::io::{self, BufRead, Write};
 
 const PAGE: usize = 4096;
+const CLIENTS: usize = 8;
 
 #[derive(Default)]
 struct File {
     pages: HashMap<u64, Box<[u8; PAGE]>>,
     length: u64,
+    /// Whether something was written since the last flush, which then has more steps.
+    is_pending: bool,
 }
 
 impl File {
@@ -46,12 +50,10 @@ impl File {
 
     fn truncate(&mut self, length: u64) {
         if length < self.length {
-            let zeros = vec![0; PAGE];
             let last = length / PAGE as u64;
             self.pages.retain(|page, _| *page <= last);
-            let rest = PAGE - (length % PAGE as u64) as usize;
-            if self.pages.contains_key(&last) {
-                self.write(length, &zeros[..rest]);
+            if let Some(page) = self.pages.get_mut(&last) {
+                page[(length % PAGE as u64) as usize..].fill(0);
             }
         }
         self.length = length;
@@ -65,7 +67,7 @@ fn digit(byte: u8) -> u8 {
     }
 }
 
-/// Bytes of DATA: parts joined by `+`, each pairs of digits, or a byte, an `x` and a count.
+/// The bytes of DATA: parts joined by `+`, each pairs of digits, or a byte, an `x` and a count.
 fn data(text: &str) -> Vec<u8> {
     let mut bytes = Vec::new();
     for part in text.split('+').filter(|part| *part != "-") {
@@ -75,7 +77,10 @@ fn data(text: &str) -> Vec<u8> {
             let count: usize = part[3..].parse().unwrap_or(0);
             bytes.resize(bytes.len() + count, byte);
         } else {
-            bytes.extend(text.chunks_exact(2).map(|pair| digit(pair[0]) << 4 | digit(pair[1])));
+            bytes.extend(
+                text.chunks_exact(2)
+                    .map(|pair| digit(pair[0]) << 4 | digit(pair[1])),
+            );
         }
     }
     bytes
@@ -87,119 +92,165 @@ fn print(out: &mut Vec<u8>, bytes: &[u8]) {
     if bytes.is_empty() {
         out.push(b'-');
     }
-    let (mut place, mut is_first, mut in_pairs) = (0, true, false);
+    let (mut place, mut in_pairs) = (0, false);
     while place < bytes.len() {
-        let byte = bytes[place];
-        let count = bytes[place..].iter().take_while(|other| **other == byte).count();
-        let pair = [DIGITS[(byte >> 4) as usize], DIGITS[(byte & 15) as usize]];
-        if count >= 4 {
-            if !is_first {
-                out.push(b'+');
-            }
-            out.extend_from_slice(&pair);
-            out.extend_from_slice(format!("x{count}").as_bytes());
-            in_pairs = false;
-        } else {
-            if !is_first && !in_pairs {
-                out.push(b'+');
-            }
-            for _ in 0..count {
-                out.extend_from_slice(&pair);
-            }
-            in_pairs = true;
+        let rest = &bytes[place..];
+        let byte = rest[0];
+        let is_counted = rest.starts_with(&[byte; 4]);
+        if place > 0 && (is_counted || !in_pairs) {
+            out.push(b'+');
         }
-        is_first = false;
-        place += count;
+        out.extend_from_slice(&[DIGITS[(byte >> 4) as usize], DIGITS[(byte & 15) as usize]]);
+        if is_counted {
+            let count = rest.iter().take_while(|other| **other == byte).count();
+            out.extend_from_slice(format!("x{count}").as_bytes());
+            place += count;
+        } else {
+            place += 1;
+        }
+        in_pairs = !is_counted;
     }
 }
 
+#[derive(Default)]
+struct Client {
+    /// The file of each handle: handle 1 stands first. A handle that was closed has none.
+    handles: Vec<Option<usize>>,
+    /// The operation that was begun, and how many steps it still has.
+    under_way: Option<(String, u64)>,
+}
+
+impl Client {
+    /// Opens a file at the least free handle, and returns that.
+    fn open(&mut self, file: usize) -> usize {
+        let place = match self.handles.iter().position(Option::is_none) {
+            Some(place) => place,
+            None => {
+                self.handles.push(None);
+                self.handles.len() - 1
+            }
+        };
+        self.handles[place] = Some(file);
+        place + 1
+    }
+}
+
+#[derive(Default)]
 struct Volume {
+    sessions: u64,
+    clients: [Client; CLIENTS],
     files: Vec<File>,
     names: HashMap<String, usize>,
-    /// By the letter of the client and the handle.
-    open: HashMap<(u8, u64), usize>,
 }
 
 impl Volume {
-    fn open(&mut self, client: u8, file: usize) -> String {
-        let mut handle = 1;
-        while self.open.contains_key(&(client, handle)) {
-            handle += 1;
+    /// Runs a line, and puts its answer into `out`. A line begins with its client's letter.
+    fn line(&mut self, line: &str, out: &mut Vec<u8>) {
+        if line.is_empty() || line.starts_with('#') {
+            return;
         }
-        self.open.insert((client, handle), file);
-        format!("ok {handle} {}\n", file + 2)
+        let client = (line.as_bytes()[0] - b'A') as usize;
+        let rest = &line[2..];
+        if let Some(operation) = rest.strip_prefix("begin ") {
+            let steps = self.steps(client, operation);
+            self.clients[client].under_way = Some((operation.to_string(), steps));
+            out.extend_from_slice(b"begun");
+        } else if rest == "step" || rest == "run" {
+            match self.clients[client].under_way.take() {
+                Some((operation, steps)) if rest == "step" && steps > 1 => {
+                    self.clients[client].under_way = Some((operation, steps - 1));
+                    out.extend_from_slice(b"more");
+                }
+                Some((operation, _)) => self.operation(client, &operation, out),
+                None => out.extend_from_slice(b"idle"),
+            }
+        } else {
+            self.operation(client, rest, out);
+        }
+        out.push(b'\n');
     }
 
-    fn line(&mut self, line: &str, out: &mut Vec<u8>) {
-        let words: Vec<&str> = line.split(' ').collect();
-        let client = line.as_bytes()[0];
-        let number = |place: usize| words[place].parse::<u64>().unwrap_or(0);
-        let file = |place: usize| self.open.get(&(client, number(place))).copied();
-        match words[1] {
+    /// How many steps juicevol has for an operation: for a flush those of one block, for a read a look and one block.
+    fn steps(&self, client: usize, operation: &str) -> u64 {
+        let words: Vec<&str> = operation.split(' ').collect();
+        match words[0] {
+            "close" | "flush" if self.files[self.file(client, words[1])].is_pending => 3,
+            "read" => 2,
+            _ => 1,
+        }
+    }
+
+    /// The file of a handle.
+    fn file(&self, client: usize, handle: &str) -> usize {
+        self.clients[client].handles[number(handle) as usize - 1].expect("an open handle")
+    }
+
+    /// Runs an operation as a whole.
+    fn operation(&mut self, client: usize, operation: &str, out: &mut Vec<u8>) {
+        let words: Vec<&str> = operation.split(' ').collect();
+        match words[0] {
+            "mount" => {
+                self.sessions += 1;
+                out.extend_from_slice(format!("ok {}", self.sessions).as_bytes());
+            }
             "create" | "open" => {
                 let count = self.files.len();
-                let at = *self.names.entry(words[2].to_string()).or_insert(count);
-                if at == count {
+                let file = *self.names.entry(words[1].to_string()).or_insert(count);
+                if file == count {
                     self.files.push(File::default());
                 }
-                let answer = self.open(client, at);
-                out.extend_from_slice(answer.as_bytes());
+                let handle = self.clients[client].open(file);
+                // inode 1 is the root
+                out.extend_from_slice(format!("ok {handle} {}", file + 2).as_bytes());
             }
             "write" => {
-                let bytes = data(words[4]);
-                if let Some(at) = file(2) {
-                    self.files[at].write(number(3), &bytes);
-                }
-                out.extend_from_slice(format!("ok {}\n", bytes.len()).as_bytes());
+                let bytes = data(words[3]);
+                let file = self.file(client, words[1]);
+                self.files[file].write(number(words[2]), &bytes);
+                self.files[file].is_pending = true;
+                out.extend_from_slice(format!("ok {}", bytes.len()).as_bytes());
             }
             "read" => {
+                let file = self.file(client, words[1]);
+                self.files[file].is_pending = false;
                 out.extend_from_slice(b"ok ");
-                if let Some(at) = file(2) {
-                    print(out, &self.files[at].read(number(3), number(4)));
-                }
-                out.push(b'\n');
+                print(
+                    out,
+                    &self.files[file].read(number(words[2]), number(words[3])),
+                );
             }
             "truncate" => {
-                if let Some(at) = file(2) {
-                    self.files[at].truncate(number(3));
+                let file = self.file(client, words[1]);
+                self.files[file].truncate(number(words[2]));
+                out.extend_from_slice(b"ok");
+            }
+            "flush" | "close" => {
+                let file = self.file(client, words[1]);
+                self.files[file].is_pending = false;
+                if words[0] == "close" {
+                    self.clients[client].handles[number(words[1]) as usize - 1] = None;
                 }
-                out.extend_from_slice(b"ok\n");
+                out.extend_from_slice(b"ok");
             }
-            "copy" => {
-                let bytes = match file(2) {
-                    Some(at) => self.files[at].read(number(3), number(6)),
-                    None => Vec::new(),
-                };
-                if let Some(at) = file(4) {
-                    self.files[at].write(number(5), &bytes);
-                }
-                out.extend_from_slice(format!("ok {}\n", bytes.len()).as_bytes());
-            }
-            "close" => {
-                self.open.remove(&(client, number(2)));
-                out.extend_from_slice(b"ok\n");
-            }
-            _ => out.extend_from_slice(b"ok\n"),
+            _ => out.extend_from_slice(b"not a line of these scripts"),
         }
     }
 }
 
+fn number(text: &str) -> u64 {
+    text.parse().expect("a number")
+}
+
 fn main() -> io::Result<()> {
-    let mut volume = Volume {
-        files: Vec::new(),
-        names: HashMap::new(),
-        open: HashMap::new(),
-    };
-    let stdout = io::stdout();
-    let mut lock = stdout.lock();
-    let mut out = Vec::new();
+    let mut volume = Volume::default();
     let mut input = io::stdin().lock();
-    let mut line = String::new();
+    let mut output = io::stdout().lock();
+    let (mut line, mut answer) = (String::new(), Vec::new());
     while input.read_line(&mut line)? > 0 {
-        volume.line(line.trim_end(), &mut out);
-        lock.write_all(&out)?;
-        out.clear();
+        volume.line(line.trim_end(), &mut answer);
+        output.write_all(&answer)?;
         line.clear();
+        answer.clear();
     }
     Ok(())
 }
