@@ -26,6 +26,7 @@ use Rattle.jv_client.specs.Held.{IsHeld, Holds, is_last_here}
 use Rattle.jv_client.specs.Ending.{closed, ended, finished_here, refused_here, told_here, without}
 use Rattle.jv_client.proofs.LastLaws.{inode-same, is_last-same}
 use Rattle.jv_client.proofs.HeldLaws.{held-doing, holds-doing, holds-unmounted}
+use Rattle.jv_client.proofs.NextSegmentLaws.{kept-some}
 
 -- a write that is done keeps its bytes
 abbrev pub keeps_bytes : Op → Told → Bool
@@ -188,14 +189,8 @@ module _ (t : Tree) (m : ModelClient) (holds : Holds t m) where
   abbrev IsOfFile : PendingByte → Type 0
   IsOfFile b = IsHoldable t b.inode
 
-  kept-if : (test : Bool) (b : PendingByte) (bytes : List PendingByte) → IsOfFile b → AllByRecursion IsOfFile bytes
-      → AllByRecursion IsOfFile (if test then b ∷ bytes else bytes)
-  kept-if true b bytes own h = (own, h)
-  kept-if false b bytes own h = h
-
   others-held : (inode : ℕ) (bytes : List PendingByte) → AllByRecursion IsOfFile bytes → AllByRecursion IsOfFile (pending_of_others inode bytes)
-  others-held inode [] h = tt
-  others-held inode (b ∷ bytes) h = kept-if (not (b.inode == inode)) b (pending_of_others inode bytes) h.0 (others-held inode bytes h.1)
+  others-held inode bytes h = kept-some (IsHoldable t) (λ b. not (b.inode == inode)) bytes h
 
 holds-finished : (o : Op) (t : Tree) (m : ModelClient) → is_write o ≡ false → Holds t m → Holds t (record (finished o m) { doing = None })
 holds-finished op.Umount t m e holds = holds-unmounted t
