@@ -25,7 +25,7 @@ use Rattle.jv_model.specs.journal.Legal.{IsRefusal, Allowed, AllAllowed, Refuses
 use Rattle.jv_model.specs.journal.Stepping.{is_answer}
 use Rattle.jv_model.specs.Lists.{numbered}
 use Rattle.jv_laws.specs.Laws.{LinesHaveEntries, EndedLinesHaveEntries, RefusedLinesHaveOneEntry, FitsLine, EndsAnswered, IsOneStep, Idle, OneEntry, AndAnswer, kinds_on}
-use Rattle.jv_laws.proofs.JournalGrowthLaws.{AllAllowed-parts, past-append, frame_begun, line-begun_to, begun_to-begun, line_allowed, entered, line_of_advance}
+use Rattle.jv_laws.proofs.JournalGrowthLaws.{AllAllowed-parts, past-append, frame_begun, line-begun_to, begun_to-begun, line_allowed, entered, line_of_advance, if_some_of}
 use Rattle.jv_laws.proofs.JournalStateLaws.{publish_of}
 
 -- entries so far of a line, by what it may still have
@@ -294,10 +294,6 @@ line_next script n o e = let s : n + 1 ≡ suc n = omega arith in ap (numbered s
 
 rest_next : (script : List Line) (n : ℕ) (lines : List Line) → rest_from (suc n) script ≡ lines → lines ≡ rest_from (n + 1) script
 rest_next script n lines e = let s : suc n ≡ n + 1 = omega arith in sym e ∙ ap (λ k. rest_from k script) s
-
-if_some_of : (P Q : Line → Type 0) (o : Option Line) → ((x : Line) → P x → Q x) → IfSome o P → IfSome o Q
-if_some_of P Q None f h = tt
-if_some_of P Q (Some x) f h = f x h
 
 no_line : (P : Line → Type 0) (o : Option Line) → o ≡ None → IfSome o P
 no_line P o e = subst (λ x. IfSome x P) (sym e) tt
