@@ -42,7 +42,7 @@ use Rattle.jv_client.specs.Makes.{FailsAlone, Falls, Makes, StepsTo, SaysBad, Us
 use Rattle.jv_client.specs.Transacting.{Fails}
 use Rattle.jv_client.specs.UnderWay.{IsReady, IsUnderWay}
 use Rattle.jv_client.specs.YardUse.{PutsNone, YardUse}
-use Rattle.jv_client.proofs.CacheUseLaws.{cache-stays, failure-stays}
+use Rattle.jv_client.proofs.CacheUseLaws.{NoBlock, cache-stays, failure-stays}
 use Rattle.jv_client.proofs.HeldLaws.{client-doing, doing_of, holds-doing}
 use Rattle.jv_client.proofs.KeptLaws.{client-ended}
 
@@ -201,7 +201,8 @@ module _ (now entry : ℕ) (h : ClientValue) (d : Doing) (before used : Shared) 
       (makes-ended now entry h (ended h) before used failed (RefusedReply fault) refl ready (ended-rests h)
       (subst (λ (x : Made). UsesDevices x before used) fails.made_is devices)
       (subst (λ (x : Made). YardUse now h x before.yard used.yard) fails.made_is yard)
-      (cache-stays h d busy (ended h) failed before.yard used.yard (failure-stays fault fail) refl tt) tt
+      (cache-stays h d busy (ended h) failed before.yard used.yard (NoBlock refl (λ goes. refl))
+      (failure-stays fault fail) refl tt) tt
       (λ s g count store holds is. fails-leads busy fail same s g store holds is))
 
 -- memory ran out, and no device was used

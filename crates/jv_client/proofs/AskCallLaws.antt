@@ -38,6 +38,8 @@ use Rattle.jv_client.specs.Ending.{ended}
 use Rattle.jv_client.specs.Getting.{Fills, HasFilled, IsMissed, IsMissedBy, IsUnread, ReadsBlock}
 use Rattle.jv_client.specs.Makes.{Makes}
 use Rattle.jv_client.specs.Reading.{ClientComesTo, GoesOnAfter, IsAhead, OnlyLooksUp, fetch_at, fetch_in, need_at}
+use Rattle.jv_client.specs.Reading.{next_of}
+use Rattle.jv_client.proofs.LooksLaws.{needs-found}
 use Rattle.jv_client.specs.Reading.{need_in}
 use Rattle.jv_client.specs.Reading.{put_at}
 use Rattle.jv_client.specs.Transacting.{EndsUnmade, Fails}
@@ -127,49 +129,50 @@ module _ (now entry : ℕ) (h c : ClientValue) (window : ℕ) (before : Shared)
         makes-as now entry h after (over h.handles asked.cache h) before used used done _
         (fails.after_is ∙ ap ended (same ∙ asked.is)) refl fails.made_is
         (look-out now entry block h asked.d asked.offset asked.len asked.cache asked.fetch window asked.asks before refl
-        keeper asked.cache asked.asks.looked
+        keeper asked.cache
+        (needs-found block h asked.d asked.fetch asked.cache window asked.asks.needs)
         (cached-known asked.asks before refl)
         looks.looks.rows_are looks.looks.opened_at looks.looks.counts)
 
     module _ (mid then : ClientValue)
         (mid_is : mid
         ≡ put_back (with_file handle (seen_by window (view_of entry looked) (file_of c.handles handle)) c.handles) c)
-        (only : OnlyLooksUp mid then) where
-      same_mid : mid ≡ taken_out (seen_handles (handle_of asked.d.op) window (view_of entry looked) h.handles) asked.cache
-          asked.d h
-      same_mid =
-          mid_is
-          ∙ ap (λ n. put_back (with_file n (seen_by window (view_of entry looked) (file_of c.handles n)) c.handles) c)
-          of_handle
-          ∙ ap (λ (x : ClientValue). put_back (with_file (handle_of asked.d.op)
-          (seen_by window (view_of entry looked) (file_of x.handles (handle_of asked.d.op))) x.handles) x) asked.is
+      where
+        same_mid : mid ≡ taken_out (seen_handles (handle_of asked.d.op) window (view_of entry looked) h.handles) asked.cache
+            asked.d h
+        same_mid =
+            mid_is
+            ∙ ap (λ n. put_back (with_file n (seen_by window (view_of entry looked) (file_of c.handles n)) c.handles) c)
+            of_handle
+            ∙ ap (λ (x : ClientValue). put_back (with_file (handle_of asked.d.op)
+            (seen_by window (view_of entry looked) (file_of x.handles (handle_of asked.d.op))) x.handles) x) asked.is
 
-      -- the reading goes ahead
-      pub looks-came : (fetch : Fetching) (ahead : Ahead) (after : ClientValue) (done : Made)
-          → fetch_in c.doing ≡ Some fetch → ClientComesTo fetch mid ahead
-          → GoesOnAfter (Look inode window) ahead then after done → Makes now entry h after before used done
-      looks-came fetch ahead after done taken comes goes =
-          look-came now entry block h asked.d asked.offset asked.len asked.cache asked.fetch window asked.asks before refl
-          keeper looked (here (Ok looked) looks) ahead then after done
-          (subst (λ (x : ClientValue). OnlyLooksUp x then) same_mid only)
-          (subst (λ (x : ClientValue). ClientComesTo asked.fetch x ahead) same_mid
-          (subst (λ (f : Fetching). ClientComesTo f mid ahead)
-          (took-fetch block h c (NeedsLook window) a ready_before ready flushed need fetch taken) comes))
-          (subst (λ n. GoesOnAfter (Look n window) ahead then after done) of_inode goes)
+        -- the reading goes ahead
+        pub looks-came : (fetch : Fetching) (ahead : Ahead) (after : ClientValue) (done : Made)
+            → fetch_in c.doing ≡ Some fetch → OnlyLooksUp (next_of ahead) mid then → ClientComesTo fetch mid ahead
+            → GoesOnAfter (Look inode window) ahead then after done → Makes now entry h after before used done
+        looks-came fetch ahead after done taken only comes goes =
+            look-came now entry block h asked.d asked.offset asked.len asked.cache asked.fetch window asked.asks before refl
+            keeper looked (here (Ok looked) looks) ahead then after done
+            (subst (λ (x : ClientValue). OnlyLooksUp (next_of ahead) x then) same_mid only)
+            (subst (λ (x : ClientValue). ClientComesTo asked.fetch x ahead) same_mid
+            (subst (λ (f : Fetching). ClientComesTo f mid ahead)
+            (took-fetch block h c (NeedsLook window) a ready_before ready flushed need fetch taken) comes))
+            (subst (λ n. GoesOnAfter (Look n window) ahead then after done) of_inode goes)
 
-      -- or memory ran out
-      pub looks-lost : (back after : ClientValue) (done : Made)
-          → back
-          ≡ record then { handles = with_file handle (unseen_by window (file_of then.handles handle)) then.handles }
-          → Fails NoMemory back after done → Makes now entry h after before used done
-      looks-lost back after done dropped fails =
-          look-lost now entry block h asked.d asked.offset asked.len asked.cache asked.fetch window asked.asks before refl
-          keeper looked (here (Ok looked) looks) then after done
-          (subst (λ (x : ClientValue). OnlyLooksUp x then) same_mid only)
-          (fails.after_is ∙ ap ended (dropped
-          ∙ ap (λ n. record then { handles = with_file n (unseen_by window (file_of then.handles n)) then.handles })
-          of_handle))
-          fails.made_is
+        -- or memory ran out
+        pub looks-lost : (back after : ClientValue) (done : Made) → OnlyLooksUp None mid then
+            → back
+            ≡ record then { handles = with_file handle (unseen_by window (file_of then.handles handle)) then.handles }
+            → Fails NoMemory back after done → Makes now entry h after before used done
+        looks-lost back after done only dropped fails =
+            look-lost now entry block h asked.d asked.offset asked.len asked.cache asked.fetch window asked.asks before refl
+            keeper looked (here (Ok looked) looks) then after done
+            (subst (λ (x : ClientValue). OnlyLooksUp None x then) same_mid only)
+            (fails.after_is ∙ ap ended (dropped
+            ∙ ap (λ n. record then { handles = with_file n (unseen_by window (file_of then.handles n)) then.handles })
+            of_handle))
+            fails.made_is
 
 -- ---- a block
 
@@ -221,8 +224,7 @@ module _ (now entry : ℕ) (h c : ClientValue) (b : BlockId) (before : Shared)
       (gets : ReadsBlock v.id b before.yard yard (Ok found)) (fetch filled : Fetching)
       (taken : fetch_in v.doing ≡ Some fetch) (cache : Option Cached)
       (fills : HasFilled b bytes fetch filled v.cache cache) (doing : Option Doing)
-      (left_is : doing ≡ option_map (put_at (Working 0 0 0)) v.doing) (then : ClientValue)
-      (only : OnlyLooksUp (record v { cache = cache; doing = doing }) then) where
+      (left_is : doing ≡ option_map (put_at (Working 0 0 0)) v.doing) (then : ClientValue) where
     abbrev mid : ClientValue
     mid = record v { cache = cache; doing = doing }
 
@@ -255,21 +257,23 @@ module _ (now entry : ℕ) (h c : ClientValue) (b : BlockId) (before : Shared)
         (subst (λ (cache : Cached). Fills b bytes fetch filled cache fills.kept) same_cache fills.fills)
 
     -- the reading goes ahead
-    pub gets-came : (ahead : Ahead) (after : ClientValue) (done : Made) → ClientComesTo filled mid ahead
+    pub gets-came : (ahead : Ahead) (after : ClientValue) (done : Made)
+        → OnlyLooksUp (next_of ahead) (record v { cache = cache; doing = doing }) then → ClientComesTo filled mid ahead
         → GoesOnAfter Quiet ahead then after done → Makes now entry h after before yard_used done
-    gets-came ahead after done comes goes =
+    gets-came ahead after done only comes goes =
         get-came now entry length_of h wanted.d wanted.offset wanted.len wanted.cache wanted.fetch b wanted.asks before
         refl id_low yard bytes in_name filled fills.kept in_place ahead then after done
-        (subst (λ (x : ClientValue). OnlyLooksUp x then) now_mid only)
+        (subst (λ (x : ClientValue). OnlyLooksUp (next_of ahead) x then) now_mid only)
         (subst (λ (x : ClientValue). ClientComesTo filled x ahead) now_mid comes) goes
 
     -- or memory ran out
-    pub gets-lost : (after : ClientValue) (done : Made) → Fails NoMemory then after done
+    pub gets-lost : (after : ClientValue) (done : Made)
+        → OnlyLooksUp None (record v { cache = cache; doing = doing }) then → Fails NoMemory then after done
         → Makes now entry h after before yard_used done
-    gets-lost after done fails =
+    gets-lost after done only fails =
         get-lost now entry length_of h wanted.d wanted.offset wanted.len wanted.cache wanted.fetch b wanted.asks before
         refl id_low yard bytes in_name filled fills.kept in_place then after done
-        (subst (λ (x : ClientValue). OnlyLooksUp x then) now_mid only) fails.after_is fails.made_is
+        (subst (λ (x : ClientValue). OnlyLooksUp None x then) now_mid only) fails.after_is fails.made_is
 
 -- ---- the client in between
 
@@ -367,10 +371,11 @@ pub open_after : (c v : ClientValue) (next : Need) → IsReady c → need_in c.d
     → (doing : Option Doing) → doing ≡ option_map (put_at (Working 0 0 0)) v.doing → (handle window : ℕ) (view : View)
     → IfSome c.doing (λ d. handle ≡ handle_of d.op) → (old new stored : List (Option Handle)) → old ≡ v.handles
     → stored ≡ new → new ≡ with_file handle (seen_by window view (file_of old handle)) old
-    → (then : ClientValue) → OnlyLooksUp (record v { handles = stored; doing = doing }) then
+    → (next_then : Option Need) (then : ClientValue)
+    → OnlyLooksUp next_then (record v { handles = stored; doing = doing }) then
     → (now : List (Option Handle)) → now ≡ then.handles → IsSome (file_of now handle)
-open_after c v next ready need same doing taken handle window view names old new stored same_old same_new set then only
-    now is = by_doing c.doing refl names
+open_after c v next ready need same doing taken handle window view names old new stored same_old same_new set next_then then
+    only now is = by_doing c.doing refl names
   where
     handles : now ≡ seen_handles handle window view c.handles
     handles = is ∙ ap (λ (x : ClientValue). x.handles) only.after_is

@@ -42,7 +42,7 @@ use Rattle.jv_client.proofs.AnswerLaws.{Rests, ended-rests, makes-as, makes-ende
 use Rattle.jv_client.proofs.AnswerLaws.{told-rests, uses-none}
 use Rattle.jv_client.specs.CacheUse.{CacheUse}
 use Rattle.jv_client.specs.Stats.{IsStatsOf, AnswersNumbers}
-use Rattle.jv_client.proofs.CacheUseLaws.{cache-ended, cache-stays}
+use Rattle.jv_client.proofs.CacheUseLaws.{NoBlock, cache-ended, cache-stays}
 use Rattle.jv_client.proofs.FormLaws.{flushed-same, none_left, nothing_asked, under_way}
 
 -- ---- an answer alone, while devices are as they were
@@ -125,7 +125,8 @@ module _ (now entry : ℕ) (h : ClientValue) (v : Shared) (d : Doing) (busy : h.
   leaves_cache : (told : Told) (said : Reply) → AnswersNumbers h (made.Answer told said)
       → CacheUse h (told_here d.op told h) (made.Answer told said) v.yard v.yard
   leaves_cache told said numbers =
-      cache-ended h d busy (told_here d.op told h) (made.Answer told said) v.yard v.yard h told refl refl refl numbers
+      cache-ended h d busy (told_here d.op told h) (made.Answer told said) v.yard v.yard h told
+      (NoBlock refl (λ goes. refl)) refl refl refl numbers
 
   -- the model has all committed that it flushes
   flushed : (s : State) (g : Known) → IsClient g v (s.clients h.id) s.count h
@@ -194,7 +195,8 @@ module _ (now entry : ℕ) (h : ClientValue) (v : Shared) (d : Doing) (busy : h.
       let told = Fine hits misses cached (length h.pending) in
       let said = reply.CacheStats hits misses cached (length h.pending) in
       answers-makes now entry h (ended h) v told said ready (ended-rests h)
-      (cache-stays h d busy (ended h) (made.Answer told said) v.yard v.yard (ap is_umount of_op) refl numbers)
+      (cache-stays h d busy (ended h) (made.Answer told said) v.yard v.yard (NoBlock refl (λ goes. refl))
+      (ap is_umount of_op) refl numbers)
       (λ device. refl)
       (λ s g store holds is.
       let c = s.clients h.id in

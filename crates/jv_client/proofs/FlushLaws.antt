@@ -109,7 +109,7 @@ module _ (now entry : ℕ) (h : ClientValue) (d : Doing) (before used : Shared) 
       → Makes now entry h (record h { doing = Some (moved_to (Working (quiets + 1) moment number) d) }) before used
       (AsksFor Quiet)
   asks uses yard leads =
-      goes-on now entry h after d stage Quiet before used busy ready refl refl
+      goes-on now entry h after d stage Quiet before used busy ready (ap is_some next) refl refl
       (record {
         session = refl;
         limits = refl;

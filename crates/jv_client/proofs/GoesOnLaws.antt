@@ -1,6 +1,6 @@
 -- A request after which the operation in progress goes on: what the client itself has to show for it, and what is left
 -- to show of the model.
-use Rattle.std.proofs.Common.{◌≡◌, ℕ, ◌+◌, ◌≤◌, ◌<◌, IsTrue, false, [], ◌∷◌, length, Option, None, Some}
+use Rattle.std.proofs.Common.{◌≡◌, ℕ, ◌+◌, ◌≤◌, ◌<◌, IsTrue, true, false, [], ◌∷◌, length, Option, None, Some}
 use Rattle.std.proofs.Common.{refl, sym, ap, subst, ◌∙◌, arith}
 use Rattle.std.specs.Prelude.{IfSome, List, is_some}
 use Rattle.jv_model.specs.declared.basics.Limits.{Limits}
@@ -21,10 +21,10 @@ use Rattle.jv_client.specs.Held.{IsClient, Holds}
 use Rattle.jv_client.specs.UnderWay.{FlushesFor, Closes, Describes, Reads, ReadsNothing, Syncs}
 use Rattle.jv_client.specs.UnderWay.{Truncates as TruncatesIt, HasRoom, Alone, Beside, IsForm, Copies, Flushes, Leaves}
 use Rattle.jv_client.specs.UnderWay.{Mounts, SaysStats, Transacts, Writes, IsAt, IsReady, IsUnderWay, has_more, moved_to}
-use Rattle.jv_client.specs.UnderWay.{progress_of, steps_in, steps_left, steps_of}
+use Rattle.jv_client.specs.UnderWay.{left, progress_of, steps_in, steps_left, steps_of}
 use Rattle.jv_client.specs.Makes.{Makes, StepsTo, UsesDevices}
 use Rattle.jv_client.specs.YardUse.{YardUse}
-use Rattle.jv_client.proofs.CacheUseLaws.{cache-stays}
+use Rattle.jv_client.proofs.CacheUseLaws.{InFlush, cache-stays}
 use Rattle.jv_client.proofs.FormLaws.{under_way}
 
 -- ---- the operation in progress
@@ -99,7 +99,7 @@ module _ (now entry : ℕ) (h after : ClientValue) (d : Doing) (p : Progress) (k
   asked = moved_to p d
 
   -- The client becomes `after`, whose operation made a request of this kind and is at `p`.
-  pub goes-on : after.id ≡ h.id → after.cache ≡ h.cache → Continues h after → after.doing ≡ Some (moved_to p d)
+  pub goes-on : is_some (left h) ≡ true → after.id ≡ h.id → after.cache ≡ h.cache → Continues h after → after.doing ≡ Some (moved_to p d)
       → IsAt after (moved_to p d) p → IsTrue (has_more after (moved_to p d) p)
       → steps_in after.pending (moved_to p d) < steps_in h.pending d
       → UsesDevices (AsksFor kind) before used → YardUse now h (AsksFor kind) before.yard used.yard
@@ -107,7 +107,7 @@ module _ (now entry : ℕ) (h after : ClientValue) (d : Doing) (p : Progress) (k
       → ((s : State) (g : Known) → s.count + 1 ≡ entry → HasStore s.tree g before → Holds s.tree (s.clients h.id)
       → IsClient g before (s.clients h.id) s.count h → StepsTo s g before h now (kind ∷ []) More after used)
       → Makes now entry h after before used (AsksFor kind)
-  goes-on same kept continues is at more fewer uses yard asks leads = record {
+  goes-on flushing same kept continues is at more fewer uses yard asks leads = record {
     id = same;
     limits = continues.limits;
     ready = record {
@@ -121,7 +121,7 @@ module _ (now entry : ℕ) (h after : ClientValue) (d : Doing) (p : Progress) (k
     };
     devices = uses;
     yard = yard;
-    cache = cache-stays h d busy after (AsksFor kind) before.yard used.yard refl kept tt;
+    cache = cache-stays h d busy after (AsksFor kind) before.yard used.yard (InFlush flushing) refl kept tt;
     alone = asks;
     falls = (
       (let now_left : steps_left after ≡ steps_in after.pending asked = ap (steps_of after.pending) is in

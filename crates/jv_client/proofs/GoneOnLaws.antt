@@ -19,11 +19,11 @@ use Rattle.jv_handles.proofs.HandleLaws.{handles-later}
 use Rattle.jv_handles.proofs.SeenLaws.{views-later}
 use Rattle.jv_fetching.specs.declared.need.Need.{Need}
 use Rattle.jv_fetching.specs.declared.need.Need.TheVariants.{Nothing}
-use Rattle.jv_fetching.specs.Calls.{HasCached, IsCacheOf, LooksUp, Wants}
+use Rattle.jv_fetching.specs.Calls.{HasCached, IsCacheOf, Wants}
 use Rattle.jv_fetching.specs.Fetching.{Fetching, fetch_left}
 use Rattle.jv_fetching.specs.Going.{CanFetch, IsFetching}
 use Rattle.jv_fetching.specs.Shows.{IsReadBy}
-use Rattle.jv_fetching.proofs.CacheLaws.{cache_of-has, cache_of-looks}
+use Rattle.jv_fetching.proofs.CacheLaws.{LooksUp, cache_of-has, cache_of-looks}
 use Rattle.jv_fetching.proofs.SameLaws.{fetches_show}
 use Rattle.jv_steps.specs.IsStep.{at_stage}
 use Rattle.jv_client.specs.declared.doing.Doing.{Doing}

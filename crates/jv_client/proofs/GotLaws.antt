@@ -1,5 +1,5 @@
 -- A reading gets a block: it goes on with its bytes, it is answered, or the block didn't come.
-use Rattle.std.proofs.Common.{◌≡◌, ◌≢◌, ℕ, ◌+◌, ◌≤◌, false, true, List, [], ◌∷◌, length, Option, Some, Ok, Err, refl}
+use Rattle.std.proofs.Common.{◌≡◌, ◌≢◌, ℕ, ◌+◌, ◌≤◌, false, true, List, [], ◌∷◌, length, Option, None, Some, Ok, Err, refl}
 use Rattle.std.proofs.Common.{sym, ap}
 use Rattle.std.proofs.Common.{subst, ◌∙◌, arith}
 use Rattle.jv_model.specs.declared.limits.TheConstants.{LAST_CLIENT}
@@ -42,12 +42,12 @@ use Rattle.jv_handles.proofs.HandleLaws.{handle-stays}
 use Rattle.jv_reading.specs.Parts.{IsNamed}
 use Rattle.jv_fetching.specs.declared.need.Need.{Need}
 use Rattle.jv_fetching.specs.declared.need.Need.TheVariants.{Block as NeedsBlock, Nothing}
-use Rattle.jv_fetching.specs.Calls.{HasCached, IsCacheOf, Keeps, LooksUp, Wants, first_seen}
+use Rattle.jv_fetching.specs.Calls.{HasCached, IsCacheOf, Keeps, Wants, first_seen}
 use Rattle.jv_fetching.specs.Fetching.{Fetching}
 use Rattle.jv_fetching.specs.Going.{IsFetching}
 use Rattle.jv_fetching.specs.Laws.{IsOfView}
 use Rattle.jv_fetching.specs.Shows.{IsReadBy}
-use Rattle.jv_fetching.proofs.CacheLaws.{cache_of-keeps, cache_of-looks}
+use Rattle.jv_fetching.proofs.CacheLaws.{LooksUp, cache_of-keeps, cache_of-looks}
 use Rattle.jv_fetching.proofs.SameLaws.{fetches_show}
 use Rattle.jv_steps.specs.IsStep.{at_stage}
 use Rattle.jv_steps.proofs.LookStepLaws.{sees_first-is}
@@ -62,8 +62,8 @@ use Rattle.jv_yard.specs.Refusals.{yard_fault}
 use Rattle.jv_client.specs.Getting.{Fills, IsMissed, IsUnread}
 use Rattle.jv_client.specs.Held.{Holds, IsClient, IsHeld, in_flight}
 use Rattle.jv_client.specs.Makes.{Makes, StepsTo, SaysBad, UsesDevices, faults_of, step_of, says_failure}
-use Rattle.jv_client.specs.CacheUse.{KeepsOne, LooksOnly, MovesInRead}
-use Rattle.jv_client.specs.Reading.{GoesAhead, LookedUp, NeedsNext, read_of, told_read}
+use Rattle.jv_client.specs.CacheUse.{KeepsOne, LooksOnly, MovesInRead, goes_well, has_got, may_have_got}
+use Rattle.jv_client.specs.Reading.{GoesAhead, LooksOn, NeedsNext, read_of, told_read}
 use Rattle.jv_client.specs.UnderWay.{LacksNeed}
 use Rattle.jv_client.proofs.CacheUseLaws.{cache-read}
 use Rattle.jv_client.specs.YardUse.{PutsNone, YardUse}
@@ -72,8 +72,10 @@ use Rattle.jv_client.proofs.EndingLaws.{holds-told}
 use Rattle.jv_client.proofs.DirectLaws.{has-open, has-view}
 use Rattle.jv_client.proofs.HeldLaws.{doing_of}
 use Rattle.jv_client.proofs.KeptLaws.{cache-goes, held-goes}
+use Rattle.jv_client.proofs.LooksLaws.{looks-on, needs-looked}
 use Rattle.jv_client.proofs.ReadingLaws.{lacks-later}
-use Rattle.jv_client.proofs.ReaderLaws.{IsAsking, busy_in, cached-known, file_by, handle_in, may_get, none_flying, opened_in}
+use Rattle.jv_client.proofs.ReaderLaws.{IsAsking, busy_in, cached-known, file_by, flushed-asking, handle_in, may_get}
+use Rattle.jv_client.proofs.ReaderLaws.{none_flying, opened_in}
 use Rattle.jv_client.proofs.GoneOnLaws.{client-on, client-over, falls-on, going_on, none-kept, over, reading-is}
 use Rattle.jv_client.proofs.GoneOnLaws.{ready-on}
 use Rattle.jv_client.proofs.ReadFailedLaws.{failed}
@@ -252,8 +254,12 @@ module _ (now entry block : ℕ) (h : ClientValue) (d : Doing) (offset len : ℕ
   -- ---- it came
 
   module _ (bytes : List ℕ) (gets : GetsBlock h.id name before.yard yard (Ok (Some bytes))) (filled : Fetching)
-      (kept : Cached) (fills : Fills b bytes fetch filled cache kept) (later : Cached) (looks_up : LooksUp kept later)
+      (kept : Cached) (fills : Fills b bytes fetch filled cache kept) (later : Cached) (next : Option Need)
+      (looks : LooksOn next kept later)
     where
+      looks_up : LooksUp kept later
+      looks_up = looks-on next kept later looks
+
       pub cached-then : (s : State) (g : Known) → HasStore s.tree g before
           → IsClient g before (s.clients h.id) s.count h
           → IsCacheOf g.sizes before.yard.setting.block g.blocks later
@@ -335,16 +341,16 @@ module _ (now entry block : ℕ) (h : ClientValue) (d : Doing) (offset len : ℕ
         }
 
       -- the cache kept the block that was needed, and the next ones were looked up
-      moves-kept : MovesInRead h d before.yard yard (Some later)
-      moves-kept = KeepsOne fetch b bytes cache kept later
-          (subst (λ n. NeedsNext n h d fetch (NeedsBlock b)) (sym length_is) asks.needs) asks.wants asks.looked asks.lacks
-          gets fills.cache_is looks_up refl
+      moves-kept : (done : Made) → may_have_got done ≡ true → MovesInRead h d done before.yard yard next (Some later)
+      moves-kept done may_have = KeepsOne fetch b bytes cache kept later (flushed-asking asks) may_have
+          (subst (λ n. NeedsNext n h d fetch (NeedsBlock b) cache) (sym length_is) asks.needs) asks.wants asks.lacks
+          gets fills.cache_is looks refl
 
       -- it goes on
-      pub get-on : (f : Fetching) (need : Need) → GoesAhead file.views kept filled f → Wants file.views f need
+      pub get-on : (f : Fetching) (need : Need) → next ≡ Some need → GoesAhead file.views kept filled f → Wants file.views f need
           → need ≢ Nothing → LacksNeed need kept
           → Makes now entry h (going_on h.handles later f need d h) before used (made.Request Quiet)
-      get-on f need goes wants more lacks =
+      get-on f need next_is goes wants more lacks =
           let can = goes.can (fills.can file.views asks.can) in
           let few = goes.few in
           let less = fills.falls in
@@ -356,7 +362,9 @@ module _ (now entry block : ℕ) (h : ClientValue) (d : Doing) (offset len : ℕ
             devices = uses-got (made.Request Quiet) before yard (λ device. refl) gets.0 tt;
             yard = yard-got now h (made.Request Quiet) before.yard yard gets.0;
             cache = cache-read h d asks.busy (going_on h.handles later f need d h) (made.Request Quiet) before.yard yard
-                (ap is_read asks.reads.op_is) refl moves-kept tt;
+                (ap is_read asks.reads.op_is) refl
+                (subst (λ o. MovesInRead h d (made.Request Quiet) before.yard yard o (Some later)) next_is
+                (moves-kept (made.Request Quiet) refl)) tt;
             alone = refl;
             falls = (
               falls-on block h d offset len cache fetch (NeedsBlock b) asks h.handles file asks.reads.opened refl
@@ -367,34 +375,44 @@ module _ (now entry block : ℕ) (h : ClientValue) (d : Doing) (offset len : ℕ
           }
 
       -- or it is answered
-      pub get-over : (found : Found)
+      pub get-over : next ≡ None → (found : Found)
           → ((blocks : Blocks) (all : List Asked) → HasCached blocks file.views filled.block kept
           → IsFetching blocks file.views all filled
           → IsReadBy (known_by filled.block blocks) file.views all (read_of found))
           → Makes now entry h (over h.handles later h) before used (made.Both Quiet (told_read found) (Data found.bytes))
-      get-over found read = record {
+      get-over next_is found read = record {
         id = refl;
         limits = refl;
         ready = record { buffer = asks.buffer; doing = tt };
         devices = uses-got (made.Both Quiet (told_read found) (Data found.bytes)) before yard (λ device. refl) gets.0 tt;
         yard = yard-got now h (made.Both Quiet (told_read found) (Data found.bytes)) before.yard yard gets.0;
         cache = cache-read h d asks.busy (over h.handles later h) (made.Both Quiet (told_read found) (Data found.bytes))
-            before.yard yard (ap is_read asks.reads.op_is) (ap is_umount asks.reads.op_is) moves-kept tt;
+            before.yard yard (ap is_read asks.reads.op_is) (ap is_umount asks.reads.op_is)
+            (subst (λ o. MovesInRead h d (made.Both Quiet (told_read found) (Data found.bytes)) before.yard yard o
+            (Some later)) next_is (moves-kept (made.Both Quiet (told_read found) (Data found.bytes)) refl)) tt;
         alone = (refl, λ device. refl);
         falls = refl;
         leads = λ s g number has holds client. leads-over s g has holds client found read;
       }
 
       -- or memory ran out
-      pub get-out : Makes now entry h (over h.handles later h) before used
+      pub get-out : next ≡ None → Makes now entry h (over h.handles later h) before used
           (made.Answer (ToldRefused NoMemory) (RefusedReply NoMemory))
-      get-out = failed now entry block h d offset len cache fetch (NeedsBlock b) asks before used
+      get-out next_is = failed now entry block h d offset len cache fetch (NeedsBlock b) asks before used
           (same-gets before yard h.id name (Ok (Some bytes)) gets) NoMemory later cached-then refl
           (uses-got (made.Answer (ToldRefused NoMemory) (RefusedReply NoMemory)) before yard (λ device. refl) gets.0 tt)
           (yard-got now h (made.Answer (ToldRefused NoMemory) (RefusedReply NoMemory)) before.yard yard gets.0)
-          moves-kept
+          (subst (λ o. MovesInRead h d (made.Answer (ToldRefused NoMemory) (RefusedReply NoMemory)) before.yard yard o
+          (Some later)) next_is (moves-kept (made.Answer (ToldRefused NoMemory) (RefusedReply NoMemory)) refl))
 
   -- ---- it didn't come
+
+  -- the cache is as the beginning of the reading left it
+  moves-none : (done : Made) → has_got done ≡ false → (goes_well done ≡ true → ⊥)
+      → MovesInRead h d done before.yard yard None (Some cache)
+  moves-none done none fails =
+      let looked = needs-looked block h d fetch cache (NeedsBlock b) asks.needs in
+      LooksOnly looked.0 (flushed-asking asks) none (λ goes. absurd (fails goes)) looked.1
 
   pub get-unread : (fault : Fault) → IsUnread h.id b before.yard yard fault
       → Makes now entry h (over h.handles cache h) before used (made.Answer (ToldRefused fault) (RefusedReply fault))
@@ -405,7 +423,8 @@ module _ (now entry block : ℕ) (h : ClientValue) (d : Doing) (offset len : ℕ
       (same-gets before yard h.id name (Err unread.why) unread.gets) (yard_fault unread.why) cache (cached-known asks before length_is)
       (fails-yard unread.why) (uses-unread unread.why before yard unread.gets)
       (yard-unread now h (unread_as unread.why) unread.why before.yard yard unread.gets)
-      (LooksOnly (LookedUp cache asks.looked refl)))
+      (moves-none (made.Answer (ToldRefused (yard_fault unread.why)) (RefusedReply (yard_fault unread.why))) refl
+      (λ goes. absurd (cc goes))))
 
   -- it isn't there, which no volume has whose blocks are all there
   pub get-missed : (inode window : ℕ) → IsMissed h.id b before.yard yard
@@ -421,7 +440,9 @@ module _ (now entry block : ℕ) (h : ClientValue) (d : Doing) (offset len : ℕ
         before.yard yard missed.gets.0;
     cache = cache-read h d asks.busy (over h.handles cache h)
         (made.Both (Miss inode window) (ToldRefused (TryAgain 0)) (RefusedReply (TryAgain 0))) before.yard yard
-        (ap is_read asks.reads.op_is) refl (LooksOnly (LookedUp cache asks.looked refl)) tt;
+        (ap is_read asks.reads.op_is) refl
+        (moves-none (made.Both (Miss inode window) (ToldRefused (TryAgain 0)) (RefusedReply (TryAgain 0))) refl
+        (λ goes. absurd (cc goes))) tt;
     alone = (refl, λ device. refl);
     falls = refl;
     leads = λ s g number has holds client.

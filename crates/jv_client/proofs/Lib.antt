@@ -39,6 +39,7 @@ pub mod CommitCallLaws
 pub mod ChangingLaws
 pub mod ChangedLaws
 pub mod LimitsLaws
+pub mod LooksLaws
 pub mod ReadingLaws
 pub mod ShowLaws
 pub mod FormLaws

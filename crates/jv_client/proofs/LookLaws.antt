@@ -37,7 +37,7 @@ use Rattle.jv_handles.proofs.HandleLaws.{handle-looked, handle-stays, handles-lo
 use Rattle.jv_handles.proofs.SeenLaws.{view_at-own, views-later}
 use Rattle.jv_fetching.specs.declared.need.Need.{Need}
 use Rattle.jv_fetching.specs.declared.need.Need.TheVariants.{Look as NeedsLook, Nothing}
-use Rattle.jv_fetching.specs.Calls.{HasCached, IsCacheOf, LooksUp, Wants, first_seen, first_unseen}
+use Rattle.jv_fetching.specs.Calls.{FindsAll, HasCached, IsCacheOf, LooksFor, Wants, first_seen, first_unseen}
 use Rattle.jv_fetching.specs.Fetching.{Fetching, fetch_left}
 use Rattle.jv_fetching.specs.Going.{CanFetch, IsFetching}
 use Rattle.jv_fetching.specs.Shows.{IsReadBy}
@@ -55,18 +55,20 @@ use Rattle.jv_client.specs.declared.reading.Found.{Found}
 use Rattle.jv_client.specs.ClientValue.{ClientValue, session_here}
 use Rattle.jv_client.specs.Held.{Holds, IsClient, IsHeld, in_flight}
 use Rattle.jv_client.specs.Makes.{Makes, StepsTo, SaysBad, UsesDevices, faults_of, step_of, says_failure}
-use Rattle.jv_client.specs.CacheUse.{LooksOnly, MovesInRead}
-use Rattle.jv_client.specs.Reading.{GoesAhead, LookedUp, cache_in, read_of, told_read}
+use Rattle.jv_client.specs.CacheUse.{LooksOnly, MovesInRead, has_got}
+use Rattle.jv_client.specs.Reading.{GoesAhead, LookedUp, LooksOn, cache_in, read_of, told_read}
 use Rattle.jv_client.specs.UnderWay.{LacksNeed}
 use Rattle.jv_client.proofs.CacheUseLaws.{cache-read}
 use Rattle.jv_client.proofs.ReadingLaws.{lacks-later}
-use Rattle.jv_fetching.proofs.CacheLaws.{looks_then}
+use Rattle.jv_fetching.proofs.CacheLaws.{LooksUp, finds_looks, for_looks}
+use Rattle.jv_client.proofs.LooksLaws.{needs-found, on-after}
 use Rattle.jv_client.proofs.AnswerLaws.{same-yard}
 use Rattle.jv_client.proofs.DirectLaws.{direct-looked}
 use Rattle.jv_client.proofs.EndingLaws.{holds-told}
 use Rattle.jv_client.proofs.HeldLaws.{doing_of}
 use Rattle.jv_client.proofs.KeptLaws.{held-goes}
-use Rattle.jv_client.proofs.ReaderLaws.{IsAsking, busy_in, file_by, handle_in, may_read, none_flying, opened_in}
+use Rattle.jv_client.proofs.ReaderLaws.{IsAsking, busy_in, file_by, flushed-asking, handle_in, may_read, none_flying}
+use Rattle.jv_client.proofs.ReaderLaws.{opened_in}
 use Rattle.jv_client.proofs.GoneOnLaws.{client-on, client-over, falls-on, going_on, none-kept, over, reading-is}
 use Rattle.jv_client.proofs.GoneOnLaws.{ready-on}
 
@@ -310,15 +312,18 @@ module _ (now entry block : ℕ) (h : ClientValue) (d : Doing) (offset len : ℕ
       }
 
   -- blocks were looked up, and no other thing was done with the cache
-  looked-on : (later : Cached) → LooksUp cache later → MovesInRead h d before.yard before.yard (Some later)
-  looked-on later looks_up =
-      LooksOnly (LookedUp later (looks_then (cache_in h.limits.entries h.cache) cache later asks.looked looks_up) refl)
+  looked-on : (done : Made) → has_got done ≡ false → (next : Option Need) (later : Cached) → LooksOn next cache later
+      → MovesInRead h d done before.yard before.yard next (Some later)
+  looked-on done none next later looks =
+      LooksOnly next (flushed-asking asks) none (λ goes. refl)
+      (LookedUp next later (on-after next (cache_in h.limits.entries h.cache) cache later
+      (needs-found block h d fetch cache window asks.needs) looks) refl)
 
   -- it goes on
-  pub look-on : (later : Cached) → LooksUp cache later → (f : Fetching) (need : Need)
+  pub look-on : (later : Cached) (f : Fetching) (need : Need) → LooksFor need cache later
       → GoesAhead seen.views cache fetch f → Wants seen.views f need → need ≢ Nothing → LacksNeed need cache
       → Makes now entry h (going_on handles later f need d h) before used (made.Request (Look file.inode window))
-  look-on later looks_up f need goes wants more lacks = record {
+  look-on later f need looks_for goes wants more lacks = let looks_up = for_looks need cache later looks_for in record {
     id = refl;
     limits = refl;
     ready = ready-on block h d offset len cache fetch (NeedsLook window) asks handles seen opened refl later f need
@@ -327,7 +332,8 @@ module _ (now entry block : ℕ) (h : ClientValue) (d : Doing) (offset len : ℕ
         looks.looks.opened_at looks.looks.counts tt;
     yard = same-yard now h (made.Request (Look file.inode window)) before.yard;
     cache = cache-read h d asks.busy (going_on handles later f need d h) (made.Request (Look file.inode window))
-        before.yard before.yard (ap is_read asks.reads.op_is) refl (looked-on later looks_up) tt;
+        before.yard before.yard (ap is_read asks.reads.op_is) refl
+        (looked-on (made.Request (Look file.inode window)) refl (Some need) later looks_for) tt;
     alone = refl;
     falls = (
       falls-on block h d offset len cache fetch (NeedsLook window) asks handles seen opened refl later f need
@@ -338,12 +344,12 @@ module _ (now entry block : ℕ) (h : ClientValue) (d : Doing) (offset len : ℕ
   }
 
   -- or it is answered
-  pub look-over : (later : Cached) → LooksUp cache later → (found : Found)
+  pub look-over : (later : Cached) → FindsAll cache later → (found : Found)
       → ((blocks : Blocks) (all : List Asked) → HasCached blocks seen.views fetch.block cache
       → IsFetching blocks seen.views all fetch → IsReadBy (known_by fetch.block blocks) seen.views all (read_of found))
       → Makes now entry h (over handles later h) before used
       (made.Both (Look file.inode window) (told_read found) (Data found.bytes))
-  look-over later looks_up found read = record {
+  look-over later finds found read = let looks_up = finds_looks cache later finds in record {
     id = refl;
     limits = refl;
     ready = record { buffer = asks.buffer; doing = tt };
@@ -352,7 +358,8 @@ module _ (now entry block : ℕ) (h : ClientValue) (d : Doing) (offset len : ℕ
     yard = same-yard now h (made.Both (Look file.inode window) (told_read found) (Data found.bytes)) before.yard;
     cache = cache-read h d asks.busy (over handles later h)
         (made.Both (Look file.inode window) (told_read found) (Data found.bytes)) before.yard before.yard
-        (ap is_read asks.reads.op_is) (ap is_umount asks.reads.op_is) (looked-on later looks_up) tt;
+        (ap is_read asks.reads.op_is) (ap is_umount asks.reads.op_is)
+        (looked-on (made.Both (Look file.inode window) (told_read found) (Data found.bytes)) refl None later finds) tt;
     alone = (refl, λ device. refl);
     falls = refl;
     leads = λ s g number has holds client. leads-over s g number has holds client later looks_up found read;

@@ -14,7 +14,7 @@ use Rattle.jv_model.specs.journal.Steps.{asked_of, file_in_use}
 use Rattle.jv_model.specs.client.Pending.{PendingByte}
 use Rattle.jv_cache.specs.Cached.{Cached}
 use Rattle.jv_fetching.specs.declared.need.Need.{Need}
-use Rattle.jv_fetching.specs.Calls.{IsCacheOf, LooksUp, Wants}
+use Rattle.jv_fetching.specs.Calls.{IsCacheOf, Wants}
 use Rattle.jv_fetching.specs.Fetching.{Fetching, fetch_left}
 use Rattle.jv_fetching.specs.Going.{CanFetch, IsFetching}
 use Rattle.jv_handles.specs.declared.handle.Handle.{Handle}
@@ -31,13 +31,14 @@ use Rattle.jv_client.specs.declared.doing.Progress.TheVariants.{Working, Reading
 use Rattle.jv_client.specs.ClientValue.{ClientValue}
 use Rattle.jv_client.specs.Held.{IsClient, flight_by, flight_in, flush_of_code, in_flight, number_of}
 use Rattle.jv_client.specs.Held.{stage_of}
-use Rattle.jv_client.specs.Reading.{IsAhead, NeedsNext, cache_in, need_in, put_at}
+use Rattle.jv_client.specs.Reading.{IsAhead, NeedsNext, need_in, put_at}
 use Rattle.jv_client.specs.UnderWay.{IsForm}
 use Rattle.jv_client.specs.UnderWay.{IsAt, IsReading, IsReady, IsUnderWay, LacksNeed, has_segment, left, steps_left}
-use Rattle.jv_client.specs.UnderWay.{steps_of}
+use Rattle.jv_client.specs.UnderWay.{left_of, steps_of}
 use Rattle.jv_client.specs.Held.{segment_left}
 use Rattle.jv_client.proofs.HeldLaws.{client-doing, doing_of}
 use Rattle.jv_client.proofs.ReadingLaws.{reads-file}
+use Rattle.jv_model.proofs.TestLaws.{none_if}
 use Rattle.jv_client.proofs.FormLaws.{none_left}
 
 -- ---- its form
@@ -156,11 +157,10 @@ pub record IsAsking (block : ℕ) (h : ClientValue) (d : Doing) (offset len : �
   pub does : d.does ≡ does.Reads offset len
   pub none : has_segment h d ≡ false
   pub reads : ReadsBy h d offset len
-  pub needs : NeedsNext block h d fetch next
+  pub needs : NeedsNext block h d fetch next cache
   pub can : CanFetch reads.file.views fetch
   pub wants : Wants reads.file.views fetch next
   pub lacks : LacksNeed next cache
-  pub looked : LooksUp (cache_in h.limits.entries h.cache) cache
   pub fewer : fetch_left fetch ≤ steps_left h
   pub goes : (g : Known) (v : Shared) (m : ModelClient) (count : ℕ) → v.yard.setting.block ≡ block
       → IsClient g v m count h
@@ -173,6 +173,12 @@ pub cached-known : {block : ℕ} {h : ClientValue} {d : Doing} {offset len : ℕ
     → (s : State) (g : Known) → HasStore s.tree g before → IsClient g before (s.clients h.id) s.count h
     → IsCacheOf g.sizes before.yard.setting.block g.blocks cache
 cached-known {block} {h} asks before length_is s g has client = (asks.goes g before (s.clients h.id) s.count length_is client).2
+
+-- nothing is left to flush
+pub flushed-asking : {block : ℕ} {h : ClientValue} {d : Doing} {offset len : ℕ} {cache : Cached} {fetch : Fetching} {next : Need}
+    → IsAsking block h d offset len cache fetch next → left h ≡ None
+flushed-asking {block} {h} {d} asks =
+    ap (left_of h.pending) asks.busy ∙ none_if (segment_left d.flush h.pending) asks.none
 
 -- and what it is then
 pub record Asking (block : ℕ) (h c : ClientValue) (next : Need) : Type 0 where
@@ -246,11 +252,10 @@ is_asking block h c next a ready after none need = by_cache (the_some c.cache re
         none = ap (λ (pending : List PendingByte). is_some (segment_left a.d.flush pending)) (sym pending)
             ∙ none_left c (put_at (Reading a.fetch a.next) a.d) here none;
         reads = reads;
-        needs = subst (NeedsNext block h a.d a.fetch) same a.needs;
+        needs = subst (λ n. NeedsNext block h a.d a.fetch n cache) same (a.needs cache is);
         can = goes_on.0;
         wants = goes_on.1;
         lacks = subst (λ n. LacksNeed n cache) same (subst (λ o. IfSome o (LacksNeed a.next)) is reading.lacks);
-        looked = a.looked cache is;
         fewer = subst (λ n. n ≤ steps_left h) steps a.fewer;
         goes = λ g v m count length client.
             let both = a.goes g v m count length client in

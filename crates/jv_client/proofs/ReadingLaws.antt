@@ -24,9 +24,10 @@ use Rattle.jv_fetching.specs.declared.need.Need.{Need}
 use Rattle.jv_fetching.specs.declared.need.Need.TheVariants.{Block as NeedsBlock, Look as NeedsLook, Nothing}
 use Rattle.jv_fetching.specs.Fetching.{Fetching, begins, fetched_of}
 use Rattle.jv_fetching.specs.Going.{CanFetch, IsFetching}
-use Rattle.jv_fetching.specs.Calls.{AreSizedBy, Asks, HasCached, IsCacheOf, LooksUp, Wants, cache_key, first_seen}
+use Rattle.jv_fetching.specs.Calls.{AreSizedBy, Asks, FindsAll, HasCached, IsCacheOf, LooksFor, Wants, cache_key}
+use Rattle.jv_fetching.specs.Calls.{first_seen}
 use Rattle.jv_fetching.specs.Shows.{IsReadBy, One, Two}
-use Rattle.jv_fetching.proofs.CacheLaws.{cache_of-empty, cache_of-has, cache_of-looks, looks_keep, looks_none}
+use Rattle.jv_fetching.proofs.CacheLaws.{LooksUp, cache_of-empty, cache_of-has, cache_of-looks, looks_keep}
 use Rattle.jv_fetching.proofs.FetchLaws.{by_parts, fetches_go_on}
 use Rattle.jv_fetching.proofs.SameLaws.{fetches_show}
 use Rattle.jv_client.specs.declared.doing.Doing.{Doing}
@@ -43,9 +44,10 @@ use Rattle.jv_client.specs.UnderWay.{IsForm, Mounts, Transacts, Leaves, Writes, 
 use Rattle.jv_client.specs.UnderWay.{IsAt, IsReading, IsReady, IsUnderWay, LacksNeed, does_of, has_segment, left}
 use Rattle.jv_client.specs.UnderWay.{covered, left_of, reading_steps, steps_in, steps_left, steps_of}
 use Rattle.jv_client.specs.Reading.{Already, Begins, ClientComesTo, ComesTo, FromStart, GoesAhead, IsAhead, IsCachedAs}
-use Rattle.jv_client.specs.Reading.{IsMade, LookedUp, OnlyLooksUp, ReadsAtOnce, Untouched, cache_in, need_at, need_in}
-use Rattle.jv_client.specs.Reading.{new_cache, put_at, read_of}
+use Rattle.jv_client.specs.Reading.{IsMade, LookedUp, LooksOn, OnlyLooksUp, ReadsAtOnce, Untouched, cache_in, need_at, need_in}
+use Rattle.jv_client.specs.Reading.{new_cache, next_of, put_at, read_of}
 use Rattle.jv_client.proofs.FormLaws.{that_does, under_way}
+use Rattle.jv_client.proofs.LooksLaws.{looks-on}
 
 -- ---- an operation that reads
 
@@ -204,11 +206,9 @@ module _ (h : ClientValue) where
         fetch = fetch;
         next = next;
         busy = at.2;
-        needs = Already at.3;
+        needs = λ cache there. Already at.3 there;
         is = ap (λ o. record h { doing = o }) (at.2 ∙ ap Some is);
         reads = reads.read;
-        looked = λ cache there.
-            subst (λ o. LooksUp (cache_in h.limits.entries o) cache) (sym there) (looks_none cache);
         fewer = omega arith;
         goes = λ g v m count block_is client. (
           subst (λ (p : Progress). GoesOn g v h (put_at p d) p) at.3
@@ -222,8 +222,15 @@ module _ (h : ClientValue) where
 -- when it is asked for
 pub asks-lacks : (next : Need) (most : ℕ) (before after : Cached) → Asks next most before after → LacksNeed next before
 asks-lacks (NeedsLook window) most before after asks = tt
-asks-lacks (NeedsBlock b) most before after asks = asks.3
+asks-lacks (NeedsBlock b) most before after asks = asks.looks.last.1
 asks-lacks Nothing most before after asks = tt
+
+-- where nothing is, each block that was looked up is there
+pub asks-none : (next : Need) (most : ℕ) (before after : Cached) → next ≡ Nothing → Asks next most before after
+    → FindsAll before after
+asks-none next most before after none asks =
+    let looks : LooksFor Nothing before after = subst (λ n. LooksFor n before after) none asks.looks in
+    subst (FindsAll before) (sym looks.last) looks.finds
 
 -- and after look-ups
 pub lacks-later : (next : Need) (before after : Cached) → LooksUp before after → LacksNeed next before
@@ -269,14 +276,11 @@ module _ (offset len block : ℕ) (h : ClientValue) (d : Doing) (busy : h.doing 
     later-knows sizes block blocks known =
         cache_of-looks sizes block blocks cache later looks (has.knows sizes block blocks known)
 
-    looks-here : LooksUp (cache_in h.limits.entries h.cache) later
-    looks-here = subst (λ (cache : Cached). LooksUp cache later) has.is looks
-
-    pub begins-cached : IsCachedAs h went
-    begins-cached = record {
+    pub begins-cached : FindsAll cache later → IsCachedAs h went
+    begins-cached finds = record {
       cache = Some later;
       after_is = refl;
-      ahead = LookedUp later looks-here refl;
+      ahead = LookedUp None later (subst (λ (cache : Cached). FindsAll cache later) has.is finds) refl;
       knows = later-knows;
     }
 
@@ -290,7 +294,8 @@ module _ (offset len block : ℕ) (h : ClientValue) (d : Doing) (busy : h.doing 
     begins-well blocks = fetches_go_on.begin blocks on.file.views block offset len on.some on.low
 
     -- and needs something
-    module _ (fetch : Fetching) (next : Need) (comes : ComesTo on.file.views cache start (ahead.Needs fetch next)) where
+    module _ (fetch : Fetching) (next : Need) (comes : ComesTo on.file.views cache start (ahead.Needs fetch next))
+        (for : LooksFor next cache later) where
       abbrev put : Doing
       put = put_at (Reading fetch next) d
 
@@ -321,14 +326,15 @@ module _ (offset len block : ℕ) (h : ClientValue) (d : Doing) (busy : h.doing 
         fetch = fetch;
         next = next;
         busy = busy;
-        needs = FromStart offset len on.file (ap need_in (sym busy) ∙ first) is opened
-            (subst (λ (cache : Cached). GoesAhead on.file.views cache start fetch) has.is goes);
-        is = refl;
-        reads = (offset, len, is);
-        looked = λ other there.
+        needs = λ other there.
             let same : Some later ≡ Some other = there in
             let one : later ≡ other = cc same in
-            subst (LooksUp (cache_in h.limits.entries h.cache)) one looks-here;
+            FromStart offset len on.file (ap need_in (sym busy) ∙ first) is opened
+            (subst (λ (cache : Cached). GoesAhead on.file.views cache start fetch) has.is goes) comes.1
+            (subst (LooksFor next (cache_in h.limits.entries h.cache)) one
+            (subst (λ (cache : Cached). LooksFor next cache later) has.is for));
+        is = refl;
+        reads = (offset, len, is);
         fewer = (let few = goes.few in let weight = fetches_go_on.weight block offset len on.some on.low in
             omega (arith, few, weight, most));
         goes = began-goes;
@@ -357,10 +363,10 @@ module _ (offset len block : ℕ) (h : ClientValue) (d : Doing) (busy : h.doing 
       }
 
     -- or it has read all
-    pub begins-read : (found : Found) → ComesTo on.file.views cache start (ahead.Read found)
+    pub begins-read : (found : Found) → ComesTo on.file.views cache start (ahead.Read found) → FindsAll cache later
         → ReadsAtOnce offset len block h went found
-    begins-read found comes = record {
-      same = begins-cached;
+    begins-read found comes finds = record {
+      same = begins-cached finds;
       read = λ d' file sizes blocks busy' opened' sized known.
           let same : d ≡ d' = (let both : Some d ≡ Some d' = sym busy ∙ busy' in cc both) in
           let named : Some on.file ≡ Some file = sym opened ∙ ap (λ (d : Doing). file_of h.handles (handle_of d.op)) same
@@ -414,7 +420,7 @@ made_in entries None after cache made is =
 
 module _ (entries : ℕ) (h middle after : ClientValue) (made : Option Cached) (entries_are : entries ≡ h.limits.entries)
     (is_made : IsMade entries h.cache made)
-    (middle_is : middle ≡ record h { cache = made }) (looks : OnlyLooksUp middle after) where
+    (middle_is : middle ≡ record h { cache = made }) (came : Option Need) (looks : OnlyLooksUp came middle after) where
   was : made ≡ Some looks.cache
   was = sym (ap (λ (h : ClientValue). h.cache) middle_is) ∙ looks.was
 
@@ -428,13 +434,17 @@ module _ (entries : ℕ) (h middle after : ClientValue) (made : Option Cached) (
   after_went : after ≡ record h { cache = Some looks.later }
   after_went = looks.after_is ∙ ap (λ (h : ClientValue). record h { cache = Some looks.later }) middle_is
 
-  pub ahead-cached : IsCachedAs h after
-  ahead-cached = record {
+  looks-up : LooksUp looks.cache looks.later
+  looks-up = looks-on came looks.cache looks.later looks.looks
+
+  pub ahead-cached : came ≡ None → IsCachedAs h after
+  ahead-cached none = record {
     cache = Some looks.later;
     after_is = after_went;
-    ahead = LookedUp looks.later (subst (λ (cache : Cached). LooksUp cache looks.later) has_cache.is looks.looks) refl;
+    ahead = LookedUp None looks.later (subst (λ (cache : Cached). FindsAll cache looks.later) has_cache.is
+        (subst (λ o. LooksOn o looks.cache looks.later) none looks.looks)) refl;
     knows = λ sizes block blocks known.
-        cache_of-looks sizes block blocks looks.cache looks.later looks.looks
+        cache_of-looks sizes block blocks looks.cache looks.later looks-up
         (has_cache.knows sizes block blocks known);
   }
 
@@ -443,22 +453,24 @@ module _ (entries : ℕ) (h middle after : ClientValue) (made : Option Cached) (
     abbrev here : ReadsHere h offset len
     here = reads-here h offset len does ready
 
-    comes-here : (fetch : Fetching) (came ahead : Ahead) → fetch ≡ begins block (asked_parts offset len)
-        → came ≡ ahead → ClientComesTo fetch middle came
+    comes-here : (fetch : Fetching) (outcome ahead : Ahead) → fetch ≡ begins block (asked_parts offset len)
+        → outcome ≡ ahead → ClientComesTo fetch middle outcome
         → ComesTo here.file.file.views looks.cache (begins block (asked_parts offset len)) ahead
-    comes-here fetch came ahead of_fetch of_ahead comes =
+    comes-here fetch outcome ahead of_fetch of_ahead comes =
         subst (ComesTo here.file.file.views looks.cache (begins block (asked_parts offset len))) of_ahead
-        (subst (λ (fetch : Fetching). ComesTo here.file.file.views looks.cache fetch came) of_fetch (comes here.d here.file.file looks.cache (ap (λ (h : ClientValue). h.doing) middle_is ∙ here.busy)
+        (subst (λ (fetch : Fetching). ComesTo here.file.file.views looks.cache fetch outcome) of_fetch (comes here.d here.file.file looks.cache (ap (λ (h : ClientValue). h.doing) middle_is ∙ here.busy)
         (ap (λ (h : ClientValue). file_of h.handles (handle_of here.d.op)) middle_is ∙ here.opened) looks.was))
 
-    pub begins-none : (start : Fetching) (came : Ahead) (fetch : Fetching) (next : Need)
-        → start ≡ begins block (asked_parts offset len) → came ≡ ahead.Needs fetch next
-        → ClientComesTo start middle came → (doing : Option Doing) (end : ClientValue)
+    pub begins-none : (start : Fetching) (outcome : Ahead) (fetch : Fetching) (next : Need) → came ≡ next_of outcome
+        → start ≡ begins block (asked_parts offset len) → outcome ≡ ahead.Needs fetch next
+        → ClientComesTo start middle outcome → (doing : Option Doing) (end : ClientValue)
         → doing ≡ option_map (put_at (Reading fetch next)) after.doing → end ≡ record after { doing = doing }
         → Begins offset len block h end None
-    begins-none start came fetch next of_start of_ahead comes doing end doing_is put_is =
+    begins-none start outcome fetch next came_is of_start of_ahead comes doing end doing_is put_is =
         let d = here.d in
-        let to = comes-here start came (ahead.Needs fetch next) of_start of_ahead comes in
+        let to = comes-here start outcome (ahead.Needs fetch next) of_start of_ahead comes in
+        let for : LooksFor next looks.cache looks.later =
+        subst (λ o. LooksOn o looks.cache looks.later) (came_is ∙ ap next_of of_ahead) looks.looks in
         let end_is : end ≡ record after { doing = option_map (put_at (Reading fetch next)) after.doing } =
         put_is ∙ ap (λ (o : Option Doing). record after { doing = o }) doing_is in
         let began : ClientValue = record h { cache = Some looks.later; doing = Some (put_at (Reading fetch next) d) } in
@@ -471,17 +483,20 @@ module _ (entries : ℕ) (h middle after : ClientValue) (made : Option Cached) (
         }) here.busy in
         subst (λ (c : ClientValue). IsAhead block h c × IsReady c) (sym is) (
           begins-ahead offset len block h d here.busy here.does_is ready none first here.file looks.cache looks.later has_cache
-              looks.looks fetch next to,
+              looks-up fetch next to for,
           begins-ready offset len block h d here.busy here.does_is ready none first here.file looks.cache looks.later has_cache
-              looks.looks fetch next to,
+              looks-up fetch next to for,
         )
 
-    pub begins-some : (start : Fetching) (came : Ahead) (found : Found) → start ≡ begins block (asked_parts offset len)
-        → came ≡ ahead.Read found → ClientComesTo start middle came → Begins offset len block h after (Some found)
-    begins-some start came found of_start of_ahead comes =
+    pub begins-some : (start : Fetching) (outcome : Ahead) (found : Found) → came ≡ next_of outcome
+        → start ≡ begins block (asked_parts offset len) → outcome ≡ ahead.Read found
+        → ClientComesTo start middle outcome → Begins offset len block h after (Some found)
+    begins-some start outcome found came_is of_start of_ahead comes =
+        let finds : FindsAll looks.cache looks.later =
+        subst (λ o. LooksOn o looks.cache looks.later) (came_is ∙ ap next_of of_ahead) looks.looks in
         subst (λ (c : ClientValue). ReadsAtOnce offset len block h c found) (sym after_went)
         (begins-read offset len block h here.d here.busy here.does_is ready none first here.file looks.cache looks.later
-        has_cache looks.looks found (comes-here start came (ahead.Read found) of_start of_ahead comes))
+        has_cache looks-up found (comes-here start outcome (ahead.Read found) of_start of_ahead comes) finds)
 
 -- what holds anyway holds on an error
 pub on_err : {A E : Type 0} (result : Result A E) (P : Type 0) → P → OnErr result P

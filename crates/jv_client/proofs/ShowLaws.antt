@@ -126,15 +126,16 @@ module _ (now entry : ℕ) (h : ClientValue) (ready : IsReady h) (v : Shared) (c
 
 module _ (now entry : ℕ) (h middle after : ClientValue) (d : Doing) (busy : h.doing ≡ Some d) (ready : IsReady h)
     (v : Shared) (done : Made) where
-  pub fails-reading : is_read d.op ≡ true → IsCachedAs h middle → Fails NoMemory middle after done
+  pub fails-reading : is_read d.op ≡ true → left h ≡ None → IsCachedAs h middle → Fails NoMemory middle after done
       → Makes now entry h after v v done
-  fails-reading read same fails =
+  fails-reading read none same fails =
       makes-as now entry h after (record h { cache = same.cache; doing = None }) v v v done
       (made.Answer (ToldRefused NoMemory) (RefusedReply NoMemory))
       (fails.after_is ∙ ap ended same.after_is) refl fails.made_is
       (answered-alone now entry h ready v same.cache same.knows (ToldRefused NoMemory) (RefusedReply NoMemory)
       (cache-read h d busy (record h { cache = same.cache; doing = None })
-      (made.Answer (ToldRefused NoMemory) (RefusedReply NoMemory)) v.yard v.yard read refl (LooksOnly same.ahead) tt)
+      (made.Answer (ToldRefused NoMemory) (RefusedReply NoMemory)) v.yard v.yard read refl
+      (LooksOnly None none refl (λ goes. refl) same.ahead) tt)
       (λ device. refl)
       (λ s g store is. failure-request s g v v store (same-none v) h.id now (in_flight h) (doing_of d)
       (client-doing g v (s.clients h.id) s.count h d busy is) (not_ending d) NoMemory refl))
@@ -206,7 +207,7 @@ module _ (now entry offset len : ℕ) (h middle : ClientValue) (d : Doing) (busy
       (answered-alone now entry h ready v reads.same.cache reads.same.knows (told_read found) (Data found.bytes)
       (cache-read h d busy (record h { cache = reads.same.cache; doing = None })
       (made.Answer (told_read found) (Data found.bytes)) v.yard v.yard (ap is_read on.op_is) (ap is_umount on.op_is)
-      (LooksOnly reads.same.ahead) tt)
+      (LooksOnly None none refl (λ goes. refl) reads.same.ahead) tt)
       (λ device. refl) (λ s g store is. read-request s g store is))
 
 -- ---- from the outcome of a reading that begins
@@ -232,8 +233,9 @@ module _ (offset len block : ℕ) (h middle : ClientValue) (result : Option Foun
 
 -- or memory ran out
 pub begun-fails : (now entry offset len : ℕ) (h middle after : ClientValue) (v : Shared) (done : Made)
-    → does_of h.doing ≡ Some (does.Reads offset len) → IsReady h → IsCachedAs h middle
+    → does_of h.doing ≡ Some (does.Reads offset len) → IsReady h → left h ≡ None → IsCachedAs h middle
     → Fails NoMemory middle after done → Makes now entry h after v v done
-begun-fails now entry offset len h middle after v done does ready same fails =
+begun-fails now entry offset len h middle after v done does ready none same fails =
     let here = reads-here h offset len does ready in
-    fails-reading now entry h middle after here.d here.busy ready v done (ap is_read here.file.op_is) same fails
+    fails-reading now entry h middle after here.d here.busy ready v done (ap is_read here.file.op_is) none same
+    fails

@@ -23,7 +23,7 @@ use Rattle.jv_model.specs.journal.State.{State, Gift, after_told, caller, gift_o
 use Rattle.jv_model.specs.journal.State.{newly_sustained, transacted}
 use Rattle.jv_model.specs.journal.Steps.{entry_of_gift, told_of, transacts}
 use Rattle.jv_model.specs.Lists.{is_among}
-use Rattle.jv_model.specs.client.OpForms.{is_metadata, takes_entries, is_write}
+use Rattle.jv_model.specs.client.OpForms.{is_metadata, is_read, takes_entries, is_write}
 use Rattle.jv_outside.specs.Store.{Store}
 use Rattle.jv_volume.proofs.HoldingLaws.{sustains_none, sustains_held}
 use Rattle.jv_volume.proofs.OpeningLaws.{opened_file}
@@ -52,7 +52,7 @@ use Rattle.jv_client.specs.Makes.{FailsAlone, IsCalm, Makes, StepsTo, kinds_of}
 use Rattle.jv_client.specs.Transacting.{IsCaller, Attempts, EndsUnmade, NotMade, answered_here, given_here}
 use Rattle.jv_client.specs.Transacting.{handles_given, sustained_with}
 use Rattle.jv_client.specs.CacheUse.{CacheUse}
-use Rattle.jv_client.proofs.CacheUseLaws.{cache-ended}
+use Rattle.jv_client.proofs.CacheUseLaws.{NoRead, cache-ended}
 use Rattle.jv_client.proofs.AnswerLaws.{Rests, makes-ended, request-lands, rests-flight, same-yard, told-rests}
 use Rattle.jv_client.proofs.HeldLaws.{client-doing, doing_of, holds-later}
 use Rattle.jv_client.proofs.LastLaws.{is_last-same}
@@ -103,6 +103,16 @@ metadata-plain o e = refl
 pub one-plain : (d : Doing) → MakesOne d → (told : Told) → keeps_bytes d.op told ≡ false
 one-plain d (OfMount o) told = keeps-none d.op told (ap is_write o)
 one-plain d (OfMetadata is spelled) told = keeps-none d.op told (metadata-plain d.op is)
+
+-- and no read
+
+metadata-reads_none : (o : Op) → is_metadata o ≡ true → is_read o ≡ false
+metadata-reads_none (op.Read handle offset len) e = absurd (cc)
+metadata-reads_none o e = refl
+
+one-reads_none : (d : Doing) → MakesOne d → is_read d.op ≡ false
+one-reads_none d (OfMount o) = ap is_read o
+one-reads_none d (OfMetadata is spelled) = metadata-reads_none d.op is
 
 -- ---- the step
 
@@ -285,7 +295,7 @@ module _ (now : ℕ) (h : ClientValue) (d : Doing) (busy : h.doing ≡ Some d) (
         (told_of answer.reply) answer.reply v keeper
         (record { id = rests.id; limits = rests.limits; idle = rests.idle })
         (cache-ended h d busy (answered_here entry d.op answer h) made v.yard v.yard (given_here entry answer h)
-        (told_of answer.reply) refl refl refl tt)
+        (told_of answer.reply) (NoRead (one-reads_none d one)) refl refl refl tt)
         ready tx.opened_at tx.counts
         (asks-by_gift (gift_of answer.reply), calm-reply answer.reply tried.answers)
         (λ s g number has holds is.

@@ -1,6 +1,6 @@
 -- A look that reached no view: it is refused since the session or the file is gone, the keeper failed, memory ran out, or
 -- a row is Bad.
-use Rattle.std.proofs.Common.{◌≡◌, ℕ, ◌+◌, true, [], ◌∷◌, Option, Some, Err, refl, sym, ap, subst}
+use Rattle.std.proofs.Common.{◌≡◌, ℕ, ◌+◌, true, false, [], ◌∷◌, Option, None, Some, Err, refl, sym, ap, subst}
 use Rattle.std.proofs.Common.{◌∙◌, arith}
 use Rattle.std.specs.Prelude.{unwrap_or}
 use Rattle.std.specs.Option.{option_map}
@@ -35,7 +35,8 @@ use Rattle.jv_shared.proofs.SameLaws.{same-rows, same-stays}
 use Rattle.jv_handles.specs.declared.handle.Handle.{Handle}
 use Rattle.jv_handles.specs.Held.{IsHandle}
 use Rattle.jv_fetching.specs.declared.need.Need.TheVariants.{Look as NeedsLook}
-use Rattle.jv_fetching.specs.Calls.{IsCacheOf, LooksUp}
+use Rattle.jv_fetching.specs.declared.need.Need.{Need}
+use Rattle.jv_fetching.specs.Calls.{FindsAll, IsCacheOf}
 use Rattle.jv_fetching.specs.Fetching.{Fetching}
 use Rattle.jv_fetching.specs.Going.{IsFetching}
 use Rattle.jv_fetching.proofs.SameLaws.{fetches_show}
@@ -54,7 +55,7 @@ use Rattle.jv_client.specs.Ending.{refused_here}
 use Rattle.jv_client.specs.Held.{Holds, IsClient, in_flight}
 use Rattle.jv_client.specs.Makes.{Makes, StepsTo, UsesDevices, faults_of, is_same_device}
 use Rattle.jv_client.specs.Transacting.{EndsUnmade, refusal_of}
-use Rattle.jv_client.specs.CacheUse.{LooksOnly, MovesInRead}
+use Rattle.jv_client.specs.CacheUse.{LooksOnly, MovesInRead, goes_well, has_got}
 use Rattle.jv_client.specs.Reading.{LookedUp, cache_in, put_at}
 use Rattle.jv_client.specs.UnderWay.{IsReady}
 use Rattle.jv_client.proofs.CacheUseLaws.{cache-read, cache-refused}
@@ -63,7 +64,9 @@ use Rattle.jv_client.proofs.EndingLaws.{holds-told}
 use Rattle.jv_client.proofs.HeldLaws.{doing_of}
 use Rattle.jv_client.proofs.KeptLaws.{cache-goes, held-goes, told-client}
 use Rattle.jv_client.proofs.WrittenLaws.{names-held}
-use Rattle.jv_client.proofs.ReaderLaws.{IsAsking, asking, busy_in, cached-known, file_by, handle_in, may_read, none_flying, opened_in}
+use Rattle.jv_client.proofs.ReaderLaws.{IsAsking, asking, busy_in, cached-known, file_by, flushed-asking, handle_in}
+use Rattle.jv_client.proofs.ReaderLaws.{may_read, none_flying, opened_in}
+use Rattle.jv_client.proofs.LooksLaws.{needs-found}
 use Rattle.jv_client.proofs.GoneOnLaws.{over}
 use Rattle.jv_client.proofs.ReadFailedLaws.{failed, held-cache}
 use Rattle.jv_client.proofs.LookLaws.{uses-look}
@@ -116,11 +119,15 @@ module _ (now entry block : ℕ) (h : ClientValue) (d : Doing) (offset len : ℕ
   c = asking h cache d fetch (NeedsLook window)
 
   -- the blocks that were looked up before it
-  looked-before : MovesInRead h d before.yard before.yard (Some cache)
-  looked-before = LooksOnly (LookedUp cache asks.looked refl)
+  looked-before : (done : Made) → has_got done ≡ false → (next : Option Need)
+      → (goes_well done ≡ true → None ≡ next)
+      → MovesInRead h d done before.yard before.yard next (Some cache)
+  looked-before done none next goes =
+      LooksOnly None (flushed-asking asks) none goes
+      (LookedUp None cache (needs-found block h d fetch cache window asks.needs) refl)
 
   -- memory ran out, before the look or after it
-  pub look-out : (later : Cached) → LooksUp (cache_in h.limits.entries h.cache) later
+  pub look-out : (later : Cached) → FindsAll (cache_in h.limits.entries h.cache) later
       → ((s : State) (g : Known) → HasStore s.tree g before → IsClient g before (s.clients h.id) s.count h
       → IsCacheOf g.sizes before.yard.setting.block g.blocks later)
       → keeper.rows ≡ before.keeper.rows → keeper.opened ≡ before.keeper.opened → keeper.faults ≡ before.keeper.faults
@@ -131,7 +138,7 @@ module _ (now entry block : ℕ) (h : ClientValue) (d : Doing) (offset len : ℕ
       (uses-look (made.Answer (ToldRefused NoMemory) (Refused NoMemory)) before keeper (λ device. refl) rows opened faults
       tt)
       (same-yard now h (made.Answer (ToldRefused NoMemory) (Refused NoMemory)) before.yard)
-      (LooksOnly (LookedUp later looked refl))
+      (LooksOnly None (flushed-asking asks) refl (λ goes. refl) (LookedUp None later looked refl))
 
   -- ---- it was refused
 
@@ -232,7 +239,8 @@ module _ (now entry block : ℕ) (h : ClientValue) (d : Doing) (offset len : ℕ
             looks.looks.rows_are looks.looks.opened_at looks.looks.counts tt;
         yard = same-yard now h (made.Both Quiet (ToldRefused why) (Refused why)) before.yard;
         cache = cache-refused h d asks.busy (refused_here why c) (made.Both Quiet (ToldRefused why) (Refused why))
-            before.yard before.yard (ap is_read asks.reads.op_is) c why refl looked-before refl tt;
+            before.yard before.yard (ap is_read asks.reads.op_is) c why refl
+            (looked-before (made.Both Quiet (ToldRefused why) (Refused why)) refl None (λ goes. refl)) refl tt;
         alone = (refl, calm-refusal fault);
         falls = rests.idle;
         leads = λ s g number has holds client. refused-so fault looks s g has holds client;
@@ -250,7 +258,8 @@ module _ (now entry block : ℕ) (h : ClientValue) (d : Doing) (offset len : ℕ
             looks.looks.rows_are looks.looks.opened_at looks.looks.counts tt;
         yard = same-yard now h (made.Both Quiet (ToldRefused fault) (Refused fault)) before.yard;
         cache = cache-read h d asks.busy (refused_here fault c) (made.Both Quiet (ToldRefused fault) (Refused fault))
-            before.yard before.yard (ap is_read asks.reads.op_is) refl looked-before tt;
+            before.yard before.yard (ap is_read asks.reads.op_is) refl
+            (looked-before (made.Both Quiet (ToldRefused fault) (Refused fault)) refl None (λ goes. refl)) tt;
         alone = (refl, λ device. refl);
         falls = refl;
         leads = λ s g number has holds client.
@@ -267,7 +276,8 @@ module _ (now entry block : ℕ) (h : ClientValue) (d : Doing) (offset len : ℕ
             looks.looks.opened_at looks.looks.counts looks.looks.bad;
         yard = same-yard now h (made.Broken at bytes) before.yard;
         cache = cache-read h d asks.busy c (made.Broken at bytes) before.yard before.yard (ap is_read asks.reads.op_is)
-            refl looked-before tt;
+            refl
+            (looked-before (made.Broken at bytes) refl (Some (NeedsLook window)) (λ goes. absurd (cc goes))) tt;
         alone = tt;
         falls = record {
           progress = Reading fetch (NeedsLook window);
@@ -287,9 +297,10 @@ module _ (now entry block : ℕ) (h : ClientValue) (d : Doing) (offset len : ℕ
       (same-rows before keeper before.carrier looks.looks.rows_are) (DeviceFailed Keeper) cache (cached-known asks before length_is) refl
       (uses-failed before keeper looks.looks.rows_are looks.looks.opened_at looks.looks.counts)
       (same-yard now h (made.Answer (ToldRefused (DeviceFailed Keeper)) (Refused (DeviceFailed Keeper))) before.yard)
-      looked-before))
+      (looked-before (made.Answer (ToldRefused (DeviceFailed Keeper)) (Refused (DeviceFailed Keeper))) refl None
+      (λ goes. refl))))
   look-unmade (OfRows Memory) after done ready looks ends =
       subst (λ x. Makes now entry h after before used x) (sym ends.made_is)
       (subst (λ x. Makes now entry h x before used (made.Answer (ToldRefused NoMemory) (Refused NoMemory)))
       (sym ends.after_is)
-      (look-out cache asks.looked (cached-known asks before length_is) looks.looks.rows_are looks.looks.opened_at looks.looks.counts))
+      (look-out cache (needs-found block h d fetch cache window asks.needs) (cached-known asks before length_is) looks.looks.rows_are looks.looks.opened_at looks.looks.counts))

@@ -40,7 +40,7 @@ use Rattle.jv_client.specs.Makes.{says_failure}
 use Rattle.jv_client.specs.Transacting.{EndsUnmade, Fails, NotMade, Refuses, refusal_of}
 use Rattle.jv_client.proofs.EndingLaws.{holds-told}
 use Rattle.jv_client.proofs.KeptLaws.{client-told}
-use Rattle.jv_client.proofs.CacheUseLaws.{cache-ended, cache-stays}
+use Rattle.jv_client.proofs.CacheUseLaws.{NoBlock, cache-ended, cache-stays}
 use Rattle.jv_client.proofs.AnswerLaws.{fails-makes, makes-as, makes-ended, refused-rests, rests-flight, same-yard}
 
 -- ---- devices: nothing was asked but of the keeper
@@ -140,7 +140,7 @@ module _ (now entry : ℕ) (h : ClientValue) (d : Doing) (before used : Shared) 
       makes-ended now entry h (refused_here fault h) before used
       (made.Both kind (ToldRefused fault) (RefusedReply fault)) (RefusedReply fault) refl ready rests uses yard
       (cache-ended h d busy (refused_here fault h) (made.Both kind (ToldRefused fault) (RefusedReply fault)) before.yard
-      used.yard h (ToldRefused fault) refl refl refl tt)
+      used.yard h (ToldRefused fault) (NoBlock refl (λ goes. absurd (cc goes))) refl refl refl tt)
       (asks, calm)
       (λ s g count store holds is.
       let m = s.clients h.id in
@@ -231,7 +231,8 @@ module _ (now entry : ℕ) (h after : ClientValue) (d : Doing) (before : Shared)
         devices = uses-keeper before keeper (made.Broken at bytes) none.opened_at none.counts (refl, refl, refl)
             (λ asks. none.rows_are) none.bad;
         yard = same-yard now h (made.Broken at bytes) before.yard;
-        cache = cache-stays h d busy h (made.Broken at bytes) before.yard before.yard refl refl tt;
+        cache = cache-stays h d busy h (made.Broken at bytes) before.yard before.yard
+            (NoBlock refl (λ goes. absurd (cc goes))) refl refl tt;
         alone = tt;
         falls = stops-as h d busy;
         leads = λ s g number store holds is. absurd (leads s g number store holds is);

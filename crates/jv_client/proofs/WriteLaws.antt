@@ -29,7 +29,7 @@ use Rattle.jv_client.proofs.HeldLaws.{client-doing, doing_of}
 use Rattle.jv_client.proofs.KeptLaws.{held-goes}
 use Rattle.jv_client.proofs.AnswerLaws.{makes-as}
 use Rattle.jv_client.proofs.FormLaws.{flushed-same, none_left, under_way}
-use Rattle.jv_client.proofs.CacheUseLaws.{cache-stays}
+use Rattle.jv_client.proofs.CacheUseLaws.{NoBlock, cache-stays}
 use Rattle.jv_client.proofs.AtOnceLaws.{answers-makes, is_done}
 use Rattle.jv_client.proofs.WrittenLaws.{model_wrote, wrote, wrote-client, wrote-holds}
 
@@ -122,7 +122,7 @@ module _ (h : ClientValue) (d : Doing) (busy : h.doing ≡ Some d) (ready : IsRe
       answers-makes now entry h (wrote w.handle w.offset w.bytes h) v (Fine count 0 0 0) (Count count) ready
       (record { id = refl; limits = refl; idle = refl })
       (cache-stays h d busy (wrote w.handle w.offset w.bytes h) (made.Answer (Fine count 0 0 0) (Count count)) v.yard v.yard
-      (ap is_umount w.op_is) refl tt)
+      (NoBlock refl (λ goes. refl)) (ap is_umount w.op_is) refl tt)
       (λ device. refl)
       (λ s g store holds is.
       let c = s.clients h.id in

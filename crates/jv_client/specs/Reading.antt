@@ -1,5 +1,5 @@
 -- A reading within a step: how far it goes without a request, and what it leaves of the client.
-use Rattle.std.specs.Prelude.{◌≡◌, ◌≢◌, ℕ, ◌≤◌, ◌<◌, List, [], length, Option, None, Some, IfSome}
+use Rattle.std.specs.Prelude.{◌≡◌, ◌≢◌, ℕ, ◌≤◌, ◌<◌, List, [], length, Option, None, Some, IfSome, Result, Ok, Err}
 use Rattle.std.specs.Option.{option_map}
 use Rattle.jv_model.specs.declared.act.ActKind.{ActKind}
 use Rattle.jv_model.specs.declared.act.Told.{Told}
@@ -18,7 +18,7 @@ use Rattle.jv_fetching.specs.declared.need.Need.{Need}
 use Rattle.jv_fetching.specs.declared.need.Need.TheVariants.{Nothing}
 use Rattle.jv_fetching.specs.Fetching.{Fetching, begins, fetch_left}
 use Rattle.jv_fetching.specs.Going.{CanFetch, IsFetching}
-use Rattle.jv_fetching.specs.Calls.{AreSizedBy, HasCached, IsCacheOf, LooksUp, Wants, first_seen}
+use Rattle.jv_fetching.specs.Calls.{AreSizedBy, FindsAll, HasCached, IsCacheOf, LooksFor, Wants, first_seen}
 use Rattle.jv_fetching.specs.Shows.{IsReadBy}
 use Rattle.jv_client.specs.declared.doing.Doing.{Doing}
 use Rattle.jv_client.specs.declared.doing.Progress.{Progress}
@@ -82,12 +82,27 @@ ComesTo views cache before (ahead.Read found) =
     → IsFetching blocks views all before
     → IsReadBy (known_by before.block blocks) views all (read_of found)
 
--- of a client, whose operation reads by its handle: it looked up blocks, and nothing else changed
-pub record OnlyLooksUp (h after : ClientValue) : Type 0 where
+-- what it needs then, if it needs something
+abbrev pub next_of : Ahead → Option Need
+next_of (ahead.Needs fetch next) = Some next
+next_of (ahead.Read found) = None
+
+abbrev pub next_in : {E : Type 0} → Result Ahead E → Option Need
+next_in (Ok ahead) = next_of ahead
+next_in (Err e) = None
+
+-- Going ahead to this need, if there is one, blocks that the cache has were looked up, and then the
+-- block that is needed.
+abbrev pub LooksOn : Option Need → Cached → Cached → Type 0
+LooksOn None before after = FindsAll before after
+LooksOn (Some next) before after = LooksFor next before after
+
+-- of a client, whose operation reads by its handle: these were looked up, and nothing else changed
+pub record OnlyLooksUp (next : Option Need) (h after : ClientValue) : Type 0 where
   pub cache : Cached
   pub later : Cached
   pub was : h.cache ≡ Some cache
-  pub looks : LooksUp cache later
+  pub looks : LooksOn next cache later
   pub after_is : after ≡ record h { cache = Some later }
 
 abbrev pub ClientComesTo : Fetching → ClientValue → Ahead → Type 0
@@ -110,32 +125,35 @@ abbrev pub cache_in : ℕ → Option Cached → Cached
 cache_in entries None = new_cache entries
 cache_in entries (Some cache) = cache
 
--- blocks were looked up in it, if anything was done
-pub data LooksAhead (entries : ℕ) (was is : Option Cached) : Type 0 where
-  Untouched : is ≡ was → LooksAhead entries was is
-  LookedUp : (later : Cached) → LooksUp (cache_in entries was) later → is ≡ Some later
-      → LooksAhead entries was is
+-- blocks were looked up in it on the way to this need, if anything was done
+pub data LooksAhead (entries : ℕ) (was is : Option Cached) : Option Need → Type 0 where
+  Untouched : is ≡ was → LooksAhead entries was is None
+  LookedUp : (next : Option Need) (later : Cached) → LooksOn next (cache_in entries was) later
+      → is ≡ Some later → LooksAhead entries was is next
 
 -- a client with another cache, in which nothing stands that isn't known
 pub record IsCachedAs (h after : ClientValue) : Type 0 where
   pub cache : Option Cached
   pub after_is : after ≡ record h { cache = cache }
-  pub ahead : LooksAhead h.limits.entries h.cache cache
+  pub ahead : LooksAhead h.limits.entries h.cache cache None
   pub knows : (sizes : ℕ → ℕ) (block : ℕ) (blocks : Blocks)
       → IfSome h.cache (IsCacheOf sizes block blocks)
       → IfSome cache (IsCacheOf sizes block blocks)
 
--- What a reading needs before its request: what it needed when the step began; or it begins in
--- this step, and goes ahead from its start by the views of its handle and by the cache before it.
-pub data NeedsNext (block : ℕ) (h : ClientValue) (d : Doing) (fetch : Fetching)
-    (next : Need) : Type 0 where
-  Already : d.progress ≡ Reading fetch next → NeedsNext block h d fetch next
+-- What a reading needs before its request, and the cache then: what it needed when the step began,
+-- with the cache as it was; or it begins in this step, goes ahead from its start by the views of
+-- its handle and by the cache before it, and looks up what it comes to.
+pub data NeedsNext (block : ℕ) (h : ClientValue) (d : Doing) (fetch : Fetching) (next : Need)
+    (cache : Cached) : Type 0 where
+  Already : d.progress ≡ Reading fetch next → h.cache ≡ Some cache
+      → NeedsNext block h d fetch next cache
   FromStart : (offset len : ℕ) (file : Handle) → need_at d.progress ≡ None
       → d.does ≡ does.Reads offset len
       → file_of h.handles (handle_of d.op) ≡ Some file
       → GoesAhead file.views (cache_in h.limits.entries h.cache)
       (begins block (asked_parts offset len)) fetch
-      → NeedsNext block h d fetch next
+      → Wants file.views fetch next → LooksFor next (cache_in h.limits.entries h.cache) cache
+      → NeedsNext block h d fetch next cache
 
 -- The client before a request of its reading, which was so when the step began, or has just begun.
 pub record IsAhead (block : ℕ) (h c : ClientValue) : Type 0 where
@@ -143,11 +161,9 @@ pub record IsAhead (block : ℕ) (h c : ClientValue) : Type 0 where
   pub fetch : Fetching
   pub next : Need
   pub busy : h.doing ≡ Some d
-  pub needs : NeedsNext block h d fetch next
+  pub needs : (cache : Cached) → c.cache ≡ Some cache → NeedsNext block h d fetch next cache
   pub is : c ≡ record h { cache = c.cache; doing = Some (put_at (Reading fetch next) d) }
   pub reads : (offset len : ℕ) × (d.does ≡ does.Reads offset len)
-  pub looked : (cache : Cached) → c.cache ≡ Some cache
-      → LooksUp (cache_in h.limits.entries h.cache) cache
   pub fewer : steps_left c ≤ steps_left h
   pub goes : (g : Known) (v : Shared) (m : ModelClient) (count : ℕ)
       → v.yard.setting.block ≡ block → IsClient g v m count h

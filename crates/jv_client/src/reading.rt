@@ -7,7 +7,6 @@ ghost use Rattle.jv_outside.specs.Carriage.{Carriage};
 ghost use Rattle.jv_outside.specs.Store.{Store};
 ghost use Rattle.jv_yard.specs.YardValue.{YardValue};
 ghost use Rattle.jv_shared.specs.Lengths.{IsLength};
-ghost use Rattle.jv_fetching.specs.Calls.{LooksUp};
 ghost use Rattle.jv_fetching.specs.Fetching.{block_needed, first_window};
 ghost use Rattle.jv_client.specs.declared.doing.Progress.TheVariants.{Reading, Working};
 ghost use Rattle.jv_client.specs.ClientValue.{ClientValue};
@@ -16,7 +15,7 @@ ghost use Rattle.jv_client.specs.UnderWay.{IsReady, does_of, left, names_open};
 ghost use Rattle.jv_client.specs.Makes.{Makes};
 ghost use Rattle.jv_yard.specs.Refusals.{yard_fault};
 ghost use Rattle.jv_client.specs.Getting.{HasFilled, IsBlockIn, IsMissedBy, ReadsBlock};
-ghost use Rattle.jv_client.specs.Reading.{Begins, ClientComesTo, ComesTo, GoesOnAfter, IsAhead, IsCachedAs, IsMade, OnlyLooksUp, Shows, fetch_at, fetch_in, need_at, need_in, put_at};
+ghost use Rattle.jv_client.specs.Reading.{Begins, ClientComesTo, ComesTo, GoesOnAfter, IsAhead, IsCachedAs, IsMade, LooksOn, OnlyLooksUp, Shows, fetch_at, fetch_in, need_at, need_in, next_in, put_at};
 
 use crate::answers::looks;
 use crate::client::{Client, forget};
@@ -149,7 +148,7 @@ impl Client {
         requires busy { IsSome self.old.doing }
         requires opened { IfSome self.old.doing (names_open self.old) }
         requires cached { IsSome self.old.cache }
-        ensures looks { OnlyLooksUp self.old self.new }
+        ensures looks { OnlyLooksUp (next_in result) self.old self.new }
         ensures comes { IfOk result (ClientComesTo fetch self.old) }
     {
         let handle = self.handle_in_use();
@@ -347,7 +346,7 @@ fn take_from(progress: &mut Progress) -> Fetch
 
 /// Goes ahead with a reading as far as it needs no request.
 fn read_ahead(mut fetch: Fetch, views: &Views, cache: &mut BlockCache) -> Result<Ahead, AllocError>
-    ensures looks { LooksUp cache.old cache.new }
+    ensures looks { LooksOn (next_in result) cache.old cache.new }
     ensures comes { IfOk result (ComesTo views.now cache.old fetch) }
 {
     match fetch.advance(views, cache)? {

@@ -1,12 +1,12 @@
 -- Laws of a cache in which blocks are looked up and kept.
 use Rattle.std.proofs.Common.{◌≡◌, ℕ, zero, suc, ◌+◌, ◌-◌, ◌≤◌, ◌⊎◌, inl, inr, Bool, true, false, cond, List, [], ◌∷◌}
-use Rattle.std.proofs.Common.{◌++◌, take, Option, None, Some, refl, sym, ap, subst, ◌∙◌, arith, length-append}
-use Rattle.std.specs.Prelude.{◌≢◌, ◌==◌, fold, is_some}
+use Rattle.std.proofs.Common.{◌++◌, length, take, Option, None, Some, refl, sym, ap, subst, ◌∙◌, arith, length-append}
+use Rattle.std.specs.Prelude.{◌≢◌, ◌==◌, IsSomeAnd, OnErr, Result, Ok, Err, fold, is_some}
 use Rattle.std.specs.List.{AllByRecursion}
 use Rattle.std.specs.Map.{lookup, lookup_entry, remove_entry}
 use Rattle.std.specs.Option.{option_map_or}
 use Rattle.std.proofs.lemmas.List.Sums.{fold-append}
-use Rattle.std.proofs.lemmas.List.Elements.{All-contains, All-from_recursion}
+use Rattle.std.proofs.lemmas.List.Elements.{All-append, All-cons, All-contains, All-from_recursion, All-nil, All-weaker}
 use Rattle.jv_model.specs.Counts.{counted}
 use Rattle.jv_model.specs.declared.slice.BlockId.{BlockId}
 use Rattle.jv_model.specs.declared.slice.Rec.{Rec}
@@ -21,9 +21,16 @@ use Rattle.jv_contents.specs.Blocks.{Blocks, Grows}
 use Rattle.jv_handles.specs.declared.views.View.{View}
 use Rattle.jv_handles.specs.Views.{SeenViews, view_at}
 use Rattle.jv_reading.specs.Parts.{IsNamed}
-use Rattle.jv_fetching.specs.Calls.{AreSizedBy, CachedOf, HasCached, IsCacheOf, IsMissing, IsOnly, Keeps, Kept, Lost}
-use Rattle.jv_fetching.specs.Calls.{LooksUp}
-use Rattle.jv_fetching.specs.Calls.{LooksUpFew, cache_key}
+use Rattle.jv_fetching.specs.declared.need.Need.{Need}
+use Rattle.jv_fetching.specs.declared.need.Need.TheVariants.{Look, Block, Nothing}
+use Rattle.jv_fetching.specs.Calls.{AreSizedBy, CachedOf, FindsAll, HasBlock, HasCached, IsCacheOf, IsMissing, IsOnly, Keeps}
+use Rattle.jv_fetching.specs.Calls.{Kept, LooksFor, LooksLast, Lost, cache_key}
+use Rattle.jv_fetching.specs.Inside.{FindsFew}
+
+-- what holds anyway holds on an error
+pub on_err : {A E : Type 0} (result : Result A E) (P : Type 0) → P → OnErr result P
+on_err (Ok value) P p = tt
+on_err (Err fault) P p = p
 
 -- ---- what is found under a key
 
@@ -78,6 +85,11 @@ found-noted cache key q = go (is_some (found_in cache key))
 abbrev note : Cached → BlockId → Cached
 note cache b = noted_in cache (cache_key b)
 
+-- any blocks were looked up one after the other
+pub record LooksUp (before after : Cached) : Type 0 where
+  pub blocks : List BlockId
+  pub is : after ≡ fold note before blocks
+
 found-all : (cache : Cached) (bs : List BlockId) (q : BlockKey) → found_in (fold note cache bs) q ≡ found_in cache q
 found-all cache [] q = refl
 found-all cache (b ∷ bs) q = found-all (note cache b) bs q ∙ found-noted cache (cache_key b) q
@@ -85,11 +97,7 @@ found-all cache (b ∷ bs) q = found-all (note cache b) bs q ∙ found-noted cac
 pub looks_keep : (before after : Cached) → LooksUp before after → (q : BlockKey) → found_in after q ≡ found_in before q
 looks_keep before after looks q = ap (λ (cache : Cached). found_in cache q) looks.is ∙ found-all before looks.blocks q
 
-abbrev pub looks_none : (cache : Cached) → LooksUp cache cache
-looks_none cache = record { blocks = []; is = refl }
-
-abbrev pub looks_one : (before after : Cached) (b : BlockId) → after ≡ noted_in before (cache_key b)
-    → LooksUp before after
+abbrev pub looks_one : (before after : Cached) (b : BlockId) → after ≡ noted_in before (cache_key b) → LooksUp before after
 looks_one before after b e = record { blocks = b ∷ []; is = e }
 
 abbrev pub looks_then : (before middle after : Cached) → LooksUp before middle → LooksUp middle after
@@ -100,25 +108,76 @@ looks_then before middle after first second = record {
       ∙ sym (fold-append note before first.blocks second.blocks);
 }
 
--- as many as before and after, or more
-pub few_none : (n : ℕ) (cache : Cached) → LooksUpFew n cache cache
-few_none n cache = record { looks = looks_none cache; few = omega arith }
+-- ---- blocks that are there were looked up
 
-pub few_then : (k m n : ℕ) (before middle after : Cached) → k + m ≤ n → LooksUpFew k before middle
-    → LooksUpFew m middle after → LooksUpFew n before after
+abbrev pub finds_looks : (before after : Cached) → FindsAll before after → LooksUp before after
+finds_looks before after finds = record { blocks = finds.blocks; is = finds.is }
+
+abbrev pub finds_none : (cache : Cached) → FindsAll cache cache
+finds_none cache = record { blocks = []; found = All-nil (HasBlock cache); is = refl }
+
+pub has-earlier : (before middle : Cached) → LooksUp before middle → (b : BlockId) → HasBlock middle b → HasBlock before b
+has-earlier before middle looks b has =
+    subst (λ o. IsSomeAnd o (λ bytes. length bytes ≡ b.size)) (looks_keep before middle looks (cache_key b)) has
+
+abbrev pub finds_then : (before middle after : Cached) → FindsAll before middle → FindsAll middle after
+    → FindsAll before after
+finds_then before middle after first second =
+    let looks = finds_looks before middle first in
+    record {
+      blocks = first.blocks ++ second.blocks;
+      found = All-append (HasBlock before) first.blocks second.blocks first.found
+          (All-weaker (HasBlock middle) (HasBlock before) (has-earlier before middle looks) second.blocks second.found);
+      is = (looks_then before middle after looks (finds_looks middle after second)).is;
+    }
+
+abbrev pub finds_one : (before after : Cached) (b : BlockId) → HasBlock before b → after ≡ noted_in before (cache_key b)
+    → FindsAll before after
+finds_one before after b has e = record { blocks = b ∷ []; found = All-cons (HasBlock before) b [] has (All-nil (HasBlock before)); is = e }
+
+-- as many as before and after, or more
+pub few_none : (n : ℕ) (cache : Cached) → FindsFew n cache cache
+few_none n cache = record { finds = finds_none cache; few = omega arith }
+
+pub few_then : (k m n : ℕ) (before middle after : Cached) → k + m ≤ n → FindsFew k before middle
+    → FindsFew m middle after → FindsFew n before after
 few_then k m n before middle after h first second = record {
-  looks = looks_then before middle after first.looks second.looks;
-  few = omega (arith, h, first.few, second.few, length-append first.looks.blocks second.looks.blocks);
+  finds = finds_then before middle after first.finds second.finds;
+  few = omega (arith, h, first.few, second.few, length-append first.finds.blocks second.finds.blocks);
 }
 
-pub few_one : (before after : Cached) (b : BlockId) → after ≡ noted_in before (cache_key b) → LooksUpFew 1 before after
-few_one before after b e = record { looks = looks_one before after b e; few = omega arith }
+-- ---- with what is needed next
+
+pub for_looks : (need : Need) (before after : Cached) → LooksFor need before after → LooksUp before after
+for_looks (Look window) before after looks =
+    subst (LooksUp before) (sym looks.last) (finds_looks before looks.middle looks.finds)
+for_looks (Block b) before after looks =
+    looks_then before looks.middle after (finds_looks before looks.middle looks.finds)
+    (looks_one looks.middle after b looks.last.0)
+for_looks Nothing before after looks =
+    subst (LooksUp before) (sym looks.last) (finds_looks before looks.middle looks.finds)
 
 -- a block that wasn't there after look-ups wasn't there before them
 pub missing_before : (before after : Cached) (b : BlockId) → LooksUp before after → IsMissing after b
     → IsMissing before b
 missing_before before after b looks missing =
     λ bytes found. missing bytes (looks_keep before after looks (cache_key b) ∙ found)
+
+-- blocks that are there were looked up first
+pub last_after : (need : Need) (before start middle after : Cached) → FindsAll before start
+    → LooksLast need start middle after → LooksLast need before middle after
+last_after (Look window) before start middle after finds last = last
+last_after (Block b) before start middle after finds last =
+    (last.0, missing_before before start b (finds_looks before start finds) last.1)
+last_after Nothing before start middle after finds last = last
+
+pub for_after : (need : Need) (before start after : Cached) → FindsAll before start → LooksFor need start after
+    → LooksFor need before after
+for_after need before start after finds looks = record {
+  middle = looks.middle;
+  finds = finds_then before start looks.middle finds looks.finds;
+  last = last_after need before start looks.middle after finds looks.last;
+}
 
 pub cached_looks : (blocks : Blocks) (list : List Rec) (block : ℕ) (before after : Cached) → LooksUp before after
     → CachedOf blocks list block before → CachedOf blocks list block after

@@ -27,7 +27,7 @@ use Rattle.jv_fetching.specs.Going.{HasBegun, HasRead, IsFetching, IsShown}
 use Rattle.jv_fetching.specs.Calls.{Wants, first_seen, first_unseen}
 use Rattle.jv_fetching.specs.Inside.{IsWithin}
 use Rattle.jv_fetching.specs.Laws.{FetchesGoOn, IsOfView}
-use Rattle.jv_fetching.proofs.CacheLaws.{cache_of-has, has_keeps, has_looks, looks_keep, only_sized}
+use Rattle.jv_fetching.proofs.CacheLaws.{cache_of-has, for_looks, has_keeps, has_looks, looks_keep, only_sized}
 
 -- ---- the parts of a range
 
@@ -169,8 +169,9 @@ fetches_go_on = record {
   come = come;
   seen = λ blocks views all f window view none is. seen views window view none blocks all f is;
   can_seen = λ views f window view none can. begun_seen views window view none f.block f.begun f.parts can;
-  found = looks_keep;
-  looked = has_looks;
+  found = λ need before after looks. looks_keep before after (for_looks need before after looks);
+  looked = λ blocks views block need before after looks.
+      has_looks blocks views block before after (for_looks need before after looks);
   kept = has_keeps;
   cached = cache_of-has;
   only = only_sized;

@@ -1,9 +1,9 @@
 -- Laws of a reading that goes on: it begins with a part, fills in its blocks, and ends with it.
 use Rattle.std.proofs.Common.{◌≡◌, ℕ, ◌+◌, ◌-◌, ◌<◌, ◌≤◌, Bool, true, false, List, [], ◌∷◌, ◌++◌, length, drop, Option}
-use Rattle.std.proofs.Common.{None, Some, inl, inr, refl, sym, ap, subst, ◌∙◌, arith, length-drop}
+use Rattle.std.proofs.Common.{None, Some, inl, inr, refl, sym, ap, subst, ◌∙◌, arith, length-append, length-drop}
 use Rattle.std.specs.Prelude.{◌⊎◌, All, IfSome, IsSomeAnd, is_some, slice_get}
 use Rattle.std.proofs.lemmas.Bool.{le-leb, lt-leb}
-use Rattle.std.proofs.lemmas.List.{drop-drop}
+use Rattle.std.proofs.lemmas.List.{append_assoc, drop-drop}
 use Rattle.std.proofs.lemmas.List.Elements.{All-drop}
 use Rattle.jv_model.specs.declared.slice.BlockId.{BlockId}
 use Rattle.jv_model.specs.declared.slice.Rec.{Rec}
@@ -24,12 +24,13 @@ use Rattle.jv_fetching.specs.Fetching.{Fetching, block_needed, fetch_left, next_
 use Rattle.jv_fetching.specs.Shows.{shown_len}
 use Rattle.jv_fetching.specs.Going.{CanFetch, HasBegun, HasRead, IsBegunBy, IsFetching, IsShown}
 use Rattle.jv_model.proofs.TestLaws.{some_same}
-use Rattle.jv_fetching.specs.Calls.{Asks, CachedOf, HasCached, IsMissing, LooksUp, LooksUpFew, cache_key, first_seen}
-use Rattle.jv_fetching.specs.Calls.{first_unseen}
+use Rattle.jv_fetching.specs.Calls.{Asks, CachedOf, FindsAll, HasBlock, HasCached, IsMissing, cache_key}
+use Rattle.jv_fetching.specs.Calls.{first_seen, first_unseen}
 use Rattle.jv_fetching.specs.Inside.{BeginsPart, HadBegun, BeginsNow, IsOver, LooksFirst, Ends, EndsPart, Fills, FillsBegun}
 use Rattle.jv_fetching.specs.Inside.{FillsFrom, FillsOne, FirstBegins, Goes, GoesOn, GoesOnAny, GoesTo, HasFilled}
 use Rattle.jv_fetching.specs.Inside.{IsFurther, Misses, Stops, Waits, Ended, ended, parts_after, waiting}
-use Rattle.jv_fetching.proofs.CacheLaws.{few_none, few_one, few_then, has_looks, looks_keep, looks_one, looks_then}
+use Rattle.jv_fetching.proofs.CacheLaws.{few_none, few_then, finds_looks, finds_none, finds_one, finds_then, has_looks}
+use Rattle.jv_fetching.proofs.CacheLaws.{last_after, looks_keep, missing_before}
 use Rattle.jv_fetching.proofs.CacheLaws.{missing_before}
 
 -- ---- blocks of a part
@@ -61,7 +62,8 @@ pub fills_none : (cache : Cached) (part : Part) → Fills cache cache part part
 fills_none cache part =
     record {
       further = further_none part;
-      looks = few_none (length part.left - length part.left) cache;
+      finds = finds_none cache;
+      each = refl;
       reads = λ blocks cached reads. reads;
     }
 
@@ -69,27 +71,35 @@ next_less : (bs : List BlockId) (b : BlockId) → slice_get bs 0 ≡ Some b → 
 next_less [] b h = let never : ⊥ = cc in absurd never
 next_less (x ∷ bs) b h = omega arith
 
+next_is : (bs : List BlockId) (b : BlockId) → slice_get bs 0 ≡ Some b → b ∷ drop 1 bs ≡ bs
+next_is [] b h = let never : ⊥ = cc in absurd never
+next_is (x ∷ bs) b h = ap (λ (first : BlockId). first ∷ bs) (sym (some_same x b h))
+
 further_fewer : (before after : Part) → IsFurther before after → length after.left ≤ length before.left
 further_fewer before after further =
     omega (arith, ap (length {A = BlockId}) further.left, length-drop further.count before.left)
 
 module _ (cache middle later : Cached) (before now : Part) (b : BlockId) (so_far : Fills cache middle before now)
     (noted : later ≡ noted_in middle (cache_key b)) (next : slice_get now.left 0 ≡ Some b) where
+  -- the cache has the block that is filled in
+  has_filled : (after : Part) → HasFilled middle b now after → HasBlock middle b
+  has_filled after filled =
+      subst (λ o. IsSomeAnd o (λ bytes. length bytes ≡ b.size)) (sym filled.found) filled.long
+
   -- one block more is filled in
   pub fills_more : (after : Part) → IsNamed now.list now.block b → HasFilled middle b now after
       → Fills cache later before after
   fills_more after named filled = record {
     further = further_then before now after so_far.further (further_one filled.bytes now after filled.fills);
-    looks =
-        let less = next_less now.left b next in
-        let left = ap (length {A = BlockId}) filled.fills.left in
-        let fewer = further_fewer before now so_far.further in
-        few_then (length before.left - length now.left) 1 (length before.left - length after.left) cache middle later
-        (omega (arith, less, left, fewer))
-        so_far.looks (few_one middle later b noted);
+    finds = finds_then cache middle later so_far.finds (finds_one middle later b (has_filled after filled) noted);
+    each =
+        append_assoc so_far.finds.blocks (b ∷ []) after.left
+        ∙ ap (λ (left : List BlockId). so_far.finds.blocks ++ (b ∷ left)) filled.fills.left
+        ∙ ap (λ (left : List BlockId). so_far.finds.blocks ++ left) (next_is now.left b next)
+        ∙ so_far.each;
     reads = λ blocks cached reads.
         let found : found_in cache (cache_key b) ≡ Some filled.bytes =
-        sym (looks_keep cache middle so_far.looks.looks (cache_key b)) ∙ filled.found in
+        sym (looks_keep cache middle (finds_looks cache middle so_far.finds) (cache_key b)) ∙ filled.found in
         let by_list : IsNamed before.list now.block b =
         subst (λ (l : List Rec). IsNamed l now.block b) so_far.further.part.list_is named in
         let named' : IsNamed before.list before.block b =
@@ -106,7 +116,7 @@ module _ (cache middle later : Cached) (before now : Part) (b : BlockId) (so_far
     fills = so_far;
     next = next;
     noted = noted;
-    missing = missing_before cache middle b so_far.looks.looks missing;
+    missing = missing_before cache middle b (finds_looks cache middle so_far.finds) missing;
   })
 
 -- ---- steps of a reading
@@ -124,7 +134,7 @@ goes_then views c d e f g h first second = record {
   reads = λ blocks all has is.
       let has' : HasCached blocks views g.block d =
       subst (λ (n : ℕ). HasCached blocks views n d) (sym first.block)
-      (has_looks blocks views f.block c d first.looks.looks has) in
+      (has_looks blocks views f.block c d (finds_looks c d first.looks.finds) has) in
       second.reads blocks all has' (first.reads blocks all has is);
 }
 
@@ -226,9 +236,9 @@ module _ (views : SeenViews) (cache : Cached) (block : ℕ) (read : List Read) w
     begins = λ none seen. (let never : ⊥ = cc in absurd never);
     looks =
         let rest = weight (drop 1 parts) in
-        let same : length begun.part.left - length part.left
-        ≡ length begun.part.left + rest - (length part.left + rest) = omega arith in
-        subst (λ (n : ℕ). LooksUpFew n cache later) same fills.looks;
+        let all : length fills.finds.blocks + length part.left ≡ length begun.part.left =
+        sym (length-append fills.finds.blocks part.left) ∙ ap (length {A = BlockId}) fills.each in
+        record { finds = fills.finds; few = omega (arith, all) };
     reads = λ blocks all has is. record {
       some = is.some;
       few = is.few;
@@ -358,9 +368,7 @@ goes_to_then views c d e f g h result first second = record {
   where
     ends_before : (r : Option Need) → Ends d second.middle e r → Ends c second.middle e r
     ends_before None h = h
-    ends_before (Some (Look window)) h = h
-    ends_before (Some (Block b)) (noted, missing) = (noted, missing_before c d b first.looks.looks missing)
-    ends_before (Some Nothing) h = h
+    ends_before (Some need) h = last_after need c d second.middle e first.looks.finds h
 
 -- from where it had begun, or begins now
 pub goes_on : (views : SeenViews) (cache later : Cached) (f after : Fetching) (begun : Begun) (result : Option Need)
@@ -397,21 +405,22 @@ goes_twice views c d e f g h result first second =
     (subst (λ (cache : Cached). Goes views c cache f g) (sym first.ends) first.goes) second
 
 module _ (views : SeenViews) (cache later : Cached) (f after : Fetching) where
-  pub looks_to : (result : Option Need) → GoesTo views cache later f after result → LooksUp cache later
-  looks_to None to = subst (LooksUp cache) (sym to.ends) to.goes.looks.looks
-  looks_to (Some (Look window)) to = subst (LooksUp cache) (sym to.ends) to.goes.looks.looks
-  looks_to (Some (Block b)) to =
-      looks_then cache to.middle later to.goes.looks.looks (looks_one to.middle later b to.ends.0)
-  looks_to (Some Nothing) to = subst (LooksUp cache) (sym to.ends) to.goes.looks.looks
+  -- where it was done with a part, the cache had all of its blocks
+  pub finds_to : GoesTo views cache later f after None → FindsAll cache later
+  finds_to to = subst (FindsAll cache) (sym to.ends) to.goes.looks.finds
 
   pub asks_to : (need : Need) → GoesTo views cache later f after (Some need)
       → Asks need (fetch_left f - fetch_left after) cache later
-  asks_to (Look window) to = subst (LooksUpFew (fetch_left f - fetch_left after) cache) (sym to.ends) to.goes.looks
-  asks_to (Block b) to = (to.middle, to.goes.looks, to.ends.0, to.ends.1)
-  asks_to Nothing to = subst (LooksUpFew (fetch_left f - fetch_left after) cache) (sym to.ends) to.goes.looks
+  asks_to need to = record {
+    looks = record { middle = to.middle; finds = to.goes.looks.finds; last = to.ends };
+    few = to.goes.looks.few;
+  }
 
   pub asks_nothing : GoesTo views cache later f after None → Asks Nothing (fetch_left f - fetch_left after) cache later
-  asks_nothing to = subst (LooksUpFew (fetch_left f - fetch_left after) cache) (sym to.ends) to.goes.looks
+  asks_nothing to = record {
+    looks = record { middle = to.middle; finds = to.goes.looks.finds; last = to.ends };
+    few = to.goes.looks.few;
+  }
 
 -- after two parts nothing is left
 pub nothing_left : (first second third : List Asked) → length first ≤ 2 → length second ≤ length first - 1

@@ -1,5 +1,6 @@
 -- What the calls of a reading do.
-use Rattle.std.specs.Prelude.{◌≡◌, ◌≢◌, ℕ, ◌≤◌, List, [], ◌∷◌, fold, length, is_some, true, Option, None, Some}
+use Rattle.std.specs.Prelude.{◌≡◌, ◌≢◌, ℕ, ◌≤◌, All, IsSomeAnd, List, [], ◌∷◌, fold, length, is_some, true, Option}
+use Rattle.std.specs.Prelude.{None, Some}
 use Rattle.std.specs.List.{AllByRecursion}
 use Rattle.jv_model.specs.declared.slice.BlockId.{BlockId}
 use Rattle.jv_model.specs.declared.slice.Rec.{Rec}
@@ -34,15 +35,15 @@ Wants views f Nothing = (f.begun ≡ None) × (f.parts ≡ [])
 abbrev pub cache_key : BlockId → BlockKey
 cache_key b = record { id = b.id; index = b.index }
 
--- blocks were looked up one after the other
-pub record LooksUp (before after : Cached) : Type 0 where
-  pub blocks : List BlockId
-  pub is : after ≡ fold (λ cache b. noted_in cache (cache_key b)) before blocks
+-- the cache has a block, with its length
+abbrev pub HasBlock : Cached → BlockId → Type 0
+HasBlock cache b = IsSomeAnd (found_in cache (cache_key b)) (λ bytes. length bytes ≡ b.size)
 
--- at most this many were
-pub record LooksUpFew (most : ℕ) (before after : Cached) : Type 0 where
-  pub looks : LooksUp before after
-  pub few : length looks.blocks ≤ most
+-- blocks that the cache has were looked up one after the other, each a hit
+pub record FindsAll (before after : Cached) : Type 0 where
+  pub blocks : List BlockId
+  pub found : All (HasBlock before) blocks
+  pub is : after ≡ fold (λ cache b. noted_in cache (cache_key b)) before blocks
 
 -- there are no bytes, or as many as another block has
 abbrev pub LacksBlock : ℕ → Option (List ℕ) → Type 0
@@ -52,14 +53,23 @@ LacksBlock size found = (bytes : List ℕ) → found ≡ Some bytes → length b
 abbrev pub IsMissing : Cached → BlockId → Type 0
 IsMissing cache b = LacksBlock b.size (found_in cache (cache_key b))
 
--- before a need at most this many blocks were looked up; a block that is needed was looked up last,
--- and isn't there
-abbrev pub Asks : Need → ℕ → Cached → Cached → Type 0
-Asks (Look window) most before after = LooksUpFew most before after
-Asks (Block b) most before after =
-    (middle : Cached) × LooksUpFew most before middle × (after ≡ noted_in middle (cache_key b))
-    × IsMissing before b
-Asks Nothing most before after = LooksUpFew most before after
+-- then the block that is needed, if it is one, was looked up, which isn't there
+abbrev pub LooksLast : Need → Cached → Cached → Cached → Type 0
+LooksLast (Look window) before middle after = after ≡ middle
+LooksLast (Block b) before middle after =
+    (after ≡ noted_in middle (cache_key b)) × IsMissing before b
+LooksLast Nothing before middle after = after ≡ middle
+
+-- the look-ups before a need
+pub record LooksFor (need : Need) (before after : Cached) : Type 0 where
+  pub middle : Cached
+  pub finds : FindsAll before middle
+  pub last : LooksLast need before middle after
+
+-- of which at most this many found their block
+pub record Asks (need : Need) (most : ℕ) (before after : Cached) : Type 0 where
+  pub looks : LooksFor need before after
+  pub few : length looks.finds.blocks ≤ most
 
 -- a block that came is kept, or not where memory is out
 pub data Keeps (b : BlockId) (bytes : List ℕ) (before after : Cached) : Type 0 where

@@ -18,14 +18,14 @@ use Rattle.jv_fetching.specs.declared.begun.Start.{Start}
 use Rattle.jv_fetching.specs.declared.begun.Start.TheVariants.{Over as StartOver, Look as StartLook}
 use Rattle.jv_fetching.specs.declared.begun.Start.TheVariants.{Begun as StartBegun}
 use Rattle.jv_fetching.specs.declared.need.Need.{Need}
-use Rattle.jv_fetching.specs.declared.need.Need.TheVariants.{Look, Block, Nothing}
+use Rattle.jv_fetching.specs.declared.need.Need.TheVariants.{Block}
 use Rattle.jv_fetching.specs.declared.spans.Span.{Span}
 use Rattle.jv_fetching.specs.declared.spans.Spans.{Spans}
 use Rattle.jv_fetching.specs.declared.spans.Spans.TheVariants.{Over, Last, Two}
 use Rattle.jv_fetching.specs.declared.fetch.Fetch.TheInside.{Inside}
 use Rattle.jv_fetching.specs.Fetching.{Fetching, fetch_left}
 use Rattle.jv_fetching.specs.Going.{CanFetch, IsBegunBy, IsFetching}
-use Rattle.jv_fetching.specs.Calls.{CachedOf, HasCached, IsMissing, LooksUpFew, Wants, cache_key, first_seen}
+use Rattle.jv_fetching.specs.Calls.{CachedOf, FindsAll, HasCached, IsMissing, LooksLast, Wants, cache_key, first_seen}
 use Rattle.jv_fetching.specs.Calls.{first_unseen}
 
 -- ---- what is kept
@@ -117,12 +117,14 @@ pub record FillsOne (bytes : List ℕ) (before after : Part) : Type 0 where
 pub record HasFilled (cache : Cached) (b : BlockId) (before after : Part) : Type 0 where
   pub bytes : List ℕ
   pub found : found_in cache (cache_key b) ≡ Some bytes
+  pub long : length bytes ≡ b.size
   pub fills : FillsOne bytes before after
 
--- blocks that the cache has are filled in, each looked up once
+-- blocks that the cache has are filled in, each looked up once and in its turn
 pub record Fills (cache later : Cached) (before after : Part) : Type 0 where
   pub further : IsFurther before after
-  pub looks : LooksUpFew (length before.left - length after.left) cache later
+  pub finds : FindsAll cache later
+  pub each : finds.blocks ++ after.left ≡ before.left
   pub reads : (blocks : Blocks) → CachedOf blocks before.list before.block cache
       → ReadsBlocks blocks before
       → ReadsBlocks blocks after
@@ -209,6 +211,11 @@ pub record EndsPart (before after : Fetching) : Type 0 where
       (begun.part.to - begun.part.from)
   pub is : after ≡ ended begun.entry begun.is_full bytes before
 
+-- at most this many blocks that the cache has were looked up
+pub record FindsFew (most : ℕ) (before after : Cached) : Type 0 where
+  pub finds : FindsAll before after
+  pub few : length finds.blocks ≤ most
+
 -- a reading goes on by views and cache
 pub record Goes (views : SeenViews) (cache later : Cached) (before after : Fetching) : Type 0 where
   pub block : after.block ≡ before.block
@@ -216,7 +223,7 @@ pub record Goes (views : SeenViews) (cache later : Cached) (before after : Fetch
   pub falls : fetch_left after ≤ fetch_left before
   pub begins : before.begun ≡ None → first_seen views before.parts
       → fetch_left after < fetch_left before
-  pub looks : LooksUpFew (fetch_left before - fetch_left after) cache later
+  pub looks : FindsFew (fetch_left before - fetch_left after) cache later
   pub reads : (blocks : Blocks) (all : List Asked) → HasCached blocks views before.block cache
       → IsFetching blocks views all before
       → IsFetching blocks views all after
@@ -224,10 +231,7 @@ pub record Goes (views : SeenViews) (cache later : Cached) (before after : Fetch
 -- a block that is needed was looked up last, and isn't there
 abbrev pub Ends : Cached → Cached → Cached → Option Need → Type 0
 Ends cache middle later None = later ≡ middle
-Ends cache middle later (Some (Look window)) = later ≡ middle
-Ends cache middle later (Some (Block b)) =
-    (later ≡ noted_in middle (cache_key b)) × IsMissing cache b
-Ends cache middle later (Some Nothing) = later ≡ middle
+Ends cache middle later (Some need) = LooksLast need cache middle later
 
 pub record GoesTo (views : SeenViews) (cache later : Cached) (before after : Fetching)
     (result : Option Need) : Type 0

@@ -15,10 +15,11 @@ use Rattle.jv_handles.specs.declared.views.View.{View}
 use Rattle.jv_handles.specs.Held.{IsHandle}
 use Rattle.jv_handles.specs.Views.{SeenViews, view_at, with_view}
 use Rattle.jv_reading.specs.Parts.{IsNamed}
+use Rattle.jv_fetching.specs.declared.need.Need.{Need}
 use Rattle.jv_fetching.specs.declared.need.Need.TheVariants.{Look}
 use Rattle.jv_fetching.specs.Fetching.{Fetching, begins, block_needed, fetch_left, fetched_of}
 use Rattle.jv_fetching.specs.Going.{CanFetch, IsFetching}
-use Rattle.jv_fetching.specs.Calls.{AreSizedBy, HasCached, IsCacheOf, IsOnly, Keeps, LooksUp, Wants, first_seen}
+use Rattle.jv_fetching.specs.Calls.{AreSizedBy, HasCached, IsCacheOf, IsOnly, Keeps, LooksFor, Wants, first_seen}
 use Rattle.jv_fetching.specs.Shows.{IsReadBy, window_needed}
 
 -- A reading begins well, with this many requests at most, and stays so where blocks come and where
@@ -37,10 +38,10 @@ pub record FetchesGoOn : Type 0 where
       → IsFetching blocks (with_view window view views) all f
   pub can_seen : (views : SeenViews) (f : Fetching) (window : ℕ) (view : View)
       → view_at views window ≡ None → CanFetch views f → CanFetch (with_view window view views) f
-  pub found : (before after : Cached) → LooksUp before after → (key : BlockKey)
+  pub found : (need : Need) (before after : Cached) → LooksFor need before after → (key : BlockKey)
       → found_in after key ≡ found_in before key
-  pub looked : (blocks : Blocks) (views : SeenViews) (block : ℕ) (before after : Cached)
-      → LooksUp before after
+  pub looked : (blocks : Blocks) (views : SeenViews) (block : ℕ) (need : Need)
+      (before after : Cached) → LooksFor need before after
       → HasCached blocks views block before → HasCached blocks views block after
   pub kept : (blocks : Blocks) (views : SeenViews) (block : ℕ) (b : BlockId) (bytes : List ℕ)
       (before after : Cached)

@@ -123,6 +123,7 @@ fn fill_fitting(part: &mut WindowRead, block: BlockId, bytes: &Bytes) -> bool
     requires { slice_get part.old.left 0 ≡ Some block }
     ensures hit { result ≡ true → FillsOne bytes.now part.old part.new }
     ensures miss { result ≡ false → part.new ≡ part.old }
+    ensures long { result ≡ true → length bytes.now ≡ block.size }
     ensures other { result ≡ false → length bytes.now ≢ block.size }
 {
     if bytes.len() != block.size as usize {

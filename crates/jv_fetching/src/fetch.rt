@@ -1,5 +1,5 @@
 //! A reading of a range of a file, window by window.
-ghost use Rattle.std.specs.Prelude.{◌≡◌, ◌≤◌, ◌++◌, IfOk, IsOk, IsSome, IsSomeAnd, length};
+ghost use Rattle.std.specs.Prelude.{◌≡◌, ◌≤◌, ◌++◌, IfOk, IsOk, IsSome, IsSomeAnd, OnErr, length};
 ghost use Rattle.jv_fetching.specs.Calls.{Keeps};
 ghost use Rattle.jv_fetching.specs.Fetching.{bytes_read, entry_at};
 ghost use Rattle.jv_fetching.specs.Inside.{parts_after, parts_of, reads_of};
@@ -54,7 +54,7 @@ impl Fetch {
     ghost use Rattle.jv_handles.specs.Views.{SeenViews};
     ghost use Rattle.jv_fetching.specs.Fetching.{begins, block_needed, fetch_left, fetched_of, first_window};
     ghost use Rattle.jv_fetching.specs.Going.{CanFetch, IsFetching};
-    ghost use Rattle.jv_fetching.specs.Calls.{Asks, HasCached, LooksUp, Wants, first_seen};
+    ghost use Rattle.jv_fetching.specs.Calls.{Asks, FindsAll, HasCached, Wants, first_seen};
     ghost use Rattle.jv_fetching.specs.Inside.{BeginsPart, EndsPart, FillsBegun, FillsFrom, FitsNext, GoesOnAny, GoesTo, Stops, ended};
 
     /// The reading of `len` bytes from `offset` on, 1 to [`jv_model::WINDOW`] of them, over a volume whose blocks have `block`
@@ -88,7 +88,7 @@ impl Fetch {
         ensures falls { OnOk result (fetch_left self.new ≤ fetch_left self.old) }
         ensures begins_part { self.old.begun ≡ None → first_seen views.now self.old.parts
             → OnOk result (fetch_left self.new < fetch_left self.old) }
-        ensures cache { LooksUp cache.old cache.new }
+        ensures cache { OnErr result (FindsAll cache.old cache.new) }
         ensures asks { IfOk result (λ need. let most = fetch_left self.old - fetch_left self.new in
             Asks need most cache.old cache.new) }
         ensures reads { (blocks : Blocks) (all : List Asked)
@@ -115,7 +115,7 @@ impl Fetch {
         ensures block { self.new.block ≡ self.old.block }
         ensures few { length self.old.parts ≤ 2 }
         ensures stops { IfOk result (Stops views.now self.old self.new) }
-        ensures cache { LooksUp cache.old cache.new }
+        ensures cache { OnErr result (cache.new ≡ cache.old) }
         ensures goes { IfOk result (GoesTo views.now cache.old cache.new self.old self.new) }
     {
         if let Some(window) = self.begin_part(views)? {

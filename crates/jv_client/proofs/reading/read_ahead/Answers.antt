@@ -1,5 +1,5 @@
 -- What is needed isn't in the cache, and what was read is what the views show.
-use Rattle.jv_client.proofs.ReadingLaws.{asks-lacks, reads-all}
+use Rattle.jv_client.proofs.ReadingLaws.{asks-lacks, asks-none, reads-all}
 use Rattle.jv_client.proofs.reading.read_ahead.Goals as goal
 
 pub returns-in_ok-first-in-Nothing-clause-comes : goal.returns-in_ok-first-in-Nothing-clause-comes
@@ -18,3 +18,10 @@ returns-in_default-clause-comes c =
       c.in_default.not-Nothing,
       asks-lacks c.in_ok-need.need _ c.args.cache.now c.advance.new.cache went.asks,
     )
+
+pub returns-in_ok-first-in-Nothing-clause-looks : goal.returns-in_ok-first-in-Nothing-clause-looks
+returns-in_ok-first-in-Nothing-clause-looks c =
+    asks-none c.in_ok-need.need _ c.args.cache.now c.advance.new.cache c.in-Nothing.is c.in_ok-need.ensures.asks
+
+pub returns-in_default-clause-looks : goal.returns-in_default-clause-looks
+returns-in_default-clause-looks c = c.in_ok-need.ensures.asks.looks

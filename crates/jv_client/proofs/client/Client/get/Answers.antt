@@ -33,8 +33,8 @@ returns-in-Ok g c now entry keeper carrier h ahead ready =
     (the_view c.self.inside) c.self.view_is c.read_block.ensures.low _ c.in-Ok-Some.bytes c.in-Ok-Some.field-0
     c.in-Ok-Some.field-0-is c.in-Ok-Some.ensures.read
     c.take_fetch-fetch.result c.fill.new.fetch c.take_fetch-fetch.ensures.taken c.fill.new.cache c.fill.ensures
-    c.take_fetch-fetch.new.doing c.take_fetch-fetch.ensures.left c.ahead.new.self c.ahead.ensures.looks
-    c.in-Ok.ahead c.go_on_reading.new.self c.go_on_reading.result c.in-Ok.ensures.comes
+    c.take_fetch-fetch.new.doing c.take_fetch-fetch.ensures.left c.ahead.new.self
+    c.in-Ok.ahead c.go_on_reading.new.self c.go_on_reading.result c.in-Ok.ensures.looks c.in-Ok.ensures.comes
     c.go_on_reading.ensures
 
 pub returns-in-Err-ahead : goal.returns-in-Err-ahead
@@ -45,5 +45,5 @@ returns-in-Err-ahead g c now entry keeper carrier h ahead ready =
     (the_view c.self.inside) c.self.view_is c.read_block.ensures.low _ c.in-Ok-Some.bytes c.in-Ok-Some.field-0
     c.in-Ok-Some.field-0-is c.in-Ok-Some.ensures.read
     c.take_fetch-fetch.result c.fill.new.fetch c.take_fetch-fetch.ensures.taken c.fill.new.cache c.fill.ensures
-    c.take_fetch-fetch.new.doing c.take_fetch-fetch.ensures.left c.ahead.new.self c.ahead.ensures.looks
-    c.fail-in-Err-ahead.new.self c.fail-in-Err-ahead.result c.fail-in-Err-ahead.ensures
+    c.take_fetch-fetch.new.doing c.take_fetch-fetch.ensures.left c.ahead.new.self
+    c.fail-in-Err-ahead.new.self c.fail-in-Err-ahead.result c.in-Err-ahead.ensures.looks c.fail-in-Err-ahead.ensures

@@ -1,8 +1,9 @@
-use Rattle.std.proofs.Common.{Option, Some, None, subst}
+use Rattle.std.proofs.Common.{Option, Some, None, subst, sym}
 use Rattle.jv_fetching.specs.declared.need.Need.{Need}
 use Rattle.jv_fetching.specs.Inside.{GoesTo, Stops}
-use Rattle.jv_fetching.proofs.CacheLaws.{looks_then}
-use Rattle.jv_fetching.proofs.GoingLaws.{asks_nothing, asks_to, goes_twice, nothing_left}
+use Rattle.jv_fetching.specs.Calls.{FindsAll}
+use Rattle.jv_fetching.proofs.CacheLaws.{finds_none, on_err}
+use Rattle.jv_fetching.proofs.GoingLaws.{asks_nothing, asks_to, finds_to, goes_twice, nothing_left}
 use Rattle.jv_fetching.proofs.fetch.Fetch.advance.Goals as goal
 
 pub returns-in-Some-clause-asks : goal.returns-in-Some-clause-asks
@@ -12,10 +13,20 @@ returns-in-Some-clause-asks c =
     asks_to c.args.views.now c.args.cache.now c.read_part.new.cache c.args.self.now c.read_part.new.self c.in-Some.need
     to
 
+pub returns-in_err-need-clause-cache : goal.returns-in_err-need-clause-cache
+returns-in_err-need-clause-cache c =
+    on_err c.from_residual.result _
+    (subst (FindsAll c.args.cache.now) (sym c.in_err-need.ensures.cache) (finds_none c.args.cache.now))
+
 pub returns-in_err-need-2-clause-cache : goal.returns-in_err-need-2-clause-cache
 returns-in_err-need-2-clause-cache c =
-    looks_then c.args.cache.now c.read_part.new.cache c.read_part-2.new.cache c.read_part.ensures.cache
-    c.read_part-2.ensures.cache
+    let views = c.args.views.now in
+    let middle = c.read_part.new.cache in
+    let first = subst (λ (o : Option Need). GoesTo views c.args.cache.now middle c.args.self.now c.read_part.new.self o)
+    c.in_default.is c.in_ok-need.ensures.goes in
+    on_err c.from_residual-in_err-need-2.result _
+    (subst (FindsAll c.args.cache.now) (sym c.in_err-need-2.ensures.cache)
+    (finds_to views c.args.cache.now middle c.args.self.now c.read_part.new.self first))
 
 pub returns-in-Some-2 : goal.returns-in-Some-2
 returns-in-Some-2 c =
@@ -35,7 +46,7 @@ returns-in-Some-2 c =
       can = to.goes.can;
       falls = to.goes.falls;
       begins_part = to.goes.begins;
-      cache = looks_then c.args.cache.now middle later c.read_part.ensures.cache c.read_part-2.ensures.cache;
+      cache = tt;
       asks = asks_to views c.args.cache.now later c.args.self.now c.read_part-2.new.self c.in-Some-2.need to;
       reads = to.goes.reads;
     }
@@ -65,7 +76,7 @@ returns c =
       can = to.goes.can;
       falls = to.goes.falls;
       begins_part = to.goes.begins;
-      cache = looks_then c.args.cache.now middle later c.read_part.ensures.cache c.read_part-2.ensures.cache;
+      cache = tt;
       asks = asks_nothing views c.args.cache.now later c.args.self.now c.read_part-2.new.self to;
       reads = to.goes.reads;
     }

@@ -1,6 +1,6 @@
 use Rattle.std.proofs.Common.{Option, ℕ, subst}
 use Rattle.jv_fetching.specs.Inside.{BeginsPart}
-use Rattle.jv_fetching.proofs.GoingLaws.{goes_by_begun, goes_first, looks_to, stops_by_begun}
+use Rattle.jv_fetching.proofs.GoingLaws.{goes_by_begun, goes_first, stops_by_begun}
 use Rattle.jv_fetching.proofs.fetch.Fetch.read_part.Goals as goal
 
 pub returns-in-Some-clause-goes : goal.returns-in-Some-clause-goes
@@ -24,8 +24,3 @@ returns-clause-stops c =
     (subst (λ (o : Option ℕ). BeginsPart c.args.views.now c.args.self.now c.begin_part.new.self o) c.in_default.is
     c.in_ok-window.ensures.begins)
     c.go_on.ensures
-
-pub returns-clause-cache : goal.returns-clause-cache
-returns-clause-cache c =
-    looks_to c.args.views.now c.args.cache.now c.go_on.new.cache c.args.self.now c.go_on.new.self c.go_on.result
-    (returns-clause-goes c)
