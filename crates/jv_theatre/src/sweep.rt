@@ -1,10 +1,10 @@
 //! Runs of a scene in each of which one more call fails, and the rule that each of them keeps.
 use crate::report::{push_list, push_played};
 use crate::rows::{rows_text, unnumbered_text};
-use crate::slices::broken_slices;
 use crate::stage::{Played, Player, count_lines};
 use crate::texts::text_of;
 use crate::theatre::Theatre;
+use crate::whole::flaw_of;
 use jv_model::Rows;
 use jv_scenes::{DEVICES, Scene, SweepRun, Variant, WorldDevice};
 use std::alloc::{AllocError, Global};
@@ -13,13 +13,13 @@ use std::alloc::{AllocError, Global};
 const FAILED: u8 = 5;
 
 /// What is in rows and objects: the rows as they are compared, what the scene lists, how many objects
-/// there are, and what is wrong with slices.
+/// there are, and what isn't whole.
 #[derive(Drop)]
 struct Left {
     rows: String,
     listed: String,
     objects: u64,
-    broken: Option<&'static str>,
+    flaw: Option<&'static str>,
 }
 
 impl Left {
@@ -139,7 +139,7 @@ fn left_on(
     let stock = theatre.tried.stock(alloc)?;
     let rows = compared_text(alloc, scene, &stock.rows)?;
     let objects = stock.objects.len() as u64;
-    let broken = broken_slices(alloc, &stock)?;
+    let flaw = flaw_of(alloc, &stock)?;
     let mut listed = String::new(alloc);
     push_list(
         alloc,
@@ -153,7 +153,7 @@ fn left_on(
         rows,
         listed,
         objects,
-        broken,
+        flaw,
     })
 }
 
@@ -255,10 +255,18 @@ fn judge(
     theatre: &mut Theatre<impl Player>,
 ) -> Result<Sum, AllocError> {
     let broken = broken_by(alloc, trial, theatre)?
-        .or(trial.now.after.broken)
+        .or(broken_volume(trial.now))
         .or(broken_carriage(trial));
     push_broken(report, trial.failing, broken)?;
     Ok(sum.with(trial, broken.is_some()))
+}
+
+/// What isn't whole of what a run left, where what it began with was.
+fn broken_volume(run: &Run) -> Option<&'static str> {
+    match run.before.flaw {
+        None => run.after.flaw,
+        Some(_) => None,
+    }
 }
 
 /// What of the rule a run breaks in which one more call of the carrier was to fail. A carrier shows no
