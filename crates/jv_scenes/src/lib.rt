@@ -7,4 +7,4 @@ mod scene;
 
 pub use device::{DEVICES, WorldDevice};
 pub use reading::{BadSceneLine, BadScenes, read_scenes};
-pub use scene::{Fragment, Further, Repeat, Scene, SweepRun, Variant, Words, bytes_of};
+pub use scene::{Altered, Fragment, Further, Repeat, Scene, SweepRun, Variant, Words, bytes_of};

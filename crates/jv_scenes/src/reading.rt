@@ -1,6 +1,6 @@
 //! Reads scenes.
 use crate::device::WorldDevice;
-use crate::scene::{Fragment, Further, Repeat, Scene, SweepRun, Words};
+use crate::scene::{Altered, Fragment, Further, Repeat, Scene, SweepRun, Words};
 use jv_model::{Bytes, ClientId, LAST_MOMENT, Moment, Name, RowKey, Sequence, copied};
 use jv_outside::{Object, Staged};
 use std::alloc::{AllocError, AllocFailed, Global};
@@ -22,6 +22,7 @@ pub enum BadSceneLine {
     NotFail,
     NotRows,
     NotRow,
+    NoVolume,
     NotObject,
     NotStaged,
     NoClient,
@@ -35,7 +36,7 @@ impl BadSceneLine {
     pub fn text(self) -> &'static str {
         match self {
             BadSceneLine::NoScene => "no scene has begun",
-            BadSceneLine::NoName => "the scene has no name",
+            BadSceneLine::NoName => "the scene or the volume has no name",
             BadSceneLine::NoKey => "no such key word",
             BadSceneLine::NotAlone => "`script` and `list` stand alone on their lines",
             BadSceneLine::NoEnd => "no line `end` follows the script",
@@ -47,7 +48,10 @@ impl BadSceneLine {
             BadSceneLine::NotCounted => "the form is `KEY N TEXT`",
             BadSceneLine::NotFail => "the form is `fail DEVICE K ..`",
             BadSceneLine::NotRows => "the form is `rows fresh` or `rows none`",
-            BadSceneLine::NotRow => "the form is `row TAB A B VALUE`",
+            BadSceneLine::NotRow => {
+                "the form is `row TAB A B VALUE`, `with TAB A B VALUE` or `without TAB A B`"
+            }
+            BadSceneLine::NoVolume => "no line `volume` comes before it",
             BadSceneLine::NotObject => "the form is `object NAME BYTES MOMENT`",
             BadSceneLine::NotStaged => "the form is `staged CLIENT NAME BYTES`",
             BadSceneLine::NoClient => "no such client",
@@ -200,7 +204,8 @@ fn read_key(alloc: Global, scene: &mut Scene, key: &str, rest: &str) -> Result<(
     match key {
         "words" | "word" | "long" => read_words(alloc, scene, key, rest),
         "lines" | "text" | "bytes" => read_piece(alloc, scene, key, rest),
-        "again" | "try" | "then" => read_run(alloc, scene, key, rest),
+        "again" | "try" | "then" | "volume" => read_run(alloc, scene, key, rest),
+        "with" | "without" => alter(alloc, scene, key, rest),
         "rows" | "row" | "object" | "staged" => read_store(alloc, scene, key, rest),
         "clock" | "fail" | "in_pieces_of" => read_device(scene, key, rest),
         "show" => show(scene, rest),
@@ -264,11 +269,12 @@ fn fragment(alloc: Global, key: &str, rest: &str) -> Result<Fragment, BadSceneLi
     })
 }
 
-/// Reads a line about a further run.
+/// Reads a line about what is done after the first run.
 fn read_run(alloc: Global, scene: &mut Scene, key: &str, rest: &str) -> Result<(), BadSceneLine> {
     let run = match key {
         "again" => Further::Repeat(again(alloc, rest)?),
         "try" => Further::Try(words(alloc, rest)?),
+        "volume" => Further::Volume(volume(alloc, rest)?),
         _ => Further::TryLine(String::from_str(alloc, rest)?),
     };
     scene.further.push(run)?;
@@ -301,6 +307,31 @@ fn again(alloc: Global, rest: &str) -> Result<Repeat, BadSceneLine> {
         words,
         script: Vec::new(alloc),
     })
+}
+
+/// The volume that the scene begins with, under a name.
+fn volume(alloc: Global, name: &str) -> Result<Altered, BadSceneLine> {
+    if name.is_empty() {
+        return Err(BadSceneLine::NoName);
+    }
+    Ok(Altered {
+        name: String::from_str(alloc, name)?,
+        with: Vec::new(alloc),
+        without: Vec::new(alloc),
+    })
+}
+
+/// Reads a line about a row that the last volume has besides, or lacks.
+fn alter(alloc: Global, scene: &mut Scene, key: &str, rest: &str) -> Result<(), BadSceneLine> {
+    let Some(Further::Volume(altered)) = scene.further.last_mut() else {
+        return Err(BadSceneLine::NoVolume);
+    };
+    if key == "with" {
+        altered.with.push(row(alloc, rest)?)?;
+    } else {
+        altered.without.push(row_key(alloc, rest)?)?;
+    }
+    Ok(())
 }
 
 /// Words that one space parts, or none.
@@ -420,13 +451,28 @@ fn row(alloc: Global, rest: &str) -> Result<(RowKey, Bytes), BadSceneLine> {
     let (tab, rest) = rest.split_once(" ").ok_or(wanted)?;
     let (a, rest) = rest.split_once(" ").ok_or(wanted)?;
     let (b, value) = rest.split_once(" ").ok_or(wanted)?;
-    let Ok(tab) = tab.parse::<u8>() else {
-        return Err(wanted);
-    };
-    let a = number(a)?;
-    let b = Sequence::from_vec(bytes(alloc, b)?);
+    let key = key_of(alloc, tab, a, b)?;
     let value = Sequence::from_vec(bytes_in_parts(alloc, value)?);
-    Ok((RowKey { tab, a, b }, value))
+    Ok((key, value))
+}
+
+/// The key of a row: its table, number and bytes.
+fn row_key(alloc: Global, rest: &str) -> Result<RowKey, BadSceneLine> {
+    let wanted = BadSceneLine::NotRow;
+    let (tab, rest) = rest.split_once(" ").ok_or(wanted)?;
+    let (a, b) = rest.split_once(" ").ok_or(wanted)?;
+    key_of(alloc, tab, a, b)
+}
+
+fn key_of(alloc: Global, tab: &str, a: &str, b: &str) -> Result<RowKey, BadSceneLine> {
+    let Ok(tab) = tab.parse::<u8>() else {
+        return Err(BadSceneLine::NotRow);
+    };
+    Ok(RowKey {
+        tab,
+        a: number(a)?,
+        b: Sequence::from_vec(bytes(alloc, b)?),
+    })
 }
 
 /// An object of the depot: its name, bytes and moment.

@@ -26,7 +26,17 @@ pub struct Repeat {
     pub script: Vec<Fragment>,
 }
 
-/// A further run.
+/// A volume that is what the scene begins with but for some rows.
+#[derive(Drop)]
+pub struct Altered {
+    pub name: String,
+    /// Rows that it has besides, or in place of those with their keys.
+    pub with: Vec<(RowKey, Bytes)>,
+    /// The keys of rows that it lacks.
+    pub without: Vec<RowKey>,
+}
+
+/// What is done after the first run.
 #[derive(Drop)]
 pub enum Further {
     Repeat(Repeat),
@@ -34,6 +44,8 @@ pub enum Further {
     Try(Words),
     /// By the scene's words on a world of its own whose script ends with this line. One line is printed of it.
     TryLine(String),
+    /// No run: it is said whether this volume is whole.
+    Volume(Altered),
 }
 
 /// In what a run's world is another than the scene's.

@@ -6,11 +6,11 @@
 mod objects;
 mod report;
 mod rows;
-mod slices;
 mod stage;
 mod sweep;
 mod texts;
 mod theatre;
+mod whole;
 
 pub use stage::{Parts, Player, Stores, Streams};
 pub use theatre::{Theatre, push_scene};

@@ -3,6 +3,7 @@ use crate::objects::{objects_text, staged_text};
 use crate::rows::rows_text;
 use crate::stage::{Played, Player, SceneStage, Stock};
 use crate::texts::shown_text;
+use crate::whole::flaw_of;
 use jv_scenes::{DEVICES, Scene, Variant, WorldDevice};
 use std::alloc::{AllocError, Global};
 use std::str;
@@ -137,6 +138,18 @@ pub fn push_stock(
         report.push_str(rows_text(alloc, &stock.rows)?.as_str())?;
     }
     Ok(())
+}
+
+/// Adds one line on a volume: its name, and that it is whole, or what of it isn't.
+pub fn push_volume(
+    alloc: Global,
+    report: &mut String,
+    name: &str,
+    stage: &mut SceneStage,
+) -> Result<(), AllocError> {
+    let stock = stage.stock(alloc)?;
+    let found = flaw_of(alloc, &stock)?.unwrap_or("whole");
+    writeln!(report, "volume {name}: {found}")
 }
 
 /// Lists what is left in the stores, where the scene has a script for that, and adds the answers. The run is made on

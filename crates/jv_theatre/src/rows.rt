@@ -3,7 +3,7 @@ use jv_model::tables::{TABLE_OF_COUNTERS, TABLE_OF_DEAD, TABLE_OF_LISTS, TABLE_O
 use jv_model::{Moment, RowKey, Rows, Sequence, copied};
 use jv_outside::{Change, MemKeeper};
 use jv_rows::{default_setting, fresh_rows};
-use jv_scenes::Scene;
+use jv_scenes::{Altered, Scene};
 use std::alloc::{AllocError, Global};
 
 /// The tables whose rows name slices by their numbers: lists, slices and dead slices.
@@ -22,6 +22,31 @@ pub fn rows(alloc: Global, scene: &Scene) -> Result<Rows, AllocError> {
         add_fresh(alloc, &mut rows)?;
     }
     Ok(rows)
+}
+
+/// The rows that a scene begins with, altered. Of rows with one key the first stands.
+pub fn altered_rows(alloc: Global, scene: &Scene, altered: &Altered) -> Result<Rows, AllocError> {
+    let mut all = Sequence::new(alloc);
+    for (key, bytes) in altered.with.as_slice() {
+        add_row(alloc, &mut all, key, bytes.as_slice())?;
+    }
+    add_rest(alloc, &mut all, &rows(alloc, scene)?, altered)?;
+    Ok(all)
+}
+
+/// Adds rows but for those that are taken out.
+fn add_rest(
+    alloc: Global,
+    all: &mut Rows,
+    rows: &Rows,
+    altered: &Altered,
+) -> Result<(), AllocError> {
+    for (key, bytes) in rows.as_slice() {
+        if !altered.without.contains(key) {
+            add_row(alloc, all, key, bytes.as_slice())?;
+        }
+    }
+    Ok(())
 }
 
 /// Adds the rows of a volume with the default setting that was formatted at moment 0.

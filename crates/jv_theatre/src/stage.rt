@@ -1,13 +1,13 @@
 //! Stages: devices in memory, and runs over them.
 use crate::objects::{objects, objects_of, staged, staged_of};
-use crate::rows::{rows, rows_of};
+use crate::rows::{altered_rows, rows, rows_of};
 use crate::texts::text_of;
 use jv_model::{Bytes, Journal, Rows, Sequence};
 use jv_outside::{
     Fails, MemCarrier, MemClock, MemDepot, MemKeeper, MemShelf, MemSink, MemSource, NumberList,
     ObjectList, StagedList,
 };
-use jv_scenes::{Scene, Variant, WorldDevice};
+use jv_scenes::{Altered, Scene, Variant, WorldDevice};
 use std::alloc::{AllocError, Global};
 
 /// What a run reads and prints.
@@ -142,6 +142,15 @@ fn stock_of(alloc: Global, scene: &Scene) -> Result<Stock, AllocError> {
     })
 }
 
+/// What the stores have that a scene begins with, with altered rows.
+fn altered_stock(alloc: Global, scene: &Scene, altered: &Altered) -> Result<Stock, AllocError> {
+    Ok(Stock {
+        rows: altered_rows(alloc, scene, altered)?,
+        objects: objects(alloc, scene)?,
+        staged: staged(alloc, scene)?,
+    })
+}
+
 /// The stores of a variant of a scene, which have this stock.
 fn stores_with(
     alloc: Global,
@@ -198,6 +207,17 @@ impl SceneStage {
     ) -> Result<(), AllocError> {
         let stock = stock_of(alloc, scene)?;
         self.put(alloc, scene, variant, stock)
+    }
+
+    /// Sets the stage for a scene with altered rows.
+    pub fn set_altered(
+        &mut self,
+        alloc: Global,
+        scene: &Scene,
+        altered: &Altered,
+    ) -> Result<(), AllocError> {
+        let stock = altered_stock(alloc, scene, altered)?;
+        self.put(alloc, scene, Variant::Same, stock)
     }
 
     /// Sets the stage for a variant of a scene whose stores have this stock.

@@ -1,10 +1,10 @@
 //! Runs of a scene in each of which one more call fails, and the rule that each of them keeps.
 use crate::report::{push_list, push_played};
 use crate::rows::{rows_text, unnumbered_text};
-use crate::slices::broken_slices;
 use crate::stage::{Played, Player, count_lines};
 use crate::texts::text_of;
 use crate::theatre::Theatre;
+use crate::whole::flaw_of;
 use jv_model::Rows;
 use jv_scenes::{DEVICES, Scene, SweepRun, Variant, WorldDevice};
 use std::alloc::{AllocError, Global};
@@ -13,13 +13,13 @@ use std::alloc::{AllocError, Global};
 const FAILED: u8 = 5;
 
 /// What is in rows and objects: the rows as they are compared, what the scene lists, how many objects
-/// there are, and what is wrong with slices.
+/// there are, and what isn't whole.
 #[derive(Drop)]
 struct Left {
     rows: String,
     listed: String,
     objects: u64,
-    broken: Option<&'static str>,
+    flaw: Option<&'static str>,
 }
 
 impl Left {
@@ -51,29 +51,58 @@ impl Run {
     }
 }
 
+/// What all runs of a sweep have in common.
+#[derive(Clone, Copy)]
+struct Sweep<'a> {
+    scene: &'a Scene,
+    /// The run in which no further call fails.
+    base: &'a Run,
+    range: SweepRun,
+}
+
+/// The call that fails besides.
+#[derive(Clone, Copy)]
+struct Failing {
+    device: WorldDevice,
+    /// Which of the device's calls, from 1.
+    number: u64,
+}
+
+/// A run in which one more call is to fail, and the run without that, against which it is held.
+#[derive(Clone, Copy)]
+struct Trial<'a> {
+    scene: &'a Scene,
+    base: &'a Run,
+    now: &'a Run,
+    failing: Failing,
+}
+
 /// Runs a sweep, and adds its outcome: each run that breaks the rule, and a sum for each device.
 pub fn push_sweep(
     alloc: Global,
     report: &mut String,
     scene: &Scene,
-    sweep: SweepRun,
+    range: SweepRun,
     theatre: &mut Theatre<impl Player>,
 ) -> Result<(), AllocError> {
     let base = show(alloc, scene, Variant::Same, theatre)?;
-    push_devices(alloc, report, scene, &base, sweep, theatre)
+    let sweep = Sweep {
+        scene,
+        base: &base,
+        range,
+    };
+    push_devices(alloc, report, sweep, theatre)
 }
 
 fn push_devices(
     alloc: Global,
     report: &mut String,
-    scene: &Scene,
-    base: &Run,
-    sweep: SweepRun,
+    sweep: Sweep<'_>,
     theatre: &mut Theatre<impl Player>,
 ) -> Result<(), AllocError> {
     for device in DEVICES {
-        if sweep.is_of(scene, device) {
-            push_device(alloc, report, scene, base, sweep, device, theatre)?;
+        if sweep.range.is_of(sweep.scene, device) {
+            push_device(alloc, report, sweep, device, theatre)?;
         }
     }
     Ok(())
@@ -110,7 +139,7 @@ fn left_on(
     let stock = theatre.tried.stock(alloc)?;
     let rows = compared_text(alloc, scene, &stock.rows)?;
     let objects = stock.objects.len() as u64;
-    let broken = broken_slices(alloc, &stock)?;
+    let flaw = flaw_of(alloc, &stock)?;
     let mut listed = String::new(alloc);
     push_list(
         alloc,
@@ -124,7 +153,7 @@ fn left_on(
         rows,
         listed,
         objects,
-        broken,
+        flaw,
     })
 }
 
@@ -160,74 +189,92 @@ impl Sum {
     };
 
     /// With one more run.
-    fn with(self, base: &Played, now: &Played, device: WorldDevice, is_broken: bool) -> Sum {
+    fn with(self, trial: Trial<'_>, is_broken: bool) -> Sum {
+        let now = &trial.now.played;
+        let ended = now.status == FAILED;
         Sum {
-            failed: self.failed.saturating_add(rise(base, now, device)),
-            ended: self.ended.saturating_add(u64::from(now.status == FAILED)),
-            differ: self.differ.saturating_add(differing(base, now)),
+            failed: self.failed.saturating_add(trial.rise()),
+            ended: self.ended.saturating_add(u64::from(ended)),
+            differ: self
+                .differ
+                .saturating_add(differing(&trial.base.played, now)),
             broken: self.broken.saturating_add(u64::from(is_broken)),
         }
+    }
+}
+
+impl Trial<'_> {
+    /// By how much the device whose call is to fail failed more often.
+    fn rise(&self) -> u64 {
+        rise(&self.base.played, &self.now.played, self.failing.device)
     }
 }
 
 fn push_device(
     alloc: Global,
     report: &mut String,
-    scene: &Scene,
-    base: &Run,
-    sweep: SweepRun,
+    sweep: Sweep<'_>,
     device: WorldDevice,
     theatre: &mut Theatre<impl Player>,
 ) -> Result<(), AllocError> {
     let mut sum = Sum::NONE;
-    for number in sweep.first..=sweep.last {
-        sum = push_run(alloc, report, scene, base, (device, number), sum, theatre)?;
+    for number in sweep.range.first..=sweep.range.last {
+        let failing = Failing { device, number };
+        sum = push_run(alloc, report, sweep, failing, sum, theatre)?;
     }
-    push_sum(report, sweep, device, sum)
+    push_sum(report, sweep.range, device, sum)
 }
 
 /// Makes the run in which a call fails. Returns the sum with it.
 fn push_run(
     alloc: Global,
     report: &mut String,
-    scene: &Scene,
-    base: &Run,
-    failing: (WorldDevice, u64),
+    sweep: Sweep<'_>,
+    failing: Failing,
     sum: Sum,
     theatre: &mut Theatre<impl Player>,
 ) -> Result<Sum, AllocError> {
-    let now = show(alloc, scene, Variant::Fails(failing.0, failing.1), theatre)?;
-    judge(alloc, report, scene, base, &now, failing, sum, theatre)
+    let Sweep { scene, base, .. } = sweep;
+    let fails = Variant::Fails(failing.device, failing.number);
+    let now = show(alloc, scene, fails, theatre)?;
+    let trial = Trial {
+        scene,
+        base,
+        now: &now,
+        failing,
+    };
+    judge(alloc, report, trial, sum, theatre)
 }
 
 /// Adds what of the rule a run breaks. Returns the sum with it.
 fn judge(
     alloc: Global,
     report: &mut String,
-    scene: &Scene,
-    base: &Run,
-    now: &Run,
-    failing: (WorldDevice, u64),
+    trial: Trial<'_>,
     sum: Sum,
     theatre: &mut Theatre<impl Player>,
 ) -> Result<Sum, AllocError> {
-    let (device, number) = failing;
-    let broken = broken_by(alloc, scene, base, now, device, theatre)?
-        .or(now.after.broken)
-        .or(broken_carriage(base, now, failing));
-    push_broken(report, number, device, broken)?;
-    Ok(sum.with(&base.played, &now.played, device, broken.is_some()))
+    let broken = broken_by(alloc, trial, theatre)?
+        .or(broken_volume(trial.now))
+        .or(broken_carriage(trial));
+    push_broken(report, trial.failing, broken)?;
+    Ok(sum.with(trial, broken.is_some()))
+}
+
+/// What isn't whole of what a run left, where what it began with was.
+fn broken_volume(run: &Run) -> Option<&'static str> {
+    match run.before.flaw {
+        None => run.after.flaw,
+        Some(_) => None,
+    }
 }
 
 /// What of the rule a run breaks in which one more call of the carrier was to fail. A carrier shows no
 /// calls, so one that is passed over, or made again after it failed, is seen by this alone: where the
 /// run without the fault makes the call, an answer or standard error has to say that it failed.
-fn broken_carriage(base: &Run, now: &Run, failing: (WorldDevice, u64)) -> Option<&'static str> {
-    let (device, number) = failing;
-    if device == WorldDevice::Carrier
-        && number <= base.carried()
-        && rise(&base.played, &now.played, device) == 0
-    {
+fn broken_carriage(trial: Trial<'_>) -> Option<&'static str> {
+    let Failing { device, number } = trial.failing;
+    if device == WorldDevice::Carrier && number <= trial.base.carried() && trial.rise() == 0 {
         Some("the failed call is passed over")
     } else {
         None
@@ -237,24 +284,24 @@ fn broken_carriage(base: &Run, now: &Run, failing: (WorldDevice, u64)) -> Option
 /// Adds what of the rule a run breaks, if it breaks any.
 fn push_broken(
     report: &mut String,
-    number: u64,
-    device: WorldDevice,
+    failing: Failing,
     broken: Option<&'static str>,
 ) -> Result<(), AllocError> {
     let Some(why) = broken else {
         return Ok(());
     };
+    let Failing { device, number } = failing;
     let name = device.name();
     writeln!(report, "broken by call {number} of {name}: {why}")
 }
 
 fn push_sum(
     report: &mut String,
-    sweep: SweepRun,
+    range: SweepRun,
     device: WorldDevice,
     sum: Sum,
 ) -> Result<(), AllocError> {
-    let SweepRun { first, last, .. } = sweep;
+    let SweepRun { first, last, .. } = range;
     let name = device.name();
     let Sum {
         failed,
@@ -277,12 +324,12 @@ fn rise(base: &Played, now: &Played, device: WorldDevice) -> u64 {
 
 /// The number of the first answer, from 0, that the device failed, where it isn't one of the run in which no further
 /// call fails.
-fn first_failure(base: &Run, now: &Run, device: WorldDevice) -> Option<usize> {
-    let failure = device.failure()?;
-    if failures(base, failure) >= failures(now, failure) {
+fn first_failure(trial: Trial<'_>) -> Option<usize> {
+    let failure = trial.failing.device.failure()?;
+    if failures(trial.base, failure) >= failures(trial.now, failure) {
         return None;
     }
-    text_of(&now.played.out)
+    text_of(&trial.now.played.out)
         .lines()
         .position(|line| line == failure)
 }
@@ -297,27 +344,25 @@ fn failures(run: &Run, failure: &str) -> u64 {
 /// what is left, are those of the run without that line.
 fn broken_failure(
     alloc: Global,
-    scene: &Scene,
-    base: &Run,
-    now: &Run,
-    device: WorldDevice,
+    trial: Trial<'_>,
     line: usize,
     theatre: &mut Theatre<impl Player>,
 ) -> Result<Option<&'static str>, AllocError> {
-    if let Some(why) = broken_count(base, now, device) {
+    if let Some(why) = broken_count(trial) {
         return Ok(Some(why));
     }
-    if !scene.is_plain() {
+    if !trial.scene.is_plain() {
         return Ok(None);
     }
-    let without = show(alloc, scene, Variant::Without(line), theatre)?;
-    Ok(broken_rest(now, &without, line))
+    let without = show(alloc, trial.scene, Variant::Without(line), theatre)?;
+    Ok(broken_rest(trial.now, &without, line))
 }
 
 /// What of the rule a run breaks by how often a device failed, or by its status.
-fn broken_count(base: &Run, now: &Run, device: WorldDevice) -> Option<&'static str> {
-    let failure = device.failure()?;
-    if rise(&base.played, &now.played, device) != 1 {
+fn broken_count(trial: Trial<'_>) -> Option<&'static str> {
+    let Trial { base, now, .. } = trial;
+    let failure = trial.failing.device.failure()?;
+    if trial.rise() != 1 {
         Some("more than one call failed")
     } else if failures(now, failure) != failures(base, failure).saturating_add(1) {
         Some("more operations were answered so than calls failed")
@@ -353,21 +398,20 @@ fn has_answers_besides(now: &Played, without: &Played, line: usize) -> bool {
 /// What of the rule a run breaks in which one more call of a device was to fail.
 fn broken_by(
     alloc: Global,
-    scene: &Scene,
-    base: &Run,
-    now: &Run,
-    device: WorldDevice,
+    trial: Trial<'_>,
     theatre: &mut Theatre<impl Player>,
 ) -> Result<Option<&'static str>, AllocError> {
-    match first_failure(base, now, device) {
-        Some(line) => broken_failure(alloc, scene, base, now, device, line, theatre),
-        None => Ok(broken_rule(base, now, device)),
+    match first_failure(trial) {
+        Some(line) => broken_failure(alloc, trial, line, theatre),
+        None => Ok(broken_rule(trial)),
     }
 }
 
 /// What of the rule a run breaks in which one more call of a device was to fail, where that was no operation's call.
-fn broken_rule(base: &Run, now: &Run, device: WorldDevice) -> Option<&'static str> {
-    let rise = rise(&base.played, &now.played, device);
+fn broken_rule(trial: Trial<'_>) -> Option<&'static str> {
+    let Trial { base, now, .. } = trial;
+    let device = trial.failing.device;
+    let rise = trial.rise();
     if !has_rows_of(base, now) && !was_cut_off(&now.played) {
         Some("the rows, or what is listed, are neither those before nor those of the whole run")
     } else if rise == 0 && now.text.as_str() != base.text.as_str() {

@@ -1,8 +1,8 @@
 //! What is done in a scene, one thing after the other, and the stages for it.
-use crate::report::{push_list, push_played, push_stock, push_then, push_try};
+use crate::report::{push_list, push_played, push_stock, push_then, push_try, push_volume};
 use crate::stage::{Player, SceneStage};
 use crate::sweep::push_sweep;
-use jv_scenes::{Further, Repeat, Scene, Variant, bytes_of};
+use jv_scenes::{Altered, Further, Repeat, Scene, Variant, bytes_of};
 use std::alloc::{AllocError, Global};
 
 /// The stages of a scene, and who plays on them.
@@ -84,7 +84,7 @@ fn push_after_first(
     Ok(())
 }
 
-/// Makes a further run, and adds its outcome.
+/// Does what is to be done after the first run, and adds its outcome.
 fn push_further(
     alloc: Global,
     report: &mut String,
@@ -96,7 +96,20 @@ fn push_further(
         Further::Repeat(again) => push_again(alloc, report, scene, again, theatre),
         Further::Try(words) => try_words(alloc, report, scene, words.as_slice(), theatre),
         Further::TryLine(line) => try_line(alloc, report, scene, line.as_str(), theatre),
+        Further::Volume(altered) => judge_volume(alloc, report, scene, altered, theatre),
     }
+}
+
+/// Says whether what a scene begins with is a whole volume once rows are altered.
+fn judge_volume(
+    alloc: Global,
+    report: &mut String,
+    scene: &Scene,
+    altered: &Altered,
+    theatre: &mut Theatre<impl Player>,
+) -> Result<(), AllocError> {
+    theatre.tried.set_altered(alloc, scene, altered)?;
+    push_volume(alloc, report, altered.name.as_str(), &mut theatre.tried)
 }
 
 /// Makes a run by these words on a world of its own.

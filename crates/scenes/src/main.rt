@@ -53,6 +53,10 @@
 //! - `try WORD ..` makes a run by these words on a world of its own, and `then LINE` one by the scene's words whose
 //!   script has one more line. Printed is one line: the status, the words or the line, and standard error, or where
 //!   that has gained nothing `out`; its first line for `try`, and its last one for `then`.
+//! - `volume NAME` says of what the scene begins with whether it is whole (below), by its rows, objects and staged
+//!   blocks, once these lines behind it are heeded: `with TAB A B VALUE` is a row that is there besides, or in place of
+//!   the one with its key, and `without TAB A B` one that isn't. Printed is one line: the name, and `whole`, or the first
+//!   thing that isn't.
 //! - `show blocks` prints the objects that the depot has then, each by its name and its length, and the blocks that are
 //!   staged, each by its client, name and length.
 //! - `show rows` prints the rows that are left, each in the form in which a scene has it.
@@ -67,9 +71,20 @@
 //! a scene with `show blocks` rows are compared but for numbers of slices, of which a flush that fails has used one:
 //! without the tables of lists, slices and dead slices, and of the counters without the next slice.
 //!
-//! Besides, where the rows of setting, lists and slices that it leaves can be read, each slice's count is the number of
-//! the records that name it in all lists; each record that names a slice has a row for it, with its size; and each
-//! block of a slice that has a row, by its name and length under the setting, is an object or staged by a client.
+//! Besides, what it leaves is whole, where what it began with was. A stock without rows is; any other is where these
+//! hold:
+//! - Each row is one of its table, at a key of its table. Setting and counters are there, and each number that was given
+//!   is below the next one of its kind.
+//! - Root and trash are directories. Each entry stands in a directory that is there and names a node that is there, of
+//!   its kind; each other directory has one entry, in its parent, and leads up to the root or the trash. A file or
+//!   symlink has an entry, or else one session that is there keeps it. What the trash and its hours hold has the names
+//!   that these give.
+//! - Link counts are those of the entries, and the counters have the sums over the nodes.
+//! - Each slice's count is the number of the records that name it in all lists; each record that names a slice has a row
+//!   for it, with its size; a dead slice has none.
+//! - Each list belongs to a file, or to a removed one. A file's lists show zeros from its length on, and a removed one
+//!   has no node.
+//! - Each block of a slice that has a row, by its name and length under the setting, is an object or staged by a client.
 //!
 //! How often the carrier failed is read off the answers, since it shows no calls. The run without the
 //! fault makes one that opens it, and one for each object that is new; where one of these is to fail,
