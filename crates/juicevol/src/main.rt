@@ -1,7 +1,7 @@
 //! The program: its words and the process's own streams and clock, handed to `jv_cmd`.
 #![tactic(auto)]
 
-use jv_cmd::{Finish, World, run};
+use jv_cmd::{Finish, OUT_OF_MEMORY, WORDS_REFUSED, World, run};
 use jv_model::{Down, Journal, Moment, Sequence};
 use jv_outside::{
     Fails, Keeper, MemCarrier, MemDepot, MemKeeper, MemShelf, Reading, Sink, Ticking, Writing,
@@ -12,12 +12,6 @@ use std::alloc::Global;
 use std::process::ExitCode;
 use std::rt::Env;
 use std::{env, io};
-
-/// The exit status if the words are refused.
-const WORDS_REFUSED: u8 = 2;
-
-/// The exit status if the process is out of memory.
-const OUT_OF_MEMORY: u8 = 6;
 
 /// The words after the program's name. Fails if one of them isn't text, or if the process is out of memory.
 fn words(rt: &(impl Env + AllocGlobal)) -> io::Result<Vec<String>> {

@@ -1,5 +1,5 @@
 -- A step that is a truncate or a copy with its answer: what it makes of the client and of what clients share.
-use Rattle.std.proofs.Common.{◌≡◌, ℕ, ◌+◌, true, IsTrue, List, [], ◌∷◌, map, None, Some, Ok, Err, refl, ap, subst}
+use Rattle.std.proofs.Common.{◌≡◌, ℕ, ◌+◌, IsTrue, List, [], ◌∷◌, map, None, Some, Ok, Err, refl, ap, subst}
 use Rattle.std.proofs.Common.{◌∙◌, arith}
 use Rattle.std.specs.Prelude.{Result, unwrap_or}
 use Rattle.jv_model.specs.declared.act.ActKind.{ActKind}
@@ -23,7 +23,6 @@ use Rattle.jv_model.specs.tree.Caller.{Caller, Outcome}
 use Rattle.jv_model.specs.tree.FileBytes.{copy, truncate}
 use Rattle.jv_model.specs.client.ModelClient.{ModelClient, inode_at}
 use Rattle.jv_model.specs.client.Profile.{handle_of}
-use Rattle.jv_model.specs.client.Submission.{is_flushed}
 use Rattle.jv_model.specs.journal.State.{State, after_told, caller, without_views}
 use Rattle.jv_model.specs.client.OpForms.{is_umount}
 use Rattle.jv_model.specs.tree.Trash.{due_after}
@@ -32,7 +31,7 @@ use Rattle.jv_rows.specs.Transactions.{IsFor}
 use Rattle.jv_data.specs.Changing.{AnyBytes, Changes, IsCrowded, Never, count_in}
 use Rattle.jv_volume.specs.Holding.{Stays}
 use Rattle.jv_shared.specs.Keeping.{KeepsShared}
-use Rattle.jv_shared.specs.Shared.{HasStore, Known, Shared}
+use Rattle.jv_shared.specs.Shared.{HasStore, Known, Shared, depot_in}
 use Rattle.jv_handles.specs.Handles.{inode_here, unseen}
 use Rattle.jv_handles.proofs.HandleLaws.{handles-forgotten}
 use Rattle.jv_handles.proofs.SeenLaws.{views-left}
@@ -51,10 +50,11 @@ use Rattle.jv_client.specs.Makes.{Makes, StepsTo}
 use Rattle.jv_client.specs.Transacting.{EndsUnmade}
 use Rattle.jv_client.proofs.CacheUseLaws.{NoBlock, cache-stays}
 use Rattle.jv_client.proofs.AnswerLaws.{request-lands}
+use Rattle.jv_client.proofs.DirectLaws.{direct-unseen}
 use Rattle.jv_client.proofs.HeldLaws.{client-doing, doing_of, holds-doing, holds-later}
 use Rattle.jv_client.proofs.LastLaws.{inode-same}
 use Rattle.jv_client.proofs.KeptLaws.{cache-goes, ended-client, held-goes}
-use Rattle.jv_client.proofs.DueLaws.{IsFirst, change-first, first-flushed, first-stage}
+use Rattle.jv_client.proofs.DueLaws.{IsFirst, change-first, first-stage, model-flushed}
 use Rattle.jv_client.proofs.TransactionLaws.{answered-makes}
 use Rattle.jv_client.proofs.UnmadeLaws.{UnmadeLeads, unmade}
 
@@ -80,11 +80,11 @@ held-blind : (g : Known) (v : Shared) (count inode : ℕ) (m : ModelClient) (h :
     → IsHeld g v (without_views inode m) count (blind inode h)
 held-blind g v count inode m h held = record {
   session = held.session;
-  direct = held.direct;
   removed = held.removed;
   handles = handles-forgotten g v m.views count inode m.handles h.handles held.handles;
   views = views-left inode count m.views held.views;
   pending = held.pending;
+  direct = direct-unseen v.yard.setting.block (depot_in v) m.writeback h.handles held.direct inode;
 }
 
 holds-blind : (t : Tree) (inode : ℕ) (m : ModelClient) → Holds t m → Holds t (without_views inode m)
@@ -108,12 +108,6 @@ module _ (now : ℕ) (h : ClientValue) (d : Doing) (busy : h.doing ≡ Some d) (
       (is : IsClient g v (s.clients h.id) s.count h) where
     abbrev mine : ModelClient
     mine = s.clients h.id
-
-    pub model-busy : (s.clients h.id).doing ≡ Some (doing_of d)
-    model-busy = client-doing g v mine s.count h d busy is
-
-    pub model-flushed : is_flushed (doing_of d).flush mine.pending ≡ true
-    model-flushed = first-flushed h d first mine.pending is.held.pending
 
     -- in whose name the change is made
     abbrev pub who : Caller
@@ -177,8 +171,9 @@ module _ (now : ℕ) (h : ClientValue) (d : Doing) (busy : h.doing ≡ Some d) (
           (Done reply.Done) (ended (blind (inode_here h.handles handle) h)) used
       truncate-leads changes =
           let same = inode-same g v mine s.count h is.held handle in
-          let request = truncate-request s h.id now (doing_of d) model-busy first.started (first-stage h d first)
-          model-flushed g v has (in_flight h) keeper due handle len of_op changes in
+          let request = truncate-request s h.id now (doing_of d) (client-doing g v mine s.count h d busy is)
+          first.started (first-stage h d first)
+          (model-flushed h d first g v mine s.count is) g v has (in_flight h) keeper due handle len of_op changes in
           leads-changed (Truncated (inode_at mine handle) len) (Truncated (inode_here h.handles handle) len)
           (Fine 0 0 0 0) reply.Done (inode_at mine handle) (inode_here h.handles handle) request.0 s.copied
           (ap (λ inode. Truncated inode len) same) same request.1
@@ -210,8 +205,9 @@ module _ (now : ℕ) (h : ClientValue) (d : Doing) (busy : h.doing ≡ Some d) (
         copy-leads count changes =
             let first_same = inode-same g v mine s.count h is.held source in
             let same = inode-same g v mine s.count h is.held target in
-            let request = copy-request s h.id now (doing_of d) model-busy first.started (first-stage h d first)
-            model-flushed g v has (in_flight h) keeper due source from target to len of_op count changes in
+            let request = copy-request s h.id now (doing_of d) (client-doing g v mine s.count h d busy is)
+            first.started (first-stage h d first) (model-flushed h d first g v mine s.count is)
+            g v has (in_flight h) keeper due source from target to len of_op count changes in
             leads-changed (Copied (inode_at mine source) from (inode_at mine target) to count)
             (Copied (inode_here h.handles source) from (inode_here h.handles target) to count)
             (Fine count 0 0 0) (reply.Count count) (inode_at mine target) (inode_here h.handles target) request.0
@@ -293,11 +289,13 @@ module _ (now : ℕ) (h : ClientValue) (d : Doing) (busy : h.doing ≡ Some d) (
         request = request-lands s g g v used h.id now (in_flight h) (in_flight h)
             (Quiet ∷ Answered (ToldRefused fault) ∷ []) (Done (reply.Refused fault)) s.tree
             (after_told d.op (ToldRefused fault) (s.clients h.id)) s.copied
-            (truncate-not_made s h.id now (doing_of d) (model-busy s g has holds is) first.started
-            (first-stage h d first) (model-flushed s g has holds is) g v has (in_flight h) keeper (due_after now) handle
+            (truncate-not_made s h.id now (doing_of d) (client-doing g v (s.clients h.id) s.count h d busy is)
+            first.started (first-stage h d first) (model-flushed h d first g v (s.clients h.id) s.count is)
+            g v has (in_flight h) keeper (due_after now) handle
             len of_op of_does fault changes);
-        calm = truncate-not_made_calm s h.id now (doing_of d) (model-busy s g has holds is) first.started
-            (first-stage h d first) (model-flushed s g has holds is) g v has (in_flight h) keeper (due_after now) handle
+        calm = truncate-not_made_calm s h.id now (doing_of d) (client-doing g v (s.clients h.id) s.count h d busy is)
+            first.started (first-stage h d first) (model-flushed h d first g v (s.clients h.id) s.count is)
+            g v has (in_flight h) keeper (due_after now) handle
             len of_op fault changes;
       }
   truncate-unmade_leads handle len of_op of_does s g has holds is (Moved list) tried =
@@ -327,11 +325,13 @@ module _ (now : ℕ) (h : ClientValue) (d : Doing) (busy : h.doing ≡ Some d) (
         request = request-lands s g g v used h.id now (in_flight h) (in_flight h)
             (Quiet ∷ Answered (ToldRefused fault) ∷ []) (Done (reply.Refused fault)) s.tree
             (after_told d.op (ToldRefused fault) (s.clients h.id)) s.copied
-            (copy-not_made s h.id now (doing_of d) (model-busy s g has holds is) first.started
-            (first-stage h d first) (model-flushed s g has holds is) g v has (in_flight h) keeper (due_after now) source
+            (copy-not_made s h.id now (doing_of d) (client-doing g v (s.clients h.id) s.count h d busy is)
+            first.started (first-stage h d first) (model-flushed h d first g v (s.clients h.id) s.count is)
+            g v has (in_flight h) keeper (due_after now) source
             from target to len of_op of_does 0 fault changes);
-        calm = copy-not_made_calm s h.id now (doing_of d) (model-busy s g has holds is) first.started
-            (first-stage h d first) (model-flushed s g has holds is) g v has (in_flight h) keeper (due_after now) source
+        calm = copy-not_made_calm s h.id now (doing_of d) (client-doing g v (s.clients h.id) s.count h d busy is)
+            first.started (first-stage h d first) (model-flushed h d first g v (s.clients h.id) s.count is)
+            g v has (in_flight h) keeper (due_after now) source
             from target to len of_op 0 fault changes;
       }
   copy-unmade_leads source from target to len of_op of_does s g has holds is (Moved list) tried =

@@ -1,7 +1,7 @@
 -- A commit that was made: where its step leads, and what it leaves of its client.
 use Rattle.std.proofs.Common.{◌≡◌, ℕ, zero, suc, ◌+◌, ◌-◌, ◌≤◌, ◌<◌, List, [], ◌∷◌, length}
 use Rattle.std.proofs.Common.{Option, None, Some, Ok, refl, sym, ap, subst, ◌∙◌, arith}
-use Rattle.std.specs.Prelude.{unwrap_or}
+use Rattle.std.specs.Prelude.{IfSome, unwrap_or}
 use Rattle.jv_model.specs.declared.act.ActKind.{ActKind}
 use Rattle.jv_model.specs.declared.act.ActKind.TheVariants.{Answered, Commit}
 use Rattle.jv_model.specs.declared.op.Reply.{Reply}
@@ -22,8 +22,9 @@ use Rattle.jv_pending.specs.At.{segment_at}
 use Rattle.jv_contents.specs.Flights.{Flight, IsComplete}
 use Rattle.jv_data.specs.Records.{CommitsRecord}
 use Rattle.jv_slices.proofs.BlockLaws.{index_below}
+use Rattle.jv_shared.specs.Direct.{HasPut}
 use Rattle.jv_shared.specs.Flying.{Flies}
-use Rattle.jv_shared.specs.Shared.{HasStore, Known, Shared}
+use Rattle.jv_shared.specs.Shared.{HasStore, Known, Shared, depot_in}
 use Rattle.jv_shared.proofs.StoreLaws.{block_some}
 use Rattle.jv_steps.specs.IsStep.{at_stage}
 use Rattle.jv_requests.specs.Request.{Request}
@@ -117,6 +118,10 @@ module _ (h : ClientValue) (d : Doing) (v : Shared) (keeper : Store) (at : Segme
     pub flies-here : Flies g v flight
     flies-here = on-way.0
 
+    -- the depot has the blocks that were put
+    put-here : HasPut v.yard.setting.block (depot_in v) flight
+    put-here = subst (λ (o : Option Flight). IfSome o (HasPut v.yard.setting.block (depot_in v))) flight-is is.put
+
     pub is-complete : IsComplete v.yard.setting.block flight
     is-complete =
         let few = on-way.1 in
@@ -168,14 +173,14 @@ module _ (h : ClientValue) (d : Doing) (v : Shared) (keeper : Store) (at : Segme
       leads-left other e =
           committed-left s g v store h.id now (doing_of d) busy-model segment next-model quiets started at-model
           asked-model flight flies-here is-complete bytes-model at.window at.pos refl keeper sid (own-model sid own)
-          commits-whole is.held.direct other (left-model (Some other) e)
+          put-here commits-whole is.held.direct.mode other (left-model (Some other) e)
 
       pub leads-then : segment_left d.flush without.pending ≡ None → answer_then mine (doing_of d) ≡ None
           → Leads (kind ∷ []) More (at_stage (Working 0 0) (doing_of d) rest)
       leads-then e none =
           committed-then s g v store h.id now (doing_of d) busy-model segment next-model quiets started at-model
           asked-model flight flies-here is-complete bytes-model at.window at.pos refl keeper sid (own-model sid own)
-          commits-whole is.held.direct (left-model None e) none
+          put-here commits-whole is.held.direct.mode (left-model None e) none
 
       pub leads-answered : segment_left d.flush without.pending ≡ None → (said : Reply)
           → answer_then mine (doing_of d) ≡ Some said
@@ -183,4 +188,4 @@ module _ (h : ClientValue) (d : Doing) (v : Shared) (keeper : Store) (at : Segme
       leads-answered e said same =
           committed-answered s g v store h.id now (doing_of d) busy-model segment next-model quiets started at-model
           asked-model flight flies-here is-complete bytes-model at.window at.pos refl keeper sid (own-model sid own)
-          commits-whole is.held.direct (left-model None e) said same
+          put-here commits-whole is.held.direct.mode (left-model None e) said same

@@ -175,7 +175,7 @@ module _ (h : ClientValue) (d : Doing) (v : Shared) (keeper : Store) (at : Segme
             moved-client g used_here (s.count + 1) left_model between d (progress.Working 0 0 0)
             (held-without segment_here s.tree g v store request-on.own g used_here request-on.leads.kept model s.count
             (s.count + 1) h (omega arith) is.held)
-            is.cache tt tt;
+            is.cache tt tt tt;
         holds = holds-doing tree_then left_model then_model.doing holds-here;
       }
 

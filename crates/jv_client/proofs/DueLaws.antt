@@ -1,5 +1,5 @@
 -- An operation that has flushed, and makes its first request after that: it is a transaction on metadata, or it changes a file.
-use Rattle.std.proofs.Common.{◌≡◌, ℕ, true, false, not, IsTrue, List, length, None, Some}
+use Rattle.std.proofs.Common.{◌≡◌, ℕ, true, false, not, IsTrue, length, None, Some}
 use Rattle.std.proofs.Common.{refl, sym, ap, subst, ◌∙◌, rules}
 use Rattle.std.specs.Prelude.{is_some, if◌then◌else◌}
 use Rattle.jv_model.specs.declared.op.Op.{Op}
@@ -11,18 +11,18 @@ use Rattle.jv_model.specs.declared.profile.Does.TheVariants as does
 use Rattle.jv_model.specs.script.Spelled.{is_spelled}
 use Rattle.jv_model.specs.client.ModelClient.{ModelClient, Doing as ModelDoing, Working, file_of}
 use Rattle.jv_model.specs.client.ModelClient.{is_last_of_removed}
-use Rattle.jv_model.specs.client.Pending.{PendingByte}
 use Rattle.jv_model.specs.client.Profile.{handle_of}
 use Rattle.jv_model.specs.client.Submission.{is_flushed}
 use Rattle.jv_model.specs.journal.Steps.{transacts}
 use Rattle.jv_model.specs.client.OpForms.{is_tried, is_metadata, is_transaction}
 use Rattle.jv_steps.proofs.GiftLaws.{IsDirect}
+use Rattle.jv_shared.specs.Shared.{Known, Shared}
 use Rattle.jv_handles.specs.declared.handle.Handle.{Handle}
 use Rattle.jv_client.specs.declared.doing.Doing.{Doing}
 use Rattle.jv_client.specs.declared.doing.Progress.{Progress}
 use Rattle.jv_client.specs.declared.doing.Progress.TheVariants as progress
 use Rattle.jv_client.specs.ClientValue.{ClientValue}
-use Rattle.jv_client.specs.Held.{flush_of_code, is_last_here, stage_of}
+use Rattle.jv_client.specs.Held.{IsClient, flush_of_code, is_last_here, stage_of}
 use Rattle.jv_steps.specs.Stages.{changes_files}
 use Rattle.jv_client.specs.UnderWay.{FlushesFor, Closes, Syncs, Describes, ReadsNothing, Reads, Truncates, IsForm}
 use Rattle.jv_client.specs.UnderWay.{Mounts, Transacts, Leaves, Writes, Flushes, Copies, SaysStats, IsAt}
@@ -73,9 +73,10 @@ module _ (h : ClientValue) (d : Doing) where
     pub first-stage : stage_of d.progress ≡ Working 0 first.started
     first-stage = ap stage_of first.progress
 
-    pub first-flushed : (pending : List PendingByte) → pending ≡ h.pending
-        → is_flushed (flush_of_code d.flush) pending ≡ true
-    first-flushed pending same = ap (is_flushed (flush_of_code d.flush)) same ∙ ap not first.none
+    -- the model's client has nothing left to commit either
+    pub model-flushed : (g : Known) (v : Shared) (m : ModelClient) (count : ℕ) → IsClient g v m count h
+        → is_flushed (flush_of_code d.flush) m.pending ≡ true
+    model-flushed g v m count is = ap (is_flushed (flush_of_code d.flush)) is.held.pending ∙ ap not first.none
 
 -- ---- operations that make a transaction on metadata
 

@@ -18,14 +18,16 @@ use Rattle.jv_model.specs.journal.State.{after_told, finished, refused_as}
 use Rattle.jv_model.specs.Lists.{is_among}
 use Rattle.jv_model.specs.client.OpForms.{is_write}
 use Rattle.jv_volume.specs.Holding.{IsHoldable}
-use Rattle.jv_shared.specs.Shared.{Known, Shared}
+use Rattle.jv_shared.specs.Shared.{Known, Shared, depot_in}
 use Rattle.jv_handles.specs.Handles.{inode_here}
 use Rattle.jv_handles.proofs.HandleLaws.{handles-close}
 use Rattle.jv_client.specs.ClientValue.{ClientValue, crashed}
 use Rattle.jv_client.specs.Held.{IsHeld, Holds, is_last_here}
 use Rattle.jv_client.specs.Ending.{closed, ended, finished_here, refused_here, told_here, without}
+use Rattle.jv_client.proofs.DirectLaws.{direct-with_file}
 use Rattle.jv_client.proofs.LastLaws.{inode-same, is_last-same}
 use Rattle.jv_client.proofs.HeldLaws.{held-doing, holds-doing, holds-unmounted}
+use Rattle.jv_client.proofs.NextSegmentLaws.{kept-some}
 
 -- a write that is done keeps its bytes
 abbrev pub keeps_bytes : Op → Told → Bool
@@ -53,7 +55,6 @@ module _ (g : Known) (v : Shared) (count : ℕ) where
     held-closed : (handle : ℕ) → IsHeld g v (record (finished (op.Close handle) m) { doing = None }) count (closed handle h)
     held-closed handle = record {
       session = held.session;
-      direct = held.direct;
       removed = λ inode.
           ap (λ b. is_among inode (if b then without (inode_at m handle) m.sustained else m.sustained)) (is_last-same g v m count h held handle)
           ∙ ap (λ gone. is_among inode (if is_last_here h handle then without gone m.sustained else m.sustained)) (inode-same g v m count h held handle)
@@ -61,10 +62,18 @@ module _ (g : Known) (v : Shared) (count : ℕ) where
       handles = handles-close g v m.views count handle m.handles h.handles held.handles;
       views = held.views;
       pending = held.pending;
+      direct = direct-with_file v.yard.setting.block (depot_in v) m.writeback h.handles held.direct handle None tt;
     }
 
   pub held-unmounted : (h : ClientValue) → IsHeld g v unmounted count (crashed h)
-  held-unmounted h = record { session = refl; direct = refl; removed = λ inode. refl; handles = tt; views = tt; pending = refl }
+  held-unmounted h = record {
+    session = refl;
+    removed = λ inode. refl;
+    handles = tt;
+    views = tt;
+    pending = refl;
+    direct = record { mode = refl; seen = tt };
+  }
 
   held-finished : (o : Op) (m : ModelClient) (h : ClientValue) → is_write o ≡ false → IsHeld g v m count h
       → IsHeld g v (record (finished o m) { doing = None }) count (finished_here o h)
@@ -108,11 +117,11 @@ module _ (g : Known) (v : Shared) (count : ℕ) where
       (record h { pending = pending_of_others inode h.pending; doing = None })
   held-others inode m h held = record {
     session = held.session;
-    direct = held.direct;
     removed = held.removed;
     handles = held.handles;
     views = held.views;
     pending = ap (pending_of_others inode) held.pending;
+    direct = held.direct;
   }
 
   held-refused : (fault : Fault) (m : ModelClient) (h : ClientValue) → IsHeld g v m count h
@@ -188,14 +197,8 @@ module _ (t : Tree) (m : ModelClient) (holds : Holds t m) where
   abbrev IsOfFile : PendingByte → Type 0
   IsOfFile b = IsHoldable t b.inode
 
-  kept-if : (test : Bool) (b : PendingByte) (bytes : List PendingByte) → IsOfFile b → AllByRecursion IsOfFile bytes
-      → AllByRecursion IsOfFile (if test then b ∷ bytes else bytes)
-  kept-if true b bytes own h = (own, h)
-  kept-if false b bytes own h = h
-
   others-held : (inode : ℕ) (bytes : List PendingByte) → AllByRecursion IsOfFile bytes → AllByRecursion IsOfFile (pending_of_others inode bytes)
-  others-held inode [] h = tt
-  others-held inode (b ∷ bytes) h = kept-if (not (b.inode == inode)) b (pending_of_others inode bytes) h.0 (others-held inode bytes h.1)
+  others-held inode bytes h = kept-some (IsHoldable t) (λ b. not (b.inode == inode)) bytes h
 
 holds-finished : (o : Op) (t : Tree) (m : ModelClient) → is_write o ≡ false → Holds t m → Holds t (record (finished o m) { doing = None })
 holds-finished op.Umount t m e holds = holds-unmounted t

@@ -19,8 +19,9 @@ use Rattle.jv_model.specs.journal.State.{State, after_told}
 use Rattle.jv_outside.specs.Store.{Store}
 use Rattle.jv_contents.specs.Flights.{Flight}
 use Rattle.jv_data.specs.Records.{TakesNumber}
+use Rattle.jv_shared.specs.Direct.{HasPut}
 use Rattle.jv_shared.specs.Flying.{Flies}
-use Rattle.jv_shared.specs.Shared.{HasStore, Known, Shared, with_size}
+use Rattle.jv_shared.specs.Shared.{HasStore, Known, Shared, depot_in, with_size}
 use Rattle.jv_steps.specs.IsStep.{at_stage}
 use Rattle.jv_requests.specs.Request.{Request}
 use Rattle.jv_requests.proofs.NumberLaws.{number-calm, number-never_bad, number-never_moved, number-refused, number-taken}
@@ -58,6 +59,7 @@ pub record Asked (now : ℕ) (h : ClientValue) (d : Doing) (before used : Shared
       (at_stage (InModel (quiets + 1) moment) (doing_of d) (s.clients h.id)) s.copied
   pub flies : Flies learned used (record { id = number; bytes = bytes; put = quiets })
   pub put : quiets ≤ block_count (length bytes) used.yard.setting.block
+  pub there : HasPut used.yard.setting.block (depot_in used) (record { id = number; bytes = bytes; put = quiets })
 
 module _ (now entry : ℕ) (h : ClientValue) (d : Doing) (before used : Shared) (segment : Segment)
     (quiets started id moment number : ℕ) (busy : h.doing ≡ Some d) (ready : IsReady h)
@@ -128,7 +130,9 @@ module _ (now entry : ℕ) (h : ClientValue) (d : Doing) (before used : Shared) 
             s.tree model s.copied) (sym (ap number_of flying)) asked.request;
         is_client = client-asks s.tree g before store asked.request.own asked.learned used asked.request.leads.kept m
             s.count (s.count + 1) h (omega arith) is d stage
-            (subst (IsOnWay asked.learned used) (sym flying) (asked.flies, asked.put)) tt;
+            (subst (IsOnWay asked.learned used) (sym flying) (asked.flies, asked.put))
+            (subst (λ (o : Option Flight). IfSome o (HasPut used.yard.setting.block (depot_in used))) (sym flying) asked.there)
+            tt;
         holds = holds-doing s.tree m model.doing holds;
       })
 
@@ -169,6 +173,7 @@ module _ (now entry : ℕ) (h : ClientValue) (d : Doing) (before : Shared) (keep
       flies = number-taken_flies s g before store h.id now (doing_of d) busy_in segment next_in started (ap stage_of at)
           keeper sid own_in given takes bytes;
       put = omega arith;
+      there = λ index none. absurd (omega (arith, none));
     }
 
     refused_in : (fault : TxFault) → TakesNumber sid before.keeper keeper (Err fault)

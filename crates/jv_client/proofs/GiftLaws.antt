@@ -11,7 +11,7 @@ use Rattle.jv_model.specs.journal.State.{Gift, NewSession, NewHandle, Nothing, g
 use Rattle.jv_model.specs.Lists.{is_among}
 use Rattle.jv_volume.specs.Holding.{IsHoldable}
 use Rattle.jv_links.specs.Removals.{is_inode}
-use Rattle.jv_shared.specs.Shared.{Known, Shared}
+use Rattle.jv_shared.specs.Shared.{Known, Shared, depot_in}
 use Rattle.jv_handles.specs.Handles.{new_handle}
 use Rattle.jv_handles.specs.Held.{AreHandles}
 use Rattle.jv_handles.proofs.HandleLaws.{handles-later, handles-opened}
@@ -20,6 +20,7 @@ use Rattle.jv_steps.proofs.GiftLaws.{IsDirect, direct-given}
 use Rattle.jv_client.specs.ClientValue.{ClientValue}
 use Rattle.jv_client.specs.Held.{IsHeld, Holds}
 use Rattle.jv_client.specs.Transacting.{handles_given, session_given, sustained_with}
+use Rattle.jv_client.proofs.DirectLaws.{direct-with_file, has-new}
 use Rattle.jv_client.proofs.EndingLaws.{open-with_file}
 
 -- a handle is the client's free one, and on a file
@@ -45,11 +46,14 @@ module _ (g : Known) (v : Shared) (t : Tree) (count : ℕ) (what : Does) (gone :
       → IsHeld g v (given (count + 1) what gift kept_client) (count + 1) (given_to gift)
   held-given (NewSession sid) direct fits held = record {
     session = refl;
-    direct = direct-given (count + 1) what (NewSession sid) kept_client direct held.direct;
     removed = same;
     handles = handles-later g v m.views count (count + 1) (omega arith) m.handles h.handles held.handles;
     views = views-later count (count + 1) m.views (omega arith) held.views;
     pending = held.pending;
+    direct = record {
+      mode = direct-given (count + 1) what (NewSession sid) kept_client direct held.direct.mode;
+      seen = held.direct.seen;
+    };
   }
   held-given (NewHandle handle inode) direct fits held =
       let views = views-later count (count + 1) m.views (omega arith) held.views in
@@ -59,20 +63,21 @@ module _ (g : Known) (v : Shared) (t : Tree) (count : ℕ) (what : Does) (gone :
       in
       record {
         session = held.session;
-        direct = held.direct;
         removed = same;
         handles = subst (λ n. AreHandles g v m.views (count + 1) (with_file handle (Some file) m.handles)
             (with_file n (Some new) h.handles)) fits.0 table;
         views = views;
         pending = held.pending;
+        direct = direct-with_file v.yard.setting.block (depot_in v) m.writeback h.handles held.direct
+            (free_handle h.handles) (Some new) (has-new v.yard.setting.block (depot_in v) inode (count + 1));
       }
   held-given Nothing direct fits held = record {
     session = held.session;
-    direct = held.direct;
     removed = same;
     handles = handles-later g v m.views count (count + 1) (omega arith) m.handles h.handles held.handles;
     views = views-later count (count + 1) m.views (omega arith) held.views;
     pending = held.pending;
+    direct = held.direct;
   }
 
 -- the model's client has nothing open but files

@@ -45,11 +45,11 @@ pub held-later : (g : Known) (v : Shared) (m : ModelClient) (count later : ℕ) 
     → IsHeld g v m count c → IsHeld g v m later c
 held-later g v m count later c le h = record {
   session = h.session;
-  direct = h.direct;
   removed = h.removed;
   handles = handles-later g v m.views count later le m.handles c.handles h.handles;
   views = views-later count later m.views le h.views;
   pending = h.pending;
+  direct = h.direct;
 }
 
 -- an answer of a reading keeps no bytes
@@ -110,11 +110,11 @@ module _ (block : ℕ) (h : ClientValue) (d : Doing) (offset len : ℕ) (cache :
     held-cached : IsHeld g v m count (record h { handles = handles; cache = Some later })
     held-cached = record {
       session = held.session;
-      direct = held.direct;
       removed = held.removed;
       handles = held.handles;
       views = held.views;
       pending = held.pending;
+      direct = held.direct;
     }
 
     cached-later : IsCacheOf g.sizes v.yard.setting.block g.blocks later
@@ -135,7 +135,7 @@ module _ (block : ℕ) (h : ClientValue) (d : Doing) (offset len : ℕ) (cache :
           → IsClient g v (at_stage (ModelReading 0) (doing_of d) m) count (going_on handles later f need d h)
       client-on f need goes =
           moved-client g v count m (record h { handles = handles; cache = Some later }) d (Reading f need) held-cached
-          cached-later tt
+          cached-later tt tt
           (subst (λ o. IsSomeAnd o (λ (handle : Handle). (f.block ≡ v.yard.setting.block)
           × IsFetching g.blocks handle.views (asked_of d.does) f)) (sym opened) (
             goes.block ∙ own_block,

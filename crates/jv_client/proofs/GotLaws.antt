@@ -30,8 +30,9 @@ use Rattle.jv_yard.specs.declared.faults.YardFault.TheVariants.{Depot, Shelf, Me
 use Rattle.jv_yard.specs.BlockCalls.{GetsBlock}
 use Rattle.jv_yard.specs.Refusals.{Refuses}
 use Rattle.jv_yard.specs.YardValue.{YardValue}
+use Rattle.jv_shared.specs.Direct.{HasNamed}
 use Rattle.jv_shared.specs.Keeping.{KeepsShared}
-use Rattle.jv_shared.specs.Shared.{HasStore, Known, Shared}
+use Rattle.jv_shared.specs.Shared.{HasStore, Known, Shared, depot_in}
 use Rattle.jv_shared.proofs.SameLaws.{same-gets, same-stays}
 use Rattle.jv_handles.specs.declared.handle.Handle.{Handle}
 use Rattle.jv_handles.specs.Held.{IsHandle, IsSeen, SamePlace}
@@ -68,6 +69,7 @@ use Rattle.jv_client.proofs.CacheUseLaws.{cache-read}
 use Rattle.jv_client.specs.YardUse.{PutsNone, YardUse}
 use Rattle.jv_client.proofs.AnswerLaws.{same-yard, uses-none}
 use Rattle.jv_client.proofs.EndingLaws.{holds-told}
+use Rattle.jv_client.proofs.DirectLaws.{has-open, has-view}
 use Rattle.jv_client.proofs.HeldLaws.{doing_of}
 use Rattle.jv_client.proofs.KeptLaws.{cache-goes, held-goes}
 use Rattle.jv_client.proofs.LooksLaws.{looks-on, needs-looked}
@@ -220,6 +222,12 @@ module _ (now entry block : ℕ) (h : ClientValue) (d : Doing) (offset len : ℕ
     sized = fetches_show.block_sized g.sizes file.views fetch.block (asked_parts offset len) b
         (fetches_show.sized g before m.views s.count handle (file_by file) file named) of_view
 
+    -- the depot has what the view names
+    names_there : HasNamed before.yard.setting.block (depot_in before) of_view.view.list
+    names_there =
+        has-view before.yard.setting.block (depot_in before) file of_view.window of_view.view of_view.seen
+        (has-open before.yard.setting.block (depot_in before) h.handles handle file asks.reads.opened client.held.direct.seen)
+
     -- it is there, with the bytes that are known
     pub got : (value : Option (List ℕ)) → GetsBlock h.id name before.yard yard (Ok value) → GotBlock g b value
     got value gets =
@@ -232,7 +240,7 @@ module _ (now entry block : ℕ) (h : ClientValue) (d : Doing) (offset len : ℕ
         let of : IsNamed of_view.view.list before.yard.setting.block b =
         subst (λ n. IsNamed of_view.view.list n b) own_block of_view.named in
         got-block s g before has h.id yard of_view.window of_view.view.length of_view.view.list there.0.content
-        there.2.shows b of.r of.there of.some of.below of.is low value gets
+        there.2.shows names_there b of.r of.there of.some of.below of.is low value gets
 
     known : (bytes : List ℕ) → GetsBlock h.id name before.yard yard (Ok (Some bytes)) → g.blocks b ≡ Some bytes
     known bytes gets = let is = got (Some bytes) gets in is.known ∙ sym is.is

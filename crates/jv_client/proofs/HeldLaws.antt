@@ -43,11 +43,11 @@ pub held-doing : (g : Known) (v : Shared) (m : ModelClient) (count : ℕ) (c : C
     → IsHeld g v (record m { doing = doing }) count (record c { doing = mine })
 held-doing g v m count c doing mine h = record {
   session = h.session;
-  direct = h.direct;
   removed = h.removed;
   handles = h.handles;
   views = h.views;
   pending = h.pending;
+  direct = h.direct;
 }
 
 -- ---- what is held stays holdable

@@ -20,8 +20,9 @@ use Rattle.jv_volume.specs.TypedRows.{Rows}
 use Rattle.jv_volume.specs.Slices.{next_slice}
 use Rattle.jv_cache.specs.Cached.{Cached}
 use Rattle.jv_contents.specs.Flights.{Flight}
+use Rattle.jv_shared.specs.Direct.{HasPut}
 use Rattle.jv_shared.specs.Keeping.{KeepsShared}
-use Rattle.jv_shared.specs.Shared.{HasStore, Known, Shared}
+use Rattle.jv_shared.specs.Shared.{HasStore, Known, Shared, depot_in}
 use Rattle.jv_shared.proofs.KeepingLaws.{flies-stay}
 use Rattle.jv_shared.proofs.StoreLaws.{rows_are}
 use Rattle.jv_handles.specs.declared.handle.Handle.{Handle}
@@ -40,6 +41,7 @@ use Rattle.jv_client.specs.ClientValue.{ClientValue}
 use Rattle.jv_client.specs.Ending.{ended, finished_here, refused_here, told_here}
 use Rattle.jv_client.specs.Held.{GoesOn, IsClient, IsDoing, IsHeld, IsOnWay, flight_by, flight_of, stage_of}
 use Rattle.jv_client.specs.UnderWay.{moved_to}
+use Rattle.jv_client.proofs.DirectLaws.{direct-goes, put-goes}
 use Rattle.jv_client.proofs.EndingLaws.{held-told, keeps_bytes}
 use Rattle.jv_client.proofs.HeldLaws.{doing_of, held-doing, is_doing_of}
 
@@ -60,6 +62,8 @@ module _ (g : Known) (v : Shared) (count : ℕ) where
     flight = subst (λ (o : Option Doing). IsOnWay g v (flight_of (record c { doing = o }))) (sym none) tt;
     reading = subst (λ (o : Option Doing). IfSome o (λ (d : Doing). GoesOn g v c d d.progress)) (sym none) tt;
     cache = cached;
+    put = subst (λ (o : Option Doing). IfSome (flight_of (record c { doing = o })) (HasPut v.yard.setting.block (depot_in v)))
+        (sym none) tt;
   }
 
   goes-moved : (h : ClientValue) (d : Doing) (p : Progress) → GoesOn g v h d p
@@ -69,14 +73,16 @@ module _ (g : Known) (v : Shared) (count : ℕ) where
 
   -- an operation that made a request, and has gone as far as this
   pub moved-client : (m : ModelClient) (h : ClientValue) (d : Doing) (p : Progress) → IsHeld g v m count h
-      → IsCached g v h.cache → IsOnWay g v (flight_by h.pending d.flush p) → GoesOn g v h d p
+      → IsCached g v h.cache → IsOnWay g v (flight_by h.pending d.flush p)
+      → IfSome (flight_by h.pending d.flush p) (HasPut v.yard.setting.block (depot_in v)) → GoesOn g v h d p
       → IsClient g v (at_stage (stage_of p) (doing_of d) m) count (record h { doing = Some (moved_to p d) })
-  moved-client m h d p held cached flight goes = record {
+  moved-client m h d p held cached flight put goes = record {
     held = held-doing g v m count h (Some (record (doing_of d) { stage = stage_of p; moved = true })) (Some (moved_to p d)) held;
     doing = is_doing_of (moved_to p d);
     flight = flight;
     reading = goes-moved h d p goes;
     cache = cached;
+    put = put;
   }
 
   -- an operation that has ended
@@ -139,11 +145,11 @@ module _ (t : Tree) (g : Known) (v : Shared) (store : HasStore t g v) (own : ℕ
       → IsHeld g' v' m later c
   held-goes m count later c le h = record {
     session = h.session;
-    direct = h.direct;
     removed = h.removed;
     handles = handles-stay t g v store own g' v' k m.views count later le m.handles c.handles h.handles;
     views = views-later count later m.views le h.views;
     pending = h.pending;
+    direct = direct-goes own v v' k.setting k.depot m.writeback c.handles h.direct;
   }
 
   -- the size of a slice that has a block stays
@@ -192,13 +198,15 @@ module _ (t : Tree) (g : Known) (v : Shared) (store : HasStore t g v) (own : ℕ
       flight = flight-goes (flight_of c) apart is.flight;
       reading = doing-goes c c.doing is.reading;
       cache = cache-goes c.cache is.cache;
+      put = put-goes own v v' k.setting k.depot (flight_of c) is.put;
     }
 
     -- the step's own client, whose operation goes on
-    pub client-asks : (d : Doing) (p : Progress) → IsOnWay g' v' (flight_by c.pending d.flush p) → GoesOn g' v' c d p
+    pub client-asks : (d : Doing) (p : Progress) → IsOnWay g' v' (flight_by c.pending d.flush p)
+        → IfSome (flight_by c.pending d.flush p) (HasPut v'.yard.setting.block (depot_in v')) → GoesOn g' v' c d p
         → IsClient g' v' (at_stage (stage_of p) (doing_of d) m) later (record c { doing = Some (moved_to p d) })
-    client-asks d p flight goes =
-        moved-client g' v' later m c d p (held-goes m count later c le is.held) (cache-goes c.cache is.cache) flight goes
+    client-asks d p flight put goes =
+        moved-client g' v' later m c d p (held-goes m count later c le is.held) (cache-goes c.cache is.cache) flight put goes
 
     -- or ends
     pub client-ended : IsClient g' v' (record m { doing = None }) later (ended c)

@@ -1,4 +1,5 @@
 -- Laws about clients.
+pub mod DirectLaws
 pub mod HeldLaws
 pub mod LastLaws
 pub mod EndingLaws

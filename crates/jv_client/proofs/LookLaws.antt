@@ -22,9 +22,10 @@ use Rattle.jv_cache.specs.Cached.{Cached}
 use Rattle.jv_contents.specs.Blocks.{Blocks, known_by}
 use Rattle.jv_data.specs.declared.looking.View.{View as Looked}
 use Rattle.jv_data.specs.Records.{LooksAt}
+use Rattle.jv_shared.specs.Direct.{HasNamed}
 use Rattle.jv_shared.specs.Keeping.{HoldsSame, KeepsShared}
 use Rattle.jv_shared.specs.Seen.{IsView}
-use Rattle.jv_shared.specs.Shared.{HasStore, Known, Shared}
+use Rattle.jv_shared.specs.Shared.{HasStore, Known, Shared, depot_in}
 use Rattle.jv_shared.proofs.SameLaws.{same-stays}
 use Rattle.jv_handles.specs.declared.handle.Handle.{Handle}
 use Rattle.jv_handles.specs.declared.views.View.{View}
@@ -46,7 +47,7 @@ use Rattle.jv_steps.specs.Stages.{MayRead}
 use Rattle.jv_steps.specs.IsStep.{at_stage}
 use Rattle.jv_steps.proofs.LookStepLaws.{window-needed}
 use Rattle.jv_requests.specs.Request.{Request}
-use Rattle.jv_requests.proofs.LookLaws.{look-answered, look-request, look-shows, looked-content, looked-still}
+use Rattle.jv_requests.proofs.LookLaws.{look-answered, look-named, look-request, look-shows, looked-content, looked-still}
 use Rattle.jv_client.specs.declared.doing.Doing.{Doing}
 use Rattle.jv_client.specs.declared.made.Made.{Made}
 use Rattle.jv_client.specs.declared.made.Made.TheVariants as made
@@ -62,6 +63,7 @@ use Rattle.jv_client.proofs.ReadingLaws.{lacks-later}
 use Rattle.jv_fetching.proofs.CacheLaws.{LooksUp, finds_looks, for_looks}
 use Rattle.jv_client.proofs.LooksLaws.{needs-found, on-after}
 use Rattle.jv_client.proofs.AnswerLaws.{same-yard}
+use Rattle.jv_client.proofs.DirectLaws.{direct-looked}
 use Rattle.jv_client.proofs.EndingLaws.{holds-told}
 use Rattle.jv_client.proofs.HeldLaws.{doing_of}
 use Rattle.jv_client.proofs.KeptLaws.{held-goes}
@@ -219,6 +221,10 @@ module _ (now entry block : ℕ) (h : ClientValue) (d : Doing) (offset len : ℕ
         (look-shows s h.id now md busy offset len asks.does 0 may (file_by file) in_use window to_look g before has
         keeper 0 looked in_rows)
 
+    names_there : HasNamed used.yard.setting.block (depot_in used) looked.list
+    names_there = look-named s h.id now md busy offset len asks.does 0 may (file_by file) in_use window to_look g before has
+        keeper 0 looked in_rows
+
     -- ---- the client in memory stands for the model's then
 
     views_old : AllByRecursion (λ (view : ModelView). view.entry ≤ s.count + 1) (taken ∷ m.views)
@@ -229,12 +235,13 @@ module _ (now entry block : ℕ) (h : ClientValue) (d : Doing) (offset len : ℕ
         let goes = held-goes s.tree g before has 0 g used stays m s.count s.count h (omega arith) client.held in
         record {
           session = goes.session;
-          direct = goes.direct;
           removed = goes.removed;
           handles = handles-looked g used m.views s.count taken view number (sym number) shown m.handles h.handles
               (file_by file) in_use refl goes.handles;
           views = views_old;
           pending = goes.pending;
+          direct = direct-looked used.yard.setting.block (depot_in used) m.writeback h.handles goes.direct handle window view
+              names_there;
         }
 
     named_then : IsHandle g used (taken ∷ m.views) (s.count + 1) handle (file_by file) seen

@@ -2,7 +2,7 @@
 -- carrier or the depot fails, and the operation ends.
 use Rattle.std.proofs.Common.{◌≡◌, ℕ, suc, ◌+◌, ◌-◌, ◌^◌, ◌≤◌, ◌<◌, ◌==◌, List, [], ◌∷◌, ◌++◌, length, Option}
 use Rattle.std.proofs.Common.{Some, Result, Ok, Err, refl, sym, ap, subst, ◌∙◌, arith}
-use Rattle.std.specs.Prelude.{if◌then◌else◌}
+use Rattle.std.specs.Prelude.{IfSome, if◌then◌else◌}
 use Rattle.std.specs.Option.{option_map}
 use Rattle.std.proofs.lemmas.Nat.{mul-le}
 use Rattle.jv_model.specs.declared.limits.TheConstants.{WINDOW}
@@ -24,15 +24,16 @@ use Rattle.jv_contents.specs.Flights.{Flight, flight_block, flight_bytes}
 use Rattle.jv_yard.specs.declared.note.What.TheVariants.{Put}
 use Rattle.jv_yard.specs.BlockCalls.{note_of}
 use Rattle.jv_yard.specs.YardValue.{YardValue}
+use Rattle.jv_shared.specs.Direct.{HasPut}
 use Rattle.jv_shared.specs.Flying.{Flies}
 use Rattle.jv_shared.specs.Lengths.{IsLength}
 use Rattle.jv_shared.proofs.FlyingLaws.{slice_block-is}
-use Rattle.jv_shared.specs.Shared.{HasStore, Known, Shared, with_block}
+use Rattle.jv_shared.specs.Shared.{HasStore, Known, Shared, depot_in, with_block}
 use Rattle.jv_steps.specs.IsStep.{at_stage}
 use Rattle.jv_flushing.specs.declared.putting.PutFault.{PutFault}
 use Rattle.jv_flushing.specs.declared.putting.PutFault.TheVariants.{Carrier, Depot, Memory}
 use Rattle.jv_flushing.specs.Putting.{PutsFlight, fault_of}
-use Rattle.jv_flushing.proofs.PutStepLaws.{put-step_flies, unput-same}
+use Rattle.jv_flushing.proofs.PutStepLaws.{put-step_flies, put-step_has, unput-same}
 use Rattle.jv_flushing.proofs.UsedLaws.{PutUses, put-uses, put_fails}
 use Rattle.jv_requests.specs.Request.{Request}
 use Rattle.jv_requests.proofs.PutLaws.{put-fails, put-request}
@@ -231,6 +232,9 @@ module _ (now entry : ℕ) (h : ClientValue) (d : Doing) (before : Shared) (yard
               (put-step_flies before flight h.id now yard carrier s.tree g store f small more puts);
           put = (let most : quiets ≤ block_count (length bytes) before.yard.setting.block = omega (arith, more, some) in
               subst (λ x. quiets ≤ block_count (length bytes) x) (sym (ap (λ setting. setting.block) uses.setting)) most);
+          there = subst (λ n. HasPut yard.setting.block (depot_in then_shared) (record { id = id; bytes = bytes; put = n })) count
+              (put-step_has before flight h.id now yard carrier s.tree g store f small more puts
+              (subst (λ (o : Option Flight). IfSome o (HasPut before.yard.setting.block (depot_in before))) flying is.put));
         }
 
     -- The block was put, and the operation goes on.

@@ -38,11 +38,11 @@ pub held-cache : (g : Known) (v : Shared) (m : ModelClient) (count : ℕ) (h : C
     (doing : Option Doing) → IsHeld g v m count h → IsHeld g v m count (record h { cache = cache; doing = doing })
 held-cache g v m count h cache doing held = record {
   session = held.session;
-  direct = held.direct;
   removed = held.removed;
   handles = held.handles;
   views = held.views;
   pending = held.pending;
+  direct = held.direct;
 }
 
 module _ (now entry block : ℕ) (h : ClientValue) (d : Doing) (offset len : ℕ) (cache : Cached) (fetch : Fetching)

@@ -60,11 +60,11 @@ module _ (g : Known) (v : Shared) (m : ModelClient) (count : ℕ) (h : ClientVal
   pub held-cached : IsHeld g v m count h → IsHeld g v m count recached
   held-cached held = record {
     session = held.session;
-    direct = held.direct;
     removed = held.removed;
     handles = held.handles;
     views = held.views;
     pending = held.pending;
+    direct = held.direct;
   }
 
   goes-cached : (d : Doing) (p : Progress) → GoesOn g v h d p → GoesOn g v recached d p
@@ -84,6 +84,7 @@ module _ (g : Known) (v : Shared) (m : ModelClient) (count : ℕ) (h : ClientVal
     flight = is.flight;
     reading = reading-cached h.doing is.reading;
     cache = known;
+    put = is.put;
   }
 
 -- ---- an answer without a request

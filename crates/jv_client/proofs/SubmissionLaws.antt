@@ -123,6 +123,7 @@ module _ (g : Known) (v : Shared) (m : ModelClient) (count : ℕ) (c : ClientVal
     flight = tt;
     reading = tt;
     cache = h.cache;
+    put = tt;
   }
 
   -- the refusal by a row that is the operation's

@@ -19,7 +19,6 @@ use Rattle.jv_model.specs.tree.Caller.{Caller, Outcome}
 use Rattle.jv_model.specs.tree.TreeAct.{tree_act}
 use Rattle.jv_model.specs.client.ModelClient.{ModelClient, free_handle}
 use Rattle.jv_model.specs.client.Profile.{handle_of}
-use Rattle.jv_model.specs.client.Submission.{is_flushed}
 use Rattle.jv_model.specs.journal.State.{State, Gift, after_told, caller, gift_of, is_refused}
 use Rattle.jv_model.specs.journal.State.{newly_sustained, transacted}
 use Rattle.jv_model.specs.journal.Steps.{entry_of_gift, told_of, transacts}
@@ -60,7 +59,7 @@ use Rattle.jv_client.proofs.LastLaws.{is_last-same}
 use Rattle.jv_client.proofs.EndingLaws.{holds-told, keeps_bytes}
 use Rattle.jv_client.proofs.KeptLaws.{cache-goes, held-goes, told-client}
 use Rattle.jv_client.proofs.ClosingLaws.{closes-given}
-use Rattle.jv_client.proofs.DueLaws.{IsFirst, MakesOne, OfMount, OfMetadata, first-flushed, first-stage}
+use Rattle.jv_client.proofs.DueLaws.{IsFirst, MakesOne, OfMount, OfMetadata, first-stage, model-flushed}
 use Rattle.jv_client.proofs.DueLaws.{makes-one, one-transacts, transaction-first}
 use Rattle.jv_client.proofs.FormLaws.{ready-closes}
 use Rattle.jv_client.proofs.UnmadeLaws.{UnmadeLeads, unmade, uses-keeper}
@@ -175,12 +174,6 @@ module _ (now : ℕ) (h : ClientValue) (d : Doing) (busy : h.doing ≡ Some d) (
     pub holds-files : HoldsFiles who.held s.tree
     holds-files = λ inode among there. (holds.opened inode among).file there
 
-    pub model-busy : (s.clients h.id).doing ≡ Some (doing_of d)
-    model-busy = client-doing g v mine s.count h d busy is
-
-    pub model-flushed : is_flushed (doing_of d).flush mine.pending ≡ true
-    model-flushed = first-flushed h d first mine.pending is.held.pending
-
     pub model-transacts : transacts mine (doing_of d) ≡ true
     model-transacts =
         one-transacts mine (doing_of d) h d refl refl (is_last-same g v mine s.count h is.held (handle_of d.op)) makes
@@ -197,7 +190,8 @@ module _ (now : ℕ) (h : ClientValue) (d : Doing) (busy : h.doing ≡ Some d) (
             → (is_sustained (transacted s h.id now d.op).tree who.sid inode && not
             (is_sustained s.tree who.sid inode)) ≡ is_inode answer.kept inode
         by_takes true e one =
-            keeps-told s h.id now (doing_of d) model-busy first.started (first-stage h d first) model-flushed
+            keeps-told s h.id now (doing_of d) (client-doing g v mine s.count h d busy is)
+            first.started (first-stage h d first) (model-flushed h d first g v mine s.count is)
             model-transacts g v has 0 keeper holds-files answer.kept one inode
         by_takes false e none =
             sustains_none s.tree who d.op e inode ∙ sym (ap (λ kept. is_inode kept inode) none)
@@ -283,13 +277,13 @@ module _ (now : ℕ) (h : ClientValue) (d : Doing) (busy : h.doing ≡ Some d) (
     made-leads s g has holds is =
         let who = caller (s.clients h.id) h.id now d.op in
         let known = caller-is s g has holds is in
-        let busy = model-busy s g has holds is in
+        let doing = client-doing g v (s.clients h.id) s.count h d busy is in
         let stage = first-stage h d first in
-        let flushed = model-flushed s g has holds is in
+        let none_left = model-flushed h d first g v (s.clients h.id) s.count is in
         let transacts = model-transacts s g has holds is in
         let files = holds-files s g has holds is in
         let tx = tried.does who known in
-        let request = transaction-request s h.id now (doing_of d) busy first.started stage flushed transacts g v has
+        let request = transaction-request s h.id now (doing_of d) doing first.started stage none_left transacts g v has
         (in_flight h) keeper (HoldsFiles who.held) files (λ (answer : Answer). answer.reply) answer tx in
         leads-made s g has holds is answer request.0 request.1 (tried.says who known) request.2
 
@@ -322,16 +316,18 @@ module _ (now : ℕ) (h : ClientValue) (d : Doing) (busy : h.doing ≡ Some d) (
     unmade-leads (RefusedBy fault) tried =
         let who = caller (s.clients h.id) h.id now d.op in
         let tx = tried.does who (caller-is s g has holds is) in
-        let refused = transaction-not_made s h.id now (doing_of d) (model-busy s g has holds is) first.started
-        (first-stage h d first) (model-flushed s g has holds is) (model-transacts s g has holds is) g v has
+        let refused = transaction-not_made s h.id now (doing_of d)
+        (client-doing g v (s.clients h.id) s.count h d busy is) first.started (first-stage h d first) (model-flushed h d first g v (s.clients h.id) s.count is)
+        (model-transacts s g has holds is) g v has
         (in_flight h) keeper (HoldsFiles who.held) (holds-files s g has holds is)
         (λ (answer : Answer). answer.reply) fault tx in
         record {
           request = request-lands s g g v used h.id now (in_flight h) (in_flight h)
               (Meta ∷ Answered (ToldRefused fault) ∷ []) (Done (reply.Refused fault)) s.tree
               (after_told d.op (ToldRefused fault) (s.clients h.id)) s.copied refused;
-          calm = transaction-not_made_calm s h.id now (doing_of d) (model-busy s g has holds is) first.started
-              (first-stage h d first) (model-flushed s g has holds is) (model-transacts s g has holds is) g v has
+          calm = transaction-not_made_calm s h.id now (doing_of d)
+              (client-doing g v (s.clients h.id) s.count h d busy is) first.started (first-stage h d first) (model-flushed h d first g v (s.clients h.id) s.count is)
+              (model-transacts s g has holds is) g v has
               (in_flight h) keeper (HoldsFiles who.held) (holds-files s g has holds is)
               (λ (answer : Answer). answer.reply) fault tx;
         }

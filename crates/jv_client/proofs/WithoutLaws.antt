@@ -9,13 +9,14 @@ use Rattle.jv_model.specs.client.ModelClient.{ModelClient, views_without}
 use Rattle.jv_model.specs.journal.State.{without_committed}
 use Rattle.jv_volume.specs.Holding.{IsHoldable, Stays}
 use Rattle.jv_shared.specs.Keeping.{KeepsShared}
-use Rattle.jv_shared.specs.Shared.{HasStore, Known, Shared}
+use Rattle.jv_shared.specs.Shared.{HasStore, Known, Shared, depot_in}
 use Rattle.jv_handles.specs.Handles.{unseen}
 use Rattle.jv_handles.proofs.HandleLaws.{handles-forgotten, handles-stay}
 use Rattle.jv_handles.proofs.SeenLaws.{views-later, views-left}
 use Rattle.jv_client.specs.ClientValue.{ClientValue}
 use Rattle.jv_client.specs.Held.{IsHeld, Holds}
 use Rattle.jv_client.specs.Flushing.{bytes_of, without_segment}
+use Rattle.jv_client.proofs.DirectLaws.{direct-goes, direct-unseen}
 use Rattle.jv_client.proofs.HeldLaws.{holds-later}
 use Rattle.jv_client.proofs.NextSegmentLaws.{kept-some}
 
@@ -39,7 +40,6 @@ module _ (segment : Segment) where
         → IsHeld g' v' (left_of_model m) later (without_segment segment h)
     held-without m count later h le held = record {
       session = held.session;
-      direct = held.direct;
       removed = held.removed;
       handles =
           handles-stay t g v store own g' v' k (views_without segment.inode m.views) count later le m.handles
@@ -49,6 +49,9 @@ module _ (segment : Segment) where
           views-later count later (views_without segment.inode m.views) le
           (views-left segment.inode count m.views held.views);
       pending = ap (without_range segment.inode segment.from segment.len) held.pending;
+      direct =
+          direct-goes own v v' k.setting k.depot m.writeback (map (unseen segment.inode) h.handles)
+          (direct-unseen v.yard.setting.block (depot_in v) m.writeback h.handles held.direct segment.inode);
     }
 
   pub holds-without : (t after : Tree) (m : ModelClient) → Stays t after → Holds t m → Holds after (left_of_model m)

@@ -92,13 +92,13 @@ module _ (m : ModelClient) (h : ClientValue) (handle offset : ℕ) (bytes : List
       client-idle g v count (model_wrote handle offset bytes m) (wrote handle offset bytes h) refl refl
       (record {
         session = held.session;
-        direct = held.direct;
         removed = held.removed;
         handles = held.handles;
         views = held.views;
         pending =
             ap (λ inode. written inode offset bytes m.pending) (inode-same g v m count h held handle)
             ∙ ap (written (inode_here h.handles handle) offset bytes) held.pending;
+        direct = held.direct;
       })
       cached
 

@@ -23,14 +23,16 @@ use Rattle.jv_fetching.specs.Calls.{IsCacheOf}
 use Rattle.jv_handles.specs.declared.handle.Handle.{Handle}
 use Rattle.jv_handles.specs.Handles.{held_here, inode_here}
 use Rattle.jv_handles.specs.Held.{AreHandles, SamePlace}
+use Rattle.jv_shared.specs.Direct.{HasPut}
 use Rattle.jv_shared.specs.Flying.{Flies}
-use Rattle.jv_shared.specs.Shared.{Known, Shared}
+use Rattle.jv_shared.specs.Shared.{Known, Shared, depot_in}
 use Rattle.jv_client.specs.declared.doing.Doing.{Doing}
 use Rattle.jv_client.specs.declared.doing.Flush.{Flush}
 use Rattle.jv_client.specs.declared.doing.Flush.TheVariants as flush
 use Rattle.jv_client.specs.declared.doing.Progress.{Progress}
 use Rattle.jv_client.specs.declared.doing.Progress.TheVariants as progress
 use Rattle.jv_client.specs.ClientValue.{ClientValue}
+use Rattle.jv_client.specs.Direct.{GoesDirect}
 
 -- what is committed first
 abbrev pub flush_of_code : Flush → ModelFlush
@@ -43,15 +45,16 @@ flush_of_code flush.All = OfAll
 abbrev pub segment_left : Flush → List PendingByte → Option Segment
 segment_left first pending = next_segment (flush_of_code first) pending
 
--- a client without its operation, after `count` entries
+-- A client without its operation, after `count` entries. `direct` holds while each block goes to
+-- the depot at once and none is removed.
 pub record IsHeld (g : Known) (v : Shared) (m : ModelClient) (count : ℕ)
     (c : ClientValue) : Type 0 where
   pub session : m.session ≡ c.session
-  pub direct : m.writeback ≡ false
   pub removed : (inode : ℕ) → is_among inode m.sustained ≡ is_among inode c.sustained
   pub handles : AreHandles g v m.views count m.handles c.handles
   pub views : AllByRecursion (λ (view : ModelView). view.entry ≤ count) m.views
   pub pending : m.pending ≡ c.pending
+  pub direct : GoesDirect v.yard.setting.block (depot_in v) m.writeback c.handles
 
 -- What a client has open, and what it wrote, is of inodes that were given to files.
 pub record Holds (t : Tree) (m : ModelClient) : Type 0 where
@@ -149,7 +152,8 @@ GoesOn g v c d (progress.Reading fetch need) =
     IsSomeAnd (file_of c.handles (handle_of d.op)) (λ (handle : Handle).
     (fetch.block ≡ v.yard.setting.block) × IsFetching g.blocks handle.views (asked_of d.does) fetch)
 
--- a client of the model is the one in memory, after `count` entries, over what clients share
+-- A client of the model is the one in memory, after `count` entries, over what clients share. `put`
+-- holds while each block goes to the depot at once and none is removed.
 pub record IsClient (g : Known) (v : Shared) (m : ModelClient) (count : ℕ)
     (c : ClientValue) : Type 0 where
   pub held : IsHeld g v m count c
@@ -157,6 +161,7 @@ pub record IsClient (g : Known) (v : Shared) (m : ModelClient) (count : ℕ)
   pub flight : IsOnWay g v (flight_of c)
   pub reading : IfSome c.doing (λ (d : Doing). GoesOn g v c d d.progress)
   pub cache : IfSome c.cache (IsCacheOf g.sizes v.yard.setting.block g.blocks)
+  pub put : IfSome (flight_of c) (HasPut v.yard.setting.block (depot_in v))
 
 -- the refusal of a call that begins an operation
 abbrev pub refused_with : Result (Unit {0}) (Op × Fault) → Option Fault

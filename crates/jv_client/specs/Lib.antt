@@ -2,6 +2,7 @@
 pub mod ClientValue
 pub mod Shared
 pub mod Built
+pub mod Direct
 pub mod Held
 pub mod Ending
 pub mod UnderWay

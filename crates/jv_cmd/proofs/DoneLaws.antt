@@ -12,7 +12,7 @@ use Rattle.jv_laws.proofs.JournalGrowthLaws.{begun_to-begun}
 use Rattle.jv_outside.proofs.StreamLaws.{Gains-nil}
 use Rattle.jv_outside.proofs.TicksLaws.{Passes-trans, Passes-zero}
 use Rattle.jv_contents.proofs.BlockLaws.{grows-then}
-use Rattle.jv_shared.specs.Shared.{present_in}
+use Rattle.jv_shared.specs.Shared.{depot_in}
 use Rattle.jv_client.specs.Makes.{faults_of}
 use Rattle.jv_session.specs.Lines.{BlocksStay, LineUses, device_failures}
 use Rattle.jv_session.specs.Stands.{ScheduleValue, fresh_schedule}
@@ -83,7 +83,7 @@ module _ (left : Option (List ℕ)) (before now after : StageValue) (n : ℕ) (t
             (AreBetween-append 0 (n + 1) now.journal o.acts
             (AreBetween-wider 0 n 0 (n + 1) now.journal (omega arith) (omega arith) on.own)
             (AreBetween-wider (n + 1) (n + 1) 0 (n + 1) o.acts (omega arith) (omega arith) o.own));
-        kept = grows-then (present_in before.devices) (present_in now.devices) (present_in after.devices) on.kept
+        kept = grows-then (depot_in before.devices) (depot_in now.devices) (depot_in after.devices) on.kept
             (comes_settled left before now after n text line s s' d a.asks a.uses.passes start w
             (λ p more. BlocksStay now.devices after.devices) a.kept);
         reaches = λ known more status t.

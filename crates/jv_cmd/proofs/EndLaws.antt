@@ -10,7 +10,7 @@ use Rattle.jv_model.specs.journal.Past.{Past, at_end, text_of}
 use Rattle.jv_outside.specs.Causes.{RoseTimes}
 use Rattle.jv_outside.specs.Stream.{Gains}
 use Rattle.jv_contents.proofs.BlockLaws.{grows-then}
-use Rattle.jv_shared.specs.Shared.{Shared, present_in}
+use Rattle.jv_shared.specs.Shared.{Shared, depot_in}
 use Rattle.jv_client.specs.Built.{is_built_line}
 use Rattle.jv_client.specs.Makes.{faults_of}
 use Rattle.jv_session.specs.Lines.{BlocksStay, BreaksAt, Cut, CutsLine, LineUses, StaysPut, device_failures}
@@ -201,7 +201,7 @@ module _ (left left' : Option (List ℕ)) (before now after : StageValue) (n : �
         (used now s) (used after s') size_cut (reaches_cut known status t) (cut_there known status t))) gains
 
     kept_cut : BlocksStay before.devices after.devices
-    kept_cut = grows-then (present_in before.devices) (present_in now.devices) (present_in after.devices) (d.whole start w).kept
+    kept_cut = grows-then (depot_in before.devices) (depot_in now.devices) (depot_in after.devices) (d.whole start w).kept
         (comes_settled left before now after n text line s s' d c.asks c.uses.passes start w
         (λ p more. BlocksStay now.devices after.devices)
         (λ p more stands next rest count clock. (c.stops p more stands next rest count clock).kept))

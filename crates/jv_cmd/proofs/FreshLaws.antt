@@ -36,7 +36,7 @@ known_same v fresh g t store =
     let some : 0 < v.yard.setting.block = (let least = long.least in omega (arith, least)) in
     let by_depot : t ≡ tree_with (known_by v.yard.setting.block (blocks_in v.yard.setting store.objects)) (typed store.rows) =
     store.tree ∙ tree-grows (typed store.rows) store.whole.slices v.yard.setting.block (blocks_in v.yard.setting store.objects) g.blocks
-    some store.there store.copies in
+    some store.direct store.copies in
     subst (λ (m : ObjectMap). HasStore (tree_with (known_by v.yard.setting.block (blocks_in v.yard.setting m)) (typed fresh.rows)) g v) objects
     (subst (λ (m : RowMap). HasStore (tree_with (known_by v.yard.setting.block (blocks_in v.yard.setting store.objects)) (typed m)) g v) rows
     (subst (λ (tree : Tree). HasStore tree g v) by_depot store))
@@ -85,16 +85,17 @@ IsClientAt-start g t v limits id k = record {
   is_client = record {
     held = record {
       session = refl;
-      direct = refl;
       removed = λ inode. refl;
       handles = tt;
       views = tt;
       pending = refl;
+      direct = record { mode = refl; seen = tt };
     };
     doing = tt;
     flight = tt;
     reading = tt;
     cache = tt;
+    put = tt;
   };
   holds = record { opened = λ inode is. cc; pending = tt };
 }

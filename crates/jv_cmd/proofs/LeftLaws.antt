@@ -138,7 +138,7 @@ module _ (t : Tree) (g : Known) (v w : Shared) (store : HasStore t g v)
     staged = store.staged;
     staged_are = ap (λ (h : Holding StagedMap). h.content) started.shelf_same ∙ blocks ∙ store.staged_are;
     there = subst (λ (s : Setting). HasBlocks s.block (typed store.rows) (blocks_in s store.objects))
-        (sym started.setting_is) store.there;
+        (sym started.setting_is) store.direct;
     kept = IsKept-started setting depot shelf w.yard started;
     alike = alike_left;
     below = below_left;

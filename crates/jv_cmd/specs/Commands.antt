@@ -9,6 +9,7 @@ use Rattle.jv_yard.specs.Starting.{IsStarted}
 use Rattle.jv_yard.specs.YardValue.{YardValue}
 use Rattle.jv_client.specs.Shared.{shared}
 use Rattle.jv_session.specs.Lines.{StaysPut}
+use Rattle.jv_cmd.specs.declared.command.TheConstants.{WORDS_REFUSED}
 use Rattle.jv_cmd.specs.declared.ended.Ended.{Ended}
 use Rattle.jv_cmd.specs.declared.ended.Ended.TheVariants.{OutOfMemory}
 use Rattle.jv_cmd.specs.declared.words.request.Command.{Command}
@@ -140,7 +141,7 @@ pub record EndsCommand (command : Command) (before after : WorldValue) (status :
 
 -- the words are refused, or there is no memory to read them
 pub data RefusesWords (words : List Text) (before after : WorldValue) (status : ℕ) : Type 0 where
-  Refused : (text : List ℕ) → IsRefusalText words text → status ≡ 2 → Says before.err after.err text
+  Refused : (text : List ℕ) → IsRefusalText words text → status ≡ WORDS_REFUSED → Says before.err after.err text
       → RefusesWords words before after status
   NoMemory : status ≡ status_of OutOfMemory → Says before.err after.err (message_of OutOfMemory)
       → RefusesWords words before after status

@@ -3,6 +3,7 @@ use Rattle.std.specs.Prelude.{ℕ, List, [], ◌∷◌, ◌++◌, codes, decimal
 use Rattle.std.specs.List.{flat_map}
 use Rattle.jv_model.specs.declared.row.RowKey.{RowKey}
 use Rattle.jv_model.specs.script.Printed.{hex_pair}
+use Rattle.jv_cmd.specs.declared.ended.TheConstants.{OUT_OF_MEMORY}
 use Rattle.jv_cmd.specs.declared.ended.Ended.{Ended}
 use Rattle.jv_cmd.specs.declared.ended.Ended.TheVariants.{Succeeded, LineNotRun, NoVolume, VolumeExists, NewerVersion, MalformedSetting, BadRow, SourceFailed, OutFailed, ClockFailed, KeeperFailed, DepotFailed, CarrierFailed, ShelfFailed, OutOfMemory}
 
@@ -30,7 +31,7 @@ status_of KeeperFailed = 5
 status_of DepotFailed = 5
 status_of CarrierFailed = 5
 status_of ShelfFailed = 5
-status_of OutOfMemory = 6
+status_of OutOfMemory = OUT_OF_MEMORY
 
 -- the text on standard error, where no word is off
 abbrev pub message_of : Ended → List ℕ

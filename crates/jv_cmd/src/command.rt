@@ -24,7 +24,7 @@ use jv_yard::{Alone, Yard, YardDoor};
 use std::alloc::Global;
 
 /// The exit status if the words are refused.
-const WORDS_REFUSED: u8 = 2;
+pub const WORDS_REFUSED: u8 = 2;
 
 /// Runs the command that the words are, over the devices of the world, with an emptied journal. JuiceFS, Command
 /// Reference: `format`, `mount`.

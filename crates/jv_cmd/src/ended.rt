@@ -10,6 +10,9 @@ use jv_model::{Bytes, Down, RowKey};
 use jv_outside::{Sink, write_whole};
 use jv_script::hex_pair;
 
+/// The exit status if the process is out of memory.
+pub const OUT_OF_MEMORY: u8 = 6;
+
 /// How a command ended.
 #[derive(Debug, Drop, PartialEq, Eq)]
 pub(crate) enum Ended {
@@ -54,7 +57,7 @@ impl Ended {
             Ended::BadRow(..) => 4,
             Ended::SourceFailed | Ended::OutFailed | Ended::ClockFailed | Ended::KeeperFailed => 5,
             Ended::DepotFailed | Ended::CarrierFailed | Ended::ShelfFailed => 5,
-            Ended::OutOfMemory => 6,
+            Ended::OutOfMemory => OUT_OF_MEMORY,
         }
     }
 }

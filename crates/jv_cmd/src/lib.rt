@@ -14,5 +14,6 @@ mod volume;
 mod words;
 mod world;
 
-pub use command::run;
+pub use command::{WORDS_REFUSED, run};
+pub use ended::OUT_OF_MEMORY;
 pub use world::{Finish, Observed, World};

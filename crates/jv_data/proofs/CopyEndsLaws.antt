@@ -268,22 +268,22 @@ module _ (sid now src dst from to len : ℕ) (due : Setting → ℕ) where
                 ends-refused before after fault (past-stops before both after act room (λ t unit. last_step n t) past_room fault (r.looks content (λ t. refl)))
 
             module _ (sized : Store) (d1 : List Change) (r : ResizesFile dst target length now both sized d1 (Ok tt)) where
-              pas(s known is whole) : Past before sized act (last_step n)
-              pas(s known is whole) = past-looks before both sized act room (λ t unit. last_step n t) past_room tt (r.looks content (λ t. refl))
+              past_sized : Past before sized act (last_step n)
+              past_sized = past-looks before both sized act room (λ t unit. last_step n t) past_room tt (r.looks content (λ t. refl))
 
               pub copy-unread : (after : Store) (d2 : List Change) (fault : TxFault) → CopiesLists course sized after d1 d2 (Err fault) → Ends before after (Err fault)
               copy-unread after d2 fault z = ends-refused before after fault
-                  (past-ends before sized after act (last_step n) pas(s known is whole) (Err fault) (looks-any sized after fault (last_step n) z.looks))
+                  (past-ends before sized after act (last_step n) past_sized (Err fault) (looks-any sized after fault (last_step n) z.looks))
 
               module _ (lists : Store) (d2 : List Change) (added : List Rec) (z : CopiesLists course sized lists d1 d2 (Ok added)) where
                 past_lists : Past before lists act (last_step n)
-                past_lists = past-calm before sized lists act (last_step n) pas(s known is whole) z.looks.rows_are z.looks.opened_at z.looks.counts
+                past_lists = past-calm before sized lists act (last_step n) past_sized z.looks.rows_are z.looks.opened_at z.looks.counts
 
-                a(s known is whole) : (known : RowMap) → before.rows ≡ Some known → sized.rows ≡ Some known
-                a(s known is whole) known is = (r.looks content (λ t. refl)).rows_are ∙ at_both known is
+                at_sized : (known : RowMap) → before.rows ≡ Some known → sized.rows ≡ Some known
+                at_sized known is = (r.looks content (λ t. refl)).rows_are ∙ at_both known is
 
                 at_lists : (known : RowMap) → before.rows ≡ Some known → lists.rows ≡ Some known
-                at_lists known is = z.looks.rows_are ∙ a(s known is whole) known is
+                at_lists known is = z.looks.rows_are ∙ at_sized known is
 
                 before_lists : (known : RowMap) → lists.rows ≡ Some known → before.rows ≡ Some known
                 before_lists known is = sym past_lists.rows_are ∙ is
@@ -295,7 +295,7 @@ module _ (sid now src dst from to len : ℕ) (due : Setting → ℕ) where
                 have : (known : RowMap) → lists.rows ≡ Some known → (id : ℕ) → id ≢ 0 → 0 < records_naming id added → HasSlice (drafted d2 known) id
                 have known is id named naming =
                     let here = before_lists known is in
-                    let y = z.copied known (a(s known is whole) known here) in
+                    let y = z.copied known (at_sized known here) in
                     let row = has_named (typed known) id named added
                     (subst (HaveSlices (typed known)) (sym y.added_is) (have-copied (typed known) course y.parts n y.follow)) naming in
                     record {
@@ -324,7 +324,7 @@ module _ (sid now src dst from to len : ℕ) (due : Setting → ℕ) where
                   small = (let least = whole.files.small dst target (target_there known is) g.file in let end = leb-true (to + n) FILE_END within in omega (arith, least, end))
 
                   y : Copying course n (typed known) sized_known (drafted d2 known) added
-                  y = subst (λ (rows : Rows). Copying course n (typed known) rows (drafted d2 known) added) s.is (z.copied known (a(s known is whole) known is))
+                  y = subst (λ (rows : Rows). Copying course n (typed known) rows (drafted d2 known) added) s.is (z.copied known (at_sized known is))
 
                   crowded : (known_bytes : KnownBytes) (fault : Fault) → FailsToRecount [] added d2 lists.rows (Refused fault)
                       → IsFull (IsCrowded FILE_END) (typed known) fault (act (tree_with known_bytes (typed known)))

@@ -1,4 +1,4 @@
-//! Commits of bytes to files.
+//! A commit appends a slice's record to the list of its window, and makes the file as long as that.
 ghost use Rattle.std.specs.Prelude.{◌≡◌, ◌≤◌, ◌+◌, ◌*◌, ◌<◌, [], nat_lt};
 ghost use Rattle.jv_data.specs.Changing.{KeepsRest};
 ghost use Rattle.jv_data.specs.Committing.{BeginsCommit};

@@ -1,4 +1,4 @@
-//! Numbers for slices.
+//! Each slice gets the next number, which no other one had.
 ghost use Rattle.std.specs.Prelude.{◌<◌, IfOk};
 ghost use Rattle.jv_data.specs.Records.{TakesNumber};
 

@@ -1,4 +1,4 @@
-//! Truncates of files.
+//! A truncate ends the list of its last window, and takes those behind it.
 ghost use Rattle.std.specs.Prelude.{◌≡◌, ◌<◌, ◌≤◌};
 ghost use Rattle.jv_data.specs.Changing.{Changes, AnyBytes, KeepsRest, Never};
 ghost use Rattle.jv_data.specs.Truncating.{CutsFile, IsLastBefore, LeaveSlices, SaysDue};

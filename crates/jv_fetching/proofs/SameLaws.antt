@@ -14,7 +14,7 @@ use Rattle.jv_model.specs.declared.slice.Rec.{Rec}
 use Rattle.jv_model.specs.Optional.{provided}
 use Rattle.jv_contents.specs.Blocks.{known_by}
 use Rattle.jv_contents.specs.Bytes.{KnownBytes}
-use Rattle.jv_shared.specs.Shared.{Known, Shared, present_in, rows_in}
+use Rattle.jv_shared.specs.Shared.{Known, Shared, rows_in}
 use Rattle.jv_shared.specs.Seen.{IsFound}
 use Rattle.jv_shared.proofs.SeenLaws.{bytes_from-same}
 use Rattle.jv_handles.specs.declared.handle.Handle.{Handle}
@@ -53,7 +53,7 @@ length-bytes byte from zero = refl
 length-bytes byte from (suc n) = ap suc (length-bytes byte (from + 1) n)
 
 all_sized : (g : Known) (v : Shared) (list : List Rec)
-    → AllByRecursion (IsFound v.yard.setting.block (rows_in v) g (present_in v)) list
+    → AllByRecursion (IsFound v.yard.setting.block (rows_in v) g) list
     → AllByRecursion (λ r. r.id ≢ 0 → r.size ≡ g.sizes r.id) list
 all_sized g v [] h = tt
 all_sized g v (r ∷ list) (first, others) = (first.sized, all_sized g v list others)

@@ -9,12 +9,13 @@ use Rattle.jv_outside.specs.Carriage.{Carriage}
 use Rattle.jv_contents.specs.Flights.{Flight, flight_block, flight_bytes}
 use Rattle.jv_yard.specs.declared.faults.YardFault.TheVariants.{Depot as YardDepot}
 use Rattle.jv_yard.specs.YardValue.{YardValue}
-use Rattle.jv_shared.specs.Shared.{HasStore, Known, Shared, with_block}
+use Rattle.jv_shared.specs.Shared.{HasStore, Known, Shared, depot_in, with_block}
 use Rattle.jv_shared.specs.Flying.{Flies}
+use Rattle.jv_shared.specs.Direct.{HasPut}
 use Rattle.jv_shared.specs.Keeping.{HoldsSame, Leads}
 use Rattle.jv_shared.proofs.FlyingLaws.{next_block-is}
 use Rattle.jv_shared.proofs.KeepingLaws.{flies-stay_none}
-use Rattle.jv_shared.proofs.PutLaws.{put-flies_on, put-leads}
+use Rattle.jv_shared.proofs.PutLaws.{put-flies_on, put-has_put, put-leads}
 use Rattle.jv_shared.proofs.SameLaws.{same-leads, same-refused, same-rows, same-then}
 use Rattle.jv_flushing.specs.declared.putting.PutFault.{PutFault}
 use Rattle.jv_flushing.specs.declared.putting.PutFault.TheVariants.{Carrier, Depot, Memory}
@@ -63,4 +64,11 @@ module _ (v : Shared) (f : Flight) (client now : ℕ) (yard : YardValue) (carrie
             (with_block (flight_block v.yard.setting.block f f.put) (flight_bytes v.yard.setting.block f f.put) g)
             (record v { yard = yard; carrier = carrier }) (record f { put = f.put + 1 })
         put-step_flies = put-flies_on t g v s f flies client puts.0.parcel yard carrier now
+            (next_block-is t g v s f flies short more) puts.0.stands puts.0.put
+
+        -- The depot has that one too.
+        pub put-step_has : HasPut v.yard.setting.block (depot_in v) f
+            → HasPut yard.setting.block (depot_in (record v { yard = yard; carrier = carrier }))
+            (record f { put = f.put + 1 })
+        put-step_has = put-has_put t g v s f flies client puts.0.parcel yard carrier now
             (next_block-is t g v s f flies short more) puts.0.stands puts.0.put

@@ -1,4 +1,4 @@
-//! An open file.
+//! What a client keeps of an open file: its inode, and what was seen of its windows.
 use crate::views::Views;
 
 /// A file that a client has open.

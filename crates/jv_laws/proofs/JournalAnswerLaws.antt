@@ -22,7 +22,7 @@ use Rattle.jv_laws.specs.Laws.{AnswersModel, AnswersAsTree, is_transaction_entry
 use Rattle.jv_laws.proofs.JournalGrowthLaws.{AllAllowed-parts, past-append, own_client, others_kept, after_line_begin_next, begun_to-begun}
 use Rattle.jv_laws.proofs.JournalStateLaws.{of_kind}
 use Rattle.jv_laws.proofs.JournalDoingLaws.{doing_given}
-use Rattle.jv_laws.proofs.JournalLineLaws.{due_at_worker, due_at_own}
+use Rattle.jv_laws.proofs.JournalLineLaws.{due_after}
 
 -- an operation whose answer is decided
 
@@ -152,7 +152,7 @@ due_transaction p act (Opened handle inode) h = refl
 due_transaction p act _ h = absurd (cc)
 
 due_after_transaction : (p : Past) (act : Act) → is_workers p ≡ false → IsTrue (is_transaction_entry act.kind) → (after p act).due ≡ requested p.due
-due_after_transaction p act e h = due_at_own p act e ∙ due_transaction p act act.kind h
+due_after_transaction p act e h = due_after p act false e ∙ due_transaction p act act.kind h
 
 -- whose an entry of the present line is
 line_client : (p : Past) (act : Act) (client : ℕ) (due : Due) → IsOnLine client due → OfLine p act due → (begins : Bool) × OfClient p act client begins
@@ -166,7 +166,7 @@ worker_only p act client false on other h = absurd (other (line_client p act cli
 waits_here : (p : Past) (client : ℕ) (d : Doing) (r : Reply) (act : Act) → Waits p client d r → (act.client ≡ client → ⊥) → is_workers p ≡ true → Waits (after p act) client d r
 unfolding after
 waits_here p client d r act w other worker = record {
-  on_line = subst (IsOnLine client) (sym (due_at_worker p act worker)) w.on_line;
+  on_line = subst (IsOnLine client) (sym (due_after p act true worker)) w.on_line;
   busy = ap (λ (c : ModelClient). c.doing) (others_kept p.state act client (λ e. other (sym e))) ∙ w.busy;
 }
 

@@ -338,7 +338,8 @@ since_at P (act ∷ acts) (suc i) h = since_at P acts i h.1
 abbrev Orderly : List Act → ℕ → ℕ → Type 0
 Orderly acts i j = IfSome (slice_get acts i) (λ a. IfSome (slice_get acts j) (λ b. Follows a b))
 
-if_some_of : (P Q : Act → Type 0) (o : Option Act) → ((x : Act) → P x → Q x) → IfSome o P → IfSome o Q
+-- what follows of a value follows where there is one
+pub if_some_of : {A : Type 0} (P Q : A → Type 0) (o : Option A) → ((x : A) → P x → Q x) → IfSome o P → IfSome o Q
 if_some_of P Q None f h = tt
 if_some_of P Q (Some x) f h = f x h
 

@@ -25,7 +25,7 @@ use Rattle.jv_model.specs.journal.Legal.{IsRefusal, Allowed, AllAllowed, Refuses
 use Rattle.jv_model.specs.journal.Stepping.{is_answer}
 use Rattle.jv_model.specs.Lists.{numbered}
 use Rattle.jv_laws.specs.Laws.{LinesHaveEntries, EndedLinesHaveEntries, RefusedLinesHaveOneEntry, FitsLine, EndsAnswered, IsOneStep, Idle, OneEntry, AndAnswer, kinds_on}
-use Rattle.jv_laws.proofs.JournalGrowthLaws.{AllAllowed-parts, past-append, frame_begun, line-begun_to, begun_to-begun, line_allowed, entered, line_of_advance}
+use Rattle.jv_laws.proofs.JournalGrowthLaws.{AllAllowed-parts, past-append, frame_begun, line-begun_to, begun_to-begun, line_allowed, entered, line_of_advance, if_some_of}
 use Rattle.jv_laws.proofs.JournalStateLaws.{publish_of}
 
 -- entries so far of a line, by what it may still have
@@ -295,10 +295,6 @@ line_next script n o e = let s : n + 1 ≡ suc n = omega arith in ap (numbered s
 rest_next : (script : List Line) (n : ℕ) (lines : List Line) → rest_from (suc n) script ≡ lines → lines ≡ rest_from (n + 1) script
 rest_next script n lines e = let s : suc n ≡ n + 1 = omega arith in sym e ∙ ap (λ k. rest_from k script) s
 
-if_some_of : (P Q : Line → Type 0) (o : Option Line) → ((x : Line) → P x → Q x) → IfSome o P → IfSome o Q
-if_some_of P Q None f h = tt
-if_some_of P Q (Some x) f h = f x h
-
 no_line : (P : Line → Type 0) (o : Option Line) → o ≡ None → IfSome o P
 no_line P o e = subst (λ x. IfSome x P) (sym e) tt
 
@@ -320,6 +316,11 @@ own_line line n b at e = elim (eqb_tells line n) [
 due_of : (worker : Bool) (p q : Past) (asked : ℕ) → (if worker then p else record q { asked = asked }).due ≡ (if worker then p.due else q.due)
 due_of true p q asked = refl
 due_of false p q asked = refl
+
+-- what is due after an entry: what was due, where an uploading thread made it
+pub due_after : (p : Past) (act : Act) (worker : Bool) → is_workers p ≡ worker → (after p act).due ≡ (if worker then p.due else (lined p act act.kind).due)
+unfolding after
+due_after p act worker e = due_of (is_workers p) p (lined p act act.kind) _ ∙ ap (λ b. if b then p.due else (lined p act act.kind).due) e
 
 -- all lines so far
 
@@ -389,10 +390,6 @@ module _ (run : Setup) where
   lined_to pre n p h = lined_by pre (n - p.line) p h
 
   -- one more entry
-
-  due_after : (p : Past) (act : Act) (worker : Bool) → is_workers p ≡ worker → (after p act).due ≡ (if worker then p.due else (lined p act act.kind).due)
-  unfolding after
-  due_after p act worker e = due_of (is_workers p) p (lined p act act.kind) _ ∙ ap (λ b. if b then p.due else (lined p act act.kind).due) e
 
   is_by_worker : (pre : List Act) (p : Past) → Lined pre p → is_workers p ≡ run.by_worker (1 + length pre)
   is_by_worker pre p h = ap (λ (r : Setup). r.by_worker (p.state.count + 1)) h.run_is ∙ ap run.by_worker (let c = h.count in omega (arith, c))
@@ -477,14 +474,6 @@ data IsDone (line : ℕ) (p : Past) : Type 0 where
   AtEnd : p.due ≡ NoMore → p.line ≡ line → IsDone line p
   Later : line < p.line → IsDone line p
 
-pub due_at_worker : (p : Past) (act : Act) → is_workers p ≡ true → (after p act).due ≡ p.due
-unfolding after
-due_at_worker p act e = due_of (is_workers p) p (lined p act act.kind) _ ∙ ap (λ b. if b then p.due else (lined p act act.kind).due) e
-
-pub due_at_own : (p : Past) (act : Act) → is_workers p ≡ false → (after p act).due ≡ (lined p act act.kind).due
-unfolding after
-due_at_own p act e = due_of (is_workers p) p (lined p act act.kind) _ ∙ ap (λ b. if b then p.due else (lined p act act.kind).due) e
-
 worker_where_done : (p : Past) (act : Act) (worker : Bool) → p.due ≡ NoMore → MatchBool worker (OfWorker p act) (OfLine p act p.due) → worker ≡ true
 worker_where_done p act true e h = refl
 worker_where_done p act false e h = absurd (subst (OfLine p act) e h)
@@ -493,7 +482,7 @@ done_here : (p : Past) (act : Act) → p.due ≡ NoMore → p.line ≡ act.line 
 unfolding advance
 done_here p act e at may =
     let same : begun_to act.line p ≡ p = begun_to-begun act.line p (omega (arith, at)) in
-    subst (λ q. IsDone p.line (after q act)) (sym same) (AtEnd (due_at_worker p act (worker_where_done p act (is_workers p) e may.stands) ∙ e) (entered p act).line)
+    subst (λ q. IsDone p.line (after q act)) (sym same) (AtEnd (due_after p act true (worker_where_done p act (is_workers p) e may.stands) ∙ e) (entered p act).line)
 
 done_next : (line : ℕ) (p : Past) (act : Act) → IsDone line p → Allowed (begun_to act.line p) act → IsDone line (advance p act)
 done_next line p act (Later high) may = let l = line_allowed p act may in let e = line_of_advance p act may in Later (omega (arith, l, e, high))
@@ -540,7 +529,7 @@ own_of_refusal p act client fault false w e h = subst (OfLine p act) e h
 refusal_ends : (p : Past) (act : Act) (client : ℕ) (fault : Fault) → is_workers p ≡ false → p.due ≡ Refusal client fault → Allowed p act → IsDone act.line (after p act)
 refusal_ends p act client fault own e may =
     let r = own_of_refusal p act client fault (is_workers p) own e may.stands in
-    AtEnd (due_at_own p act own ∙ due_of_answer p act act.kind (refusal_told _ fault act.kind r.1)) ((entered p act).line ∙ may.line)
+    AtEnd (due_after p act false own ∙ due_of_answer p act act.kind (refusal_told _ fault act.kind r.1)) ((entered p act).line ∙ may.line)
 
 done_advance : (line : ℕ) (p : Past) (act : Act) → IsDone line (after (begun_to act.line p) act) → IsDone line (advance p act)
 unfolding advance

@@ -246,11 +246,3 @@ pub step_ran : (q : Past) (client now : ℕ) (kinds : List ActKind) (step : Step
 step_ran q client now kinds step due alone complete runs at moment (GoesOn kind k s h a open_yet) = subst₂ (HasRun due q client now) (sym k) (sym s) (went_on q client now kind due alone complete runs at moment h a open_yet)
 step_ran q client now kinds step due alone complete runs at moment (AnswersAlone told reply k s h says) = subst₂ (HasRun due q client now) (sym k) (sym s) (answered_alone q client now told reply due alone complete runs at moment h says)
 step_ran q client now kinds step due alone complete runs at moment (AnswersAfter kind told reply k s h a g says) = subst₂ (HasRun due q client now) (sym k) (sym s) (answered_after q client now kind told reply due alone complete runs at moment h a g says)
-
--- several steps of one line
-
-pub record StepsSoFar (q : Past) (asks : ℕ) (acts : List Act) (r : Past) : Type 0 where
-  pub leads : Leads q acts r
-  pub same : SameLine q r
-  pub ticks : r.ticks ≡ q.ticks
-  pub asked : r.asked ≡ q.asked + asks

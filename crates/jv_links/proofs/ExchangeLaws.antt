@@ -17,22 +17,20 @@ use Rattle.jv_model.specs.rows.RowFaults.{row_fault}
 use Rattle.jv_model.specs.rows.RowPlaces.{edge_key}
 use Rattle.jv_model.specs.tree.Attempt.{◌>>=◌, require}
 use Rattle.jv_model.specs.tree.Caller.{Caller, Outcome, done}
-use Rattle.jv_model.specs.tree.Changes.{put_entry, touched}
 use Rattle.jv_model.specs.tree.Making.{may_be_new}
 use Rattle.jv_model.specs.tree.Removing.{may_go}
-use Rattle.jv_model.specs.tree.Renaming.{is_inside, move_in, exchanged, moved_node, within_links, exchanging}
+use Rattle.jv_model.specs.tree.Renaming.{is_inside, move_in, exchanged, within_links, exchanging}
 use Rattle.jv_model.specs.tree.Tree.{Tree, EntryKey, links_fit}
 use Rattle.jv_outside.specs.declared.batch.Change.{Change}
 use Rattle.jv_outside.specs.Store.{Store, Commits}
 use Rattle.jv_rows.specs.declared.walking.Place.{Place}
 use Rattle.jv_rows.specs.Transactions.{Looks}
-use Rattle.jv_rows.proofs.TransactionLaws.{Past, past-start, past-looks, past-stops, past-refuses, transacts-refused, fails-commit}
+use Rattle.jv_rows.proofs.TransactionLaws.{Past, past-start, past-looks, past-stops, past-refuses, fails-commit}
 use Rattle.jv_changes.specs.Drafting.{Drafting}
 use Rattle.jv_changes.proofs.DraftingLaws.{PastSteps, OfWhole, steps-start, steps-on, steps-made, steps-stop, steps-fail, steps-commit}
 use Rattle.jv_volume.specs.Stored.{edge_row}
 use Rattle.jv_volume.specs.TypedRows.{typed, is_entry_name}
 use Rattle.jv_volume.specs.TreeOf.{tree_of}
-use Rattle.jv_volume.proofs.ChangeLaws.{change_node-sustained}
 use Rattle.jv_volume.proofs.MoveLaws.{whole-exchanged}
 use Rattle.jv_volume.proofs.StoredLaws.{whole-shape, whole-stored}
 use Rattle.jv_volume.proofs.WalkShapeLaws.{went_on, same_Ok}
@@ -40,14 +38,8 @@ use Rattle.jv_links.specs.declared.ends.Ends.{Ends}
 use Rattle.jv_links.specs.declared.fates.Removed.{Removed}
 use Rattle.jv_links.specs.Exchanges.{MayExchange, exchanged_within}
 use Rattle.jv_links.specs.Moves.{EndsStand, IsOverMove, Renames, Stands, place_of}
-use Rattle.jv_links.proofs.FreeMoveLaws.{tested_by, refused_by, within-sustained}
+use Rattle.jv_links.proofs.FreeMoveLaws.{move_in-sustained, renames-refused, tested_by, refused_by, within-sustained}
 use Rattle.jv_links.proofs.RenameAnswerLaws.{has_node, links_low, says_none}
-
-move_in-sustained : (t : Tree) (now : ℕ) (place : EntryKey) (inode : ℕ)
-    → (move_in t now place inode).sustained ≡ t.sustained
-move_in-sustained t now place inode =
-    change_node-sustained (put_entry t now place inode) inode (moved_node now place.dir)
-    ∙ change_node-sustained t place.dir (touched now)
 
 -- an exchange keeps what sessions keep
 exchanged-sustained : (t : Tree) (now : ℕ) (from : EntryKey) (source : ℕ) (to : EntryKey) (other : ℕ)
@@ -103,20 +95,14 @@ module _ (who : Caller) (ends : Ends) (place : Place) (before : Store) (stand : 
   -- the first way up wasn't climbed
   pub exchange-not_climbed : (after : Store) (fault : TxFault) → Looks {A = Bool} before after (Err fault) climbs
       → Renames who.sid ready before after (Err fault) act
-  exchange-not_climbed after fault l = record {
-    does = transacts-refused ready before after reply act fault
-        (past-stops before before after act climbs climbed started fault l);
-    says = tt;
-  }
+  exchange-not_climbed after fault l = renames-refused who.sid ready before after act fault
+      (past-stops before before after act climbs climbed started fault l)
 
   -- the source would come into itself
   pub exchange-inside : (after : Store) → Looks before after (Ok true) climbs
       → Renames who.sid ready before after (Err (Refused Invalid)) act
-  exchange-inside after l = record {
-    does = transacts-refused ready before after reply act (Refused Invalid)
-        (past-refuses before after act Invalid (past-looks before before after act climbs climbed started true l));
-    says = tt;
-  }
+  exchange-inside after l = renames-refused who.sid ready before after act (Refused Invalid)
+      (past-refuses before after act Invalid (past-looks before before after act climbs climbed started true l))
 
   module _ (between : Store) (first : Looks before between (Ok false) climbs) where
     halfway : Past before between act (λ t. climbs_back t >>= climbed_back t)
@@ -125,21 +111,15 @@ module _ (who : Caller) (ends : Ends) (place : Place) (before : Store) (stand : 
     -- the second way up wasn't climbed
     pub exchange-not_back : (after : Store) (fault : TxFault) → Looks {A = Bool} between after (Err fault) climbs_back
         → Renames who.sid ready before after (Err fault) act
-    exchange-not_back after fault l = record {
-      does = transacts-refused ready before after reply act fault
-          (past-stops before between after act climbs_back climbed_back halfway fault l);
-      says = tt;
-    }
+    exchange-not_back after fault l = renames-refused who.sid ready before after act fault
+        (past-stops before between after act climbs_back climbed_back halfway fault l)
 
     -- the other one would come into itself
     pub exchange-beside : (after : Store) → Looks between after (Ok true) climbs_back
         → Renames who.sid ready before after (Err (Refused Invalid)) act
-    exchange-beside after l = record {
-      does = transacts-refused ready before after reply act (Refused Invalid)
-          (past-refuses before after act Invalid
-          (past-looks before between after act climbs_back climbed_back halfway true l));
-      says = tt;
-    }
+    exchange-beside after l = renames-refused who.sid ready before after act (Refused Invalid)
+        (past-refuses before after act Invalid
+        (past-looks before between after act climbs_back climbed_back halfway true l))
 
     module _ (middle : Store) (second : Looks between middle (Ok false) climbs_back) where
       abbrev rest : Tree → Result Outcome Fault

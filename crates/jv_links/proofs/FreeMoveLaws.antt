@@ -17,7 +17,7 @@ use Rattle.jv_model.specs.tree.Caller.{Caller, Outcome, done}
 use Rattle.jv_model.specs.tree.Changes.{put_entry, take_entry, touched}
 use Rattle.jv_model.specs.tree.Making.{may_be_new}
 use Rattle.jv_model.specs.tree.Removing.{may_go}
-use Rattle.jv_model.specs.tree.Renaming.{may_leave, is_inside, moved, moved_node, within_links, renamed}
+use Rattle.jv_model.specs.tree.Renaming.{may_leave, is_inside, move_in, moved, moved_node, within_links, renamed}
 use Rattle.jv_model.specs.tree.Tree.{Tree, EntryKey, links_fit}
 use Rattle.jv_outside.specs.declared.batch.Change.{Change}
 use Rattle.jv_outside.specs.Store.{Store, Commits}
@@ -42,13 +42,27 @@ leaves_by Plain place h = h
 leaves_by NoReplace place h = h
 leaves_by Exchange place h = (and_parts (may_go place) (may_be_new place) h).0
 
--- a move keeps what sessions keep
+-- an entry that comes from elsewhere keeps what sessions keep
+pub move_in-sustained : (t : Tree) (now : ℕ) (place : EntryKey) (inode : ℕ)
+    → (move_in t now place inode).sustained ≡ t.sustained
+move_in-sustained t now place inode =
+    change_node-sustained (put_entry t now place inode) inode (moved_node now place.dir)
+    ∙ change_node-sustained t place.dir (touched now)
+
+-- and so does a move
 pub moved-sustained : (t : Tree) (now : ℕ) (from : EntryKey) (source : ℕ) (to : EntryKey)
     → (moved t now from source to).sustained ≡ t.sustained
-moved-sustained t now from source to =
-    let less = take_entry t now from in
-    change_node-sustained (put_entry less now to source) source (moved_node now to.dir)
-    ∙ change_node-sustained less to.dir (touched now) ∙ change_node-sustained t from.dir (touched now)
+moved-sustained t now from source to = move_in-sustained (take_entry t now from) now to source
+    ∙ change_node-sustained t from.dir (touched now)
+
+-- a rename that ends at a reading
+pub renames-refused : (sid : ℕ) (ready : Tree → Type 0) (before after : Store) (act : Tree → Result Outcome Fault)
+    (fault : TxFault) → Looks {A = Outcome} before after (Err fault) act
+    → Renames sid ready before after (Err fault) act
+renames-refused sid ready before after act fault l = record {
+  does = transacts-refused ready before after (λ (removed : Option Removed). Done) act fault l;
+  says = tt;
+}
 
 -- the test of links, before or after the tree is answered
 pub tested_by : (b : Bool) (left after : Tree) → (require b NoSpace >>= (λ _. Ok left)) ≡ Ok after
@@ -103,20 +117,14 @@ module _ (who : Caller) (how : How) (ends : Ends) (before : Store) (stand : Ends
   -- the way up wasn't climbed
   pub free-not_climbed : (after : Store) (fault : TxFault) → Looks {A = Bool} before after (Err fault) climbs
       → Renames who.sid ready before after (Err fault) act
-  free-not_climbed after fault l = record {
-    does = transacts-refused ready before after reply act fault
-        (past-stops before before after act climbs climbed started fault l);
-    says = tt;
-  }
+  free-not_climbed after fault l = renames-refused who.sid ready before after act fault
+      (past-stops before before after act climbs climbed started fault l)
 
   -- the directory would move into itself
   pub free-inside : (after : Store) → Looks before after (Ok true) climbs
       → Renames who.sid ready before after (Err (Refused Invalid)) act
-  free-inside after l = record {
-    does = transacts-refused ready before after reply act (Refused Invalid)
-        (past-refuses before after act Invalid (past-looks before before after act climbs climbed started true l));
-    says = tt;
-  }
+  free-inside after l = renames-refused who.sid ready before after act (Refused Invalid)
+      (past-refuses before after act Invalid (past-looks before before after act climbs climbed started true l))
 
   module _ (middle : Store) (l : Looks before middle (Ok false) climbs) where
     abbrev rest : Tree → Result Outcome Fault

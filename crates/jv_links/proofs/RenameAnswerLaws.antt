@@ -1,13 +1,11 @@
 -- What a rename answers of what it replaced, and how a rename goes on after readings.
 use Rattle.std.proofs.Common.{◌≡◌, ℕ, ◌≤◌, true, not, ◌&&◌, Option, None, Some, Result, Ok, Err, refl, ap, subst, ◌∙◌}
-use Rattle.std.specs.Prelude.{IfErr, IfSome, OnErr, is_some}
+use Rattle.std.specs.Prelude.{IfErr, IfSome, is_some}
 use Rattle.std.proofs.Math.Bool.{and-not_self}
 use Rattle.std.proofs.lemmas.Bool.{le-leb}
 use Rattle.jv_model.specs.declared.limits.TheConstants.{MAX_LINKS}
 use Rattle.jv_model.specs.declared.fault.Fault.{Fault}
-use Rattle.jv_model.specs.declared.fault.RowFault.TheVariants.{Bad, Failed, Memory}
 use Rattle.jv_model.specs.declared.fault.TxFault.{TxFault}
-use Rattle.jv_model.specs.declared.fault.TxFault.TheVariants.{Refused, Moved, Rows as OfRows}
 use Rattle.jv_model.specs.declared.op.Reply.{Reply}
 use Rattle.jv_model.specs.declared.op.Reply.TheVariants.{Done}
 use Rattle.jv_model.specs.declared.row.Row.TheVariants.{OfNode}
@@ -18,9 +16,10 @@ use Rattle.jv_model.specs.tree.Caller.{Outcome, outcome}
 use Rattle.jv_model.specs.tree.Tree.{Tree, links_fit, link_count, is_sustained}
 use Rattle.jv_outside.specs.Store.{Store}
 use Rattle.jv_rows.specs.declared.walking.Place.{Place}
-use Rattle.jv_rows.specs.Transactions.{BadFault, Lands, TransactionCounts}
+use Rattle.jv_rows.specs.Transactions.{BadFault, TransactionCounts}
 use Rattle.jv_rows.specs.Walks.{HasNodeRow}
 use Rattle.jv_rows.proofs.TransactionLaws.{Past, of_known}
+use Rattle.jv_tree.proofs.MakeLaws.{lands_past, undone_past}
 use Rattle.jv_volume.specs.TypedRows.{typed}
 use Rattle.jv_volume.specs.TreeOf.{tree_of}
 use Rattle.jv_volume.specs.Views.{row_in, node_in}
@@ -66,22 +65,6 @@ module _ (sid : ℕ) (ready more : Tree → Type 0) (before middle after : Store
   abbrev reply : Option Removed → Reply
   reply removed = Done
 
-  lands_past : (result : Result (Option Removed) TxFault) (known : RowMap) (bytes : ℕ → ℕ → ℕ)
-      → act (tree_of bytes (typed known)) ≡ rest (tree_of bytes (typed known))
-      → Lands known after.rows bytes reply rest result → Lands known after.rows bytes reply act result
-  lands_past (Ok x) known bytes same l =
-      record { left = l.left; is = l.is; whole = l.whole; quiet = l.quiet; model = same ∙ l.model }
-  lands_past (Err (Refused fault)) known bytes same l = same ∙ l
-  lands_past (Err (Moved list)) known bytes same l = l
-  lands_past (Err (OfRows (Bad at bad))) known bytes same l = l
-  lands_past (Err (OfRows Failed)) known bytes same l = tt
-  lands_past (Err (OfRows Memory)) known bytes same l = tt
-
-  undone_past : (result : Result (Option Removed) TxFault) → OnErr result (after.rows ≡ middle.rows)
-      → OnErr result (after.rows ≡ before.rows)
-  undone_past (Ok x) h = tt
-  undone_past (Err fault) h = h ∙ p.rows_are
-
   told_past : (told : Option (Option Removed)) → SaysSustained sid ready middle told rest
       → SaysSustained sid more before told act
   told_past None h = tt
@@ -96,8 +79,8 @@ module _ (sid : ℕ) (ready more : Tree → Type 0) (before middle after : Store
     does = record {
       opened_at = r.does.opened_at ∙ p.opened_at;
       counts = subst (λ n. TransactionCounts n after.faults result) p.calm r.does.counts;
-      undone = undone_past result r.does.undone;
-      lands = λ known is whole bytes m. lands_past result known bytes (p.goes_on known is whole bytes)
+      undone = undone_past ready before middle after reply act rest p result r.does.undone;
+      lands = λ known is whole bytes m. lands_past ready before middle after reply act rest p result known bytes (p.goes_on known is whole bytes)
           (r.does.lands known (p.rows_are ∙ is) whole bytes (is_ready known is whole bytes m));
       bad = subst (λ o. IfErr result (λ fault. IfSome o (λ known. BadFault (typed known) fault))) p.rows_are r.does.bad;
     };

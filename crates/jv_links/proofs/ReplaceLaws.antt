@@ -23,7 +23,7 @@ use Rattle.jv_outside.specs.declared.batch.Change.{Change}
 use Rattle.jv_outside.specs.Store.{Store, Commits}
 use Rattle.jv_rows.specs.declared.walking.Place.{Place}
 use Rattle.jv_rows.specs.Transactions.{Looks}
-use Rattle.jv_rows.proofs.TransactionLaws.{Past, past-start, past-as, past-looks, past-stops, transacts-refused, fails-commit}
+use Rattle.jv_rows.proofs.TransactionLaws.{Past, past-start, past-as, past-looks, past-stops, fails-commit}
 use Rattle.jv_changes.specs.Drafting.{Drafting}
 use Rattle.jv_changes.proofs.DraftingLaws.{PastSteps, OfWhole, steps-start, steps-on, steps-made, steps-stop, steps-fail, steps-commit}
 use Rattle.jv_volume.specs.TypedRows.{typed}
@@ -36,7 +36,7 @@ use Rattle.jv_links.specs.declared.ends.Ends.{Ends}
 use Rattle.jv_links.specs.declared.fates.Removed.{Removed}
 use Rattle.jv_links.specs.Moves.{EndsStand, IsOverMove, MayMove, Renames, Stands, place_of, moved_within}
 use Rattle.jv_links.specs.Replacements.{MayClear, SaysCleared, may_replace}
-use Rattle.jv_links.proofs.FreeMoveLaws.{leaves_by, moved-sustained, tested_by, refused_by}
+use Rattle.jv_links.proofs.FreeMoveLaws.{leaves_by, moved-sustained, renames-refused, tested_by, refused_by}
 use Rattle.jv_links.proofs.TargetLaws.{may_move-without_target}
 use Rattle.jv_links.proofs.RenameAnswerLaws.{has_node, links_low}
 
@@ -117,11 +117,8 @@ module _ (who : Caller) (how : How) (ends : Ends) (place : Place) (before : Stor
   -- it may not be replaced, or that wasn't read
   pub replace-refused : (after : Store) (fault : TxFault) → Looks {A = Unit {0}} before after (Err fault) asks
       → Renames who.sid ready before after (Err fault) act
-  replace-refused after fault l = record {
-    does = transacts-refused ready before after reply act fault
-        (past-stops before before after act asks (λ t _. rest t) started fault l);
-    says = tt;
-  }
+  replace-refused after fault l = renames-refused who.sid ready before after act fault
+      (past-stops before before after act asks (λ t _. rest t) started fault l)
 
   module _ (middle : Store) (l : Looks before middle (Ok tt) asks) (low_from : ends.from.dir.node.nlink ≤ MAX_LINKS)
       (low_source : ends.source.node.nlink ≤ MAX_LINKS)

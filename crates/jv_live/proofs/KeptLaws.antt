@@ -49,6 +49,7 @@ use Rattle.jv_changes.specs.Drafting.{Drafting}
 use Rattle.jv_changes.specs.Ready.{MayGo}
 use Rattle.jv_changes.proofs.DraftingLaws.{PastSteps, steps-on, steps-stop, steps-commit}
 use Rattle.jv_live.specs.Steps.{letting_go, HasPair}
+use Rattle.jv_live.proofs.FindingLaws.{finds}
 use Rattle.jv_live.proofs.SessionLaws.{fresh-steps, not_made, steps-fell}
 
 -- ---- a file that a session keeps

@@ -1,4 +1,4 @@
-//! An operation's transaction.
+//! Each operation on metadata goes to the crate of its transaction.
 ghost use Rattle.std.specs.Prelude.{IsTrue};
 ghost use Rattle.jv_metadata.specs.Attempts.{AnswersPlainly, Asks, attempt, SaysKept};
 ghost use Rattle.jv_model.specs.script.Spelled.{is_spelled};

@@ -96,8 +96,7 @@ impl Pending {
             self.alloc,
             &mut self.runs,
             held,
-            inode,
-            from,
+            RunStart { inode, from },
             bytes.as_slice(),
         ) {
             Ok(count) => {

@@ -20,6 +20,36 @@ use jv_model::WINDOW;
 use std::alloc::{AllocError, Global};
 use std::mem;
 
+/// A write, and the runs that it overlaps or touches in a window: those that begin at `first` or later and before `end`.
+#[derive(Clone, Copy, Debug)]
+struct TouchingWrite<'a> {
+    /// Where the first of these runs begins, or the write where it touches none.
+    first: RunStart,
+    /// Where the first run can begin that the write doesn't touch.
+    end: RunStart,
+    /// The position of the first byte that is written.
+    from: u64,
+    bytes: &'a [u8],
+}
+
+impl TouchingWrite<'_> {
+    /// The position after the last byte that is written.
+    fn to(&self) -> u64
+        requires { self.now.from + length self.now.bytes.now ≤ FILE_END }
+        ensures { result ≡ self.now.from + length self.now.bytes.now }
+    {
+        self.from + self.bytes.len() as u64
+    }
+
+    /// How many bytes of the first run lie before the write.
+    fn before(&self) -> u64
+        requires { self.now.first.from ≤ self.now.from }
+        ensures { result ≡ self.now.from - self.now.first.from }
+    {
+        self.from - self.first.from
+    }
+}
+
 /// How many positions must lie free before a run that begins here.
 fn free_before(from: u64) -> u64
     ensures { result ≡ gap from }
@@ -91,53 +121,58 @@ fn tail(runs: &Runs, first: RunStart, end: RunStart, to: u64) -> &[u8]
     }
 }
 
-/// The last run behind `first` and before `end`, where more than `count` of its bytes lie behind a position.
-fn longer_tail(runs: &Runs, first: RunStart, end: RunStart, to: u64, count: u64) -> Option<RunStart>
+/// The last touched run, where it isn't the first one, and more of its bytes lie behind the write than bytes of the
+/// first one lie before it.
+fn longer_tail(runs: &Runs, write: &TouchingWrite<'_>) -> Option<RunStart>
     requires rise { Rise 0 runs.now.entries }
-    requires first { first.from < FILE_END }
-    requires end { end.from ≤ FILE_END }
-    requires to { to ≤ FILE_END }
-    requires count { count ≤ FILE_END }
-    ensures { IfSome result (λ last. IsLonger first end to count runs.now.entries last) }
+    requires starts { write.now.first.from ≤ write.now.from }
+    requires some { 0 < length write.now.bytes.now }
+    requires file { write.now.from + length write.now.bytes.now ≤ FILE_END }
+    requires end { write.now.end.from ≤ FILE_END }
+    ensures { IfSome result (λ last. let w = write.now in
+        IsLonger w.first w.end (w.from + length w.bytes.now) (w.from - w.first.from)
+        runs.now.entries last) }
 {
-    let (start, bytes) = last_before(runs, end)?;
-    let is_longer = to >= start.from && bytes.len() as u64 > count + (to - start.from);
-    if first.cmp(&start).is_lt() && is_longer {
+    let to = write.to();
+    let (start, bytes) = last_before(runs, write.end)?;
+    let is_longer = to >= start.from && bytes.len() as u64 > write.before() + (to - start.from);
+    if write.first.cmp(&start).is_lt() && is_longer {
         Some(start)
     } else {
         None
     }
 }
 
-/// Joins bytes with those before them, and with those behind them of the run at `last`, in that run. On error nothing
-/// has changed.
+/// Joins a write with `head`, the bytes before it, and with those behind it of the run at `last`, in that run. On error
+/// nothing has changed.
 fn join_before(
     alloc: Global,
     runs: &mut Runs,
-    first: RunStart,
+    write: &TouchingWrite<'_>,
     last: RunStart,
-    end: RunStart,
-    to: u64,
     head: &[u8],
-    bytes: &[u8],
 ) -> Result<(), AllocError>
     requires rise { Rise 0 runs.old.entries }
-    requires start { first.from < FILE_END }
-    requires end { end.from ≤ FILE_END }
-    requires there { IsSome (bytes_at first runs.old.entries) }
-    requires last { IsLonger first end to (length head.now) runs.old.entries last }
-    requires small { length head.now + length bytes.now < 2 ^ 63 }
-    ensures ok { OnOk result (let tail = tail_of to
-        (runs_within (place_of first + 1) (place_of end) runs.old.entries) in
+    requires start { write.now.first.from < FILE_END }
+    requires file { write.now.from + length write.now.bytes.now ≤ FILE_END }
+    requires end { write.now.end.from ≤ FILE_END }
+    requires there { IsSome (bytes_at write.now.first runs.old.entries) }
+    requires last { let w = write.now in
+        IsLonger w.first w.end (w.from + length w.bytes.now) (length head.now) runs.old.entries
+        last }
+    requires small { length head.now + length write.now.bytes.now < 2 ^ 63 }
+    ensures ok { OnOk result (let w = write.now in let tail = tail_of (w.from + length w.bytes.now)
+        (runs_within (place_of w.first + 1) (place_of w.end) runs.old.entries) in
         runs.new.entries
-        ≡ with_runs ((first, head.now ++ (bytes.now ++ tail)) ∷ []) (place_of end)
+        ≡ with_runs ((w.first, head.now ++ (w.bytes.now ++ tail)) ∷ []) (place_of w.end)
         runs.old.entries) }
     ensures err { OnErr result (runs.new.entries ≡ runs.old.entries) }
 {
     let mut run = swap_bytes(runs, last, RunBytes::new(alloc));
-    match run.write_before(alloc, (to - last.from) as usize, head, bytes) {
+    let cut = (write.to() - last.from) as usize;
+    match run.write_before(alloc, cut, head, write.bytes) {
         Ok(()) => {
-            put_over(runs, first, end, run);
+            put_over(runs, write.first, write.end, run);
             Ok(())
         }
         Err(refused) => {
@@ -147,80 +182,70 @@ fn join_before(
     }
 }
 
-/// Joins bytes with those of a run, and with those behind them of the last run before `end`, in the run. On error
+/// Joins a write with the bytes of the first run, and with those behind it of the last touched run, in `run`. On error
 /// nothing has changed.
 fn join_behind(
     alloc: Global,
     runs: &mut Runs,
-    first: RunStart,
-    end: RunStart,
-    from: u64,
-    bytes: &[u8],
+    write: &TouchingWrite<'_>,
     run: &mut RunBytes,
 ) -> Result<(), AllocError>
     requires rise { Rise 0 runs.old.entries }
-    requires starts { first.from ≤ from }
-    requires some { 0 < length bytes.now }
-    requires file { from + length bytes.now ≤ FILE_END }
-    requires end { end.from ≤ FILE_END }
-    requires forward { place_of first < place_of end }
-    requires there { IsSome (bytes_at first runs.old.entries) }
-    requires reaches { from - first.from ≤ length run.old }
-    ensures ok { OnOk result (let tail = tail_of (from + length bytes.now)
-        (runs_within (place_of first + 1) (place_of end) runs.old.entries) in
+    requires starts { write.now.first.from ≤ write.now.from }
+    requires some { 0 < length write.now.bytes.now }
+    requires file { write.now.from + length write.now.bytes.now ≤ FILE_END }
+    requires end { write.now.end.from ≤ FILE_END }
+    requires forward { place_of write.now.first < place_of write.now.end }
+    requires there { IsSome (bytes_at write.now.first runs.old.entries) }
+    requires reaches { write.now.from - write.now.first.from ≤ length run.old }
+    ensures ok { OnOk result (let w = write.now in let tail = tail_of (w.from + length w.bytes.now)
+        (runs_within (place_of w.first + 1) (place_of w.end) runs.old.entries) in
         runs.new.entries ≡ with_runs
-        ((first, joined_behind (from - first.from) run.old bytes.now tail) ∷ []) (place_of end)
-        runs.old.entries) }
+        ((w.first, joined_behind (w.from - w.first.from) run.old w.bytes.now tail) ∷ [])
+        (place_of w.end) runs.old.entries) }
     ensures err { OnErr result (runs.new.entries ≡ runs.old.entries) }
     ensures run { OnErr result (run.new ≡ run.old) }
 {
-    let to = from + bytes.len() as u64;
-    run.write(
-        (from - first.from) as usize,
-        bytes,
-        tail(runs, first.next(), end, to),
-    )?;
-    put_over(runs, first, end, mem::replace(run, RunBytes::new(alloc)));
+    let tail = tail(runs, write.first.next(), write.end, write.to());
+    run.write(write.before() as usize, write.bytes, tail)?;
+    let joined = mem::replace(run, RunBytes::new(alloc));
+    put_over(runs, write.first, write.end, joined);
     Ok(())
 }
 
-/// Joins bytes with those of a run, and with those behind them of the last run before `end`. On error nothing has
-/// changed.
+/// Joins a write with `run`, the bytes of the first run, and with those behind it of the last touched run. On error
+/// nothing has changed.
 fn join_runs(
     alloc: Global,
     runs: &mut Runs,
-    first: RunStart,
-    end: RunStart,
-    from: u64,
-    bytes: &[u8],
+    write: &TouchingWrite<'_>,
     run: &mut RunBytes,
 ) -> Result<(), AllocError>
     requires rise { Rise 0 runs.old.entries }
-    requires starts { first.from ≤ from }
-    requires some { 0 < length bytes.now }
-    requires file { from + length bytes.now ≤ FILE_END }
-    requires end { end.from ≤ FILE_END }
-    requires forward { place_of first < place_of end }
-    requires there { IsSome (bytes_at first runs.old.entries) }
-    requires reaches { from - first.from ≤ length run.old }
-    ensures ok { OnOk result (let tail = tail_of (from + length bytes.now)
-        (runs_within (place_of first + 1) (place_of end) runs.old.entries) in
+    requires starts { write.now.first.from ≤ write.now.from }
+    requires some { 0 < length write.now.bytes.now }
+    requires file { write.now.from + length write.now.bytes.now ≤ FILE_END }
+    requires end { write.now.end.from ≤ FILE_END }
+    requires forward { place_of write.now.first < place_of write.now.end }
+    requires there { IsSome (bytes_at write.now.first runs.old.entries) }
+    requires reaches { write.now.from - write.now.first.from ≤ length run.old }
+    ensures ok { OnOk result (let w = write.now in let tail = tail_of (w.from + length w.bytes.now)
+        (runs_within (place_of w.first + 1) (place_of w.end) runs.old.entries) in
         runs.new.entries ≡ with_runs
-        ((first, joined_behind (from - first.from) run.old bytes.now tail) ∷ []) (place_of end)
-        runs.old.entries) }
+        ((w.first, joined_behind (w.from - w.first.from) run.old w.bytes.now tail) ∷ [])
+        (place_of w.end) runs.old.entries) }
     ensures err { OnErr result (runs.new.entries ≡ runs.old.entries) }
     ensures run { OnErr result (run.new ≡ run.old) }
 {
-    let to = from + bytes.len() as u64;
-    let before = from - first.from;
-    let last = longer_tail(runs, first, end, to, before);
-    let ends_before = run.len() as u64 <= before + bytes.len() as u64;
+    let before = write.before();
+    let last = longer_tail(runs, write);
+    let ends_before = run.len() as u64 <= before + write.bytes.len() as u64;
     match last {
         Some(last) if ends_before => {
             let head = &run.as_slice()[..before as usize];
-            join_before(alloc, runs, first, last, end, to, head, bytes)
+            join_before(alloc, runs, write, last, head)
         }
-        _ => join_behind(alloc, runs, first, end, from, bytes, run),
+        _ => join_behind(alloc, runs, write, run),
     }
 }
 
@@ -242,8 +267,14 @@ fn write_window(
     ensures err { OnErr result (runs.new.entries ≡ runs.old.entries) }
 {
     let end = end_touched(first.inode, from + bytes.len() as u64);
+    let write = TouchingWrite {
+        first,
+        end,
+        from,
+        bytes,
+    };
     let mut taken = take_run(alloc, runs, first, 0)?;
-    match join_runs(alloc, runs, first, end, from, bytes, &mut taken.run) {
+    match join_runs(alloc, runs, &write, &mut taken.run) {
         Ok(()) => Ok(()),
         Err(refused) => {
             give_back(runs, first, taken);
@@ -295,29 +326,23 @@ fn write_from(
 }
 
 /// How many bytes there are, of `held` before, once a write is joined with the runs that it touches.
-fn count_written(
-    runs: &Runs,
-    first: RunStart,
-    end: RunStart,
-    held: u64,
-    from: u64,
-    bytes: &[u8],
-) -> u64
+fn count_written(runs: &Runs, held: u64, write: &TouchingWrite<'_>) -> u64
     requires order { InOrder 0 runs.now.entries }
     requires held { held ≡ length (pending_bytes runs.now.entries) }
-    requires small { held + length bytes.now < 2 ^ 64 }
-    requires some { 0 < length bytes.now }
-    requires file { from + length bytes.now ≤ FILE_END }
-    requires touched { IsTouched first.inode from (from + length bytes.now) runs.now.entries first
-        end }
-    ensures { result ≡ length (written first.inode from bytes.now
+    requires small { held + length write.now.bytes.now < 2 ^ 64 }
+    requires some { 0 < length write.now.bytes.now }
+    requires file { write.now.from + length write.now.bytes.now ≤ FILE_END }
+    requires touched { let w = write.now in
+        IsTouched w.first.inode w.from (w.from + length w.bytes.now) runs.now.entries w.first
+        w.end }
+    ensures { let w = write.now in
+        result ≡ length (written w.first.inode w.from w.bytes.now
         (pending_bytes runs.now.entries)) }
 {
-    let to = from + bytes.len() as u64;
-    let others = held - count_bytes(runs, first, end);
-    let head = head(runs, first, from).len() as u64;
-    let tail = tail(runs, first, end, to).len() as u64;
-    others + (head + (bytes.len() as u64 + tail))
+    let others = held - count_bytes(runs, write.first, write.end);
+    let head = head(runs, write.first, write.from).len() as u64;
+    let tail = tail(runs, write.first, write.end, write.to()).len() as u64;
+    others + (head + (write.bytes.len() as u64 + tail))
 }
 
 /// Where the run begins that a write of `count` bytes lengthens or overwrites, where it touches no other and stays in one
@@ -362,34 +387,40 @@ fn write_into(runs: &mut Runs, first: RunStart, from: u64, bytes: &[u8]) -> Resu
     }
 }
 
-/// Sets the positions of the bytes, and returns how many bytes there are then, of `held` before. On error nothing has
+/// Writes bytes from a place on, and returns how many bytes there are then, of `held` before. On error nothing has
 /// changed.
 pub(crate) fn write_runs(
     alloc: Global,
     runs: &mut Runs,
     held: u64,
-    inode: u64,
-    from: u64,
+    at: RunStart,
     bytes: &[u8],
 ) -> Result<u64, AllocError>
     requires order { InOrder 0 runs.old.entries }
     requires held { held ≡ length (pending_bytes runs.old.entries) }
     requires small { held + length bytes.now < 2 ^ 64 }
     requires some { 0 < length bytes.now }
-    requires file { from + length bytes.now ≤ FILE_END }
+    requires file { at.from + length bytes.now ≤ FILE_END }
     ensures order { InOrder 0 runs.new.entries }
     ensures ok { OnOk result (pending_bytes runs.new.entries
-        ≡ written inode from bytes.now (pending_bytes runs.old.entries)) }
+        ≡ written at.inode at.from bytes.now (pending_bytes runs.old.entries)) }
     ensures count { IfOk result (λ n. n ≡ length (pending_bytes runs.new.entries)) }
     ensures err { OnErr result (runs.new.entries ≡ runs.old.entries) }
 {
+    let RunStart { inode, from } = at;
     // Most writes begin where the last one ended, and no more than that run has to be found for them.
     if let Some(only) = only_touched(runs, inode, from, bytes.len()) {
         return Ok(held + write_into(runs, only, from, bytes)?);
     }
     let first = first_touched(runs, inode, from);
     let end = end_touched(inode, from + bytes.len() as u64);
-    let count = count_written(runs, first, end, held, from, bytes);
+    let write = TouchingWrite {
+        first,
+        end,
+        from,
+        bytes,
+    };
+    let count = count_written(runs, held, &write);
     write_from(alloc, runs, first, from, bytes)?;
     Ok(count)
 }

@@ -26,8 +26,9 @@ use Rattle.jv_yard.specs.declared.faults.YardFault.TheVariants.{Depot, Shelf, Me
 use Rattle.jv_yard.specs.BlockCalls.{GetsBlock}
 use Rattle.jv_yard.specs.YardValue.{YardValue}
 use Rattle.jv_shared.specs.Keeping.{HoldsSame}
+use Rattle.jv_shared.specs.Direct.{HasNamed}
 use Rattle.jv_shared.specs.Seen.{IsView}
-use Rattle.jv_shared.specs.Shared.{HasStore, Known, Shared}
+use Rattle.jv_shared.specs.Shared.{HasStore, Known, Shared, depot_in}
 use Rattle.jv_shared.proofs.SameLaws.{same-gets}
 use Rattle.jv_shared.proofs.StoreLaws.{named_read}
 use Rattle.jv_steps.specs.IsStep.{IsStep, at_stage}
@@ -52,7 +53,8 @@ fails-yard Memory = refl
 
 -- ---- the bytes
 
--- A block that a view's records name is there, with the bytes that are known of it and the length of its name.
+-- A block that a view's records name, where the depot has it, comes with the bytes that are known of it and the length of
+-- its name.
 pub record GotBlock (g : Known) (b : BlockId) (value : Option (List ℕ)) : Type 0 where
   pub bytes : List ℕ
   pub is : value ≡ Some bytes
@@ -64,11 +66,11 @@ module _ (s : State) (g : Known) (v : Shared) (has : HasStore s.tree g v) (clien
   got = record v { yard = yard }
 
   pub got-block : (window long : ℕ) (list : List Rec) (content : Content) → IsView g v window long list content
-      → (b : BlockId) (r : Rec) → Contains list r → 0 < r.id → b.index < block_count r.size v.yard.setting.block
+      → HasNamed v.yard.setting.block (depot_in v) list → (b : BlockId) (r : Rec) → Contains list r → 0 < r.id → b.index < block_count r.size v.yard.setting.block
       → b ≡ block_at r.id r.size v.yard.setting.block b.index → client ≤ LAST_CLIENT → (value : Option (List ℕ))
       → GetsBlock client (name_in v.yard.setting b) v.yard yard (Ok value) → GotBlock g b value
-  got-block window long list content view b r among some below is low value gets =
-      let read = named_read s.tree g v has window long list content view b r among some below is client value low
+  got-block window long list content view there b r among some below is low value gets =
+      let read = named_read s.tree g v has window long list content view there b r among some below is client value low
       gets.1 in
       record { bytes = read.1.bytes; is = read.0 ∙ read.1.is; known = read.1.is; long = read.1.long }
 

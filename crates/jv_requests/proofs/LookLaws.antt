@@ -37,10 +37,11 @@ use Rattle.jv_volume.specs.Shape.{Regular, form_of, is_there}
 use Rattle.jv_data.specs.declared.looking.View.{View}
 use Rattle.jv_data.specs.Records.{LooksAt}
 use Rattle.jv_shared.specs.Keeping.{HoldsSame}
+use Rattle.jv_shared.specs.Direct.{HasNamed}
 use Rattle.jv_shared.specs.Seen.{IsView}
-use Rattle.jv_shared.specs.Shared.{HasStore, Known, Shared}
+use Rattle.jv_shared.specs.Shared.{HasStore, Known, Shared, depot_in}
 use Rattle.jv_shared.proofs.SameLaws.{same-rows, same-stays}
-use Rattle.jv_shared.proofs.StoreLaws.{look-view, view-stays}
+use Rattle.jv_shared.proofs.StoreLaws.{look-has, look-view, view-stays}
 use Rattle.jv_steps.specs.IsStep.{at_stage}
 use Rattle.jv_steps.specs.Stages.{Begins, GoesOn, MayRead}
 use Rattle.jv_steps.proofs.ReadStepLaws.{read-answered_look}
@@ -155,6 +156,11 @@ module _ (s : State) (client now : ℕ) (d : Doing) (busy : (s.clients client).d
           (λ start alone. look-step start alone s client now d busy offset len does misses may file opened window look
           sees.session (content-there (node_at s.tree file.inode) sees.content sees.file))
 
+      -- they are those of the window's list
+      listed_here : view.list ≡ lists_of (typed has.rows) file.inode window
+      listed_here = known_is v.keeper.rows has.rows (λ known. view.list ≡ lists_of (typed known) file.inode window)
+          has.rows_are looks.list
+
       -- and the records that it has show the file's bytes
       pub look-shows : IsView g looked window view.length view.list looked-sees.content
       look-shows =
@@ -162,8 +168,11 @@ module _ (s : State) (client now : ℕ) (d : Doing) (busy : (s.clients client).d
           view-stays s.tree g v has 0 g looked (same-stays 0 g v looked still) window view.length view.list
           sees.content
           (look-view s.tree g v has file.inode window view.length view.list sees.content sees.file sees.long
-          (known_is v.keeper.rows has.rows (λ known. view.list ≡ lists_of (typed known) file.inode window)
-          has.rows_are looks.list))
+          listed_here)
+
+      -- and the depot has the blocks that they name
+      pub look-named : HasNamed v.yard.setting.block (depot_in v) view.list
+      look-named = look-has s.tree g v has file.inode window view.list listed_here
 
       -- or that was all it needed, and it answers with what it read
       module _ (first second : ℕ) (bytes : List ℕ)

@@ -46,7 +46,7 @@ fn octal_value(digit: u8) -> Option<u16>
 
 /// A decimal number without leading zeros, of 64 bits at most.
 #[tactic(auto, unfolding(jv_model::specs::script::Spelling::number_of))]
-pub(crate) fn number(digits: &[u8]) -> Option<u64>
+pub fn number(digits: &[u8]) -> Option<u64>
     ensures { result ≡ number_of digits.now }
 {
     if !is_numeral(digits) {

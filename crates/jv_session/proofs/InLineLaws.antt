@@ -235,7 +235,7 @@ module _ (number client : ℕ) (before after : LineState) (step : Step) (m : Ste
             on = ran.1;
             goes = goes_to ran.0 line ran.1;
             in_line = in_line_after ran.0 ran.1;
-            kept = leads_to.leads.kept.keeps.blocks.grows;
+            kept = leads_to.leads.kept.depot.grows;
           }
 
 -- a line that is done, and whose text there was memory for or not

@@ -102,11 +102,19 @@ low_now s by now before after m = omega (arith, m.is)
 -- a client that crashed stands for one that isn't mounted
 crashed_stands : (g : Known) (v : Shared) (count : ℕ) (c : ClientValue) → IsClient g v unmounted count (crashed c)
 crashed_stands g v count c = record {
-  held = record { session = refl; direct = refl; removed = λ inode. refl; handles = tt; views = tt; pending = refl };
+  held = record {
+    session = refl;
+    removed = λ inode. refl;
+    handles = tt;
+    views = tt;
+    pending = refl;
+    direct = record { mode = refl; seen = tt };
+  };
   doing = tt;
   flight = tt;
   reading = tt;
   cache = tt;
+  put = tt;
 }
 
 -- The call notes one entry, and no device is used.

@@ -20,7 +20,7 @@ use Rattle.jv_outside.specs.Causes.{Rose}
 use Rattle.jv_outside.specs.Ticks.{Ticks, Passes}
 use Rattle.jv_outside.proofs.TicksLaws.{Passes-trans}
 use Rattle.jv_contents.proofs.BlockLaws.{grows-then}
-use Rattle.jv_shared.specs.Shared.{present_in}
+use Rattle.jv_shared.specs.Shared.{depot_in}
 use Rattle.jv_client.specs.ClientValue.{ClientValue}
 use Rattle.jv_client.specs.UnderWay.{steps_left}
 use Rattle.jv_client.proofs.StepOfLaws.{falls-of}
@@ -146,7 +146,7 @@ module _ (client number : ℕ) (start now later : LineState) (h : Reached client
           f.goes made.goes
 
       kept_more : BlocksStay start.devices later.devices
-      kept_more = grows-then (present_in start.devices) (present_in now.devices) (present_in later.devices) f.kept made.kept
+      kept_more = grows-then (depot_in start.devices) (depot_in now.devices) (depot_in later.devices) f.kept made.kept
 
   leads_more_steps : (m : Stepped number client now later More)
       → LeadsSoFar client number (h.asks + 1) start later
@@ -213,7 +213,7 @@ module _ (client number : ℕ) (start now later : LineState) (h : Reached client
         end = f.there;
         goes = subst (λ more. Goes q h.asks start.journal more f.acts f.there) (sym left.journal) f.goes;
         in_line = in_line-left f.there now later left f.in_line;
-        kept = grows-then (present_in start.devices) (present_in now.devices) (present_in later.devices) f.kept
+        kept = grows-then (depot_in start.devices) (depot_in now.devices) (depot_in later.devices) f.kept
             (blocks_stay now.devices later.devices left.devices);
         stops = may_be_cut_at f.there (ToAnswer client) f.due
             (line_goes_on f.there now.schedule now.devices client c f.in_line found);

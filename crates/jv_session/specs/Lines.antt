@@ -12,7 +12,7 @@ use Rattle.jv_rows.specs.Transactions.{IsBad}
 use Rattle.jv_volume.specs.TypedRows.{typed}
 use Rattle.jv_contents.specs.Blocks.{Grows}
 use Rattle.jv_yard.specs.YardValue.{YardValue}
-use Rattle.jv_shared.specs.Shared.{Shared, present_in}
+use Rattle.jv_shared.specs.Shared.{Shared, depot_in}
 use Rattle.jv_client.specs.Makes.{faults_of, is_failure_entry}
 use Rattle.jv_session.specs.declared.line_end.LineEnd.{LineEnd}
 use Rattle.jv_session.specs.declared.line_end.LineEnd.TheVariants.{Said, Quiet, ClockFailed, Broken, Memory}
@@ -61,7 +61,7 @@ pub record Appends (p : Past) (more : List Line) (number asks : ℕ) (before aft
 
 -- each block that the depot had it has later, with its bytes
 abbrev pub BlocksStay : Shared → Shared → Type 0
-BlocksStay before after = Grows (present_in before) (present_in after)
+BlocksStay before after = Grows (depot_in before) (depot_in after)
 
 -- the line is done and prints this
 pub record Ran (p : Past) (more : List Line) (number asks : ℕ) (before after : LineState)

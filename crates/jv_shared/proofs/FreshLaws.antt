@@ -19,6 +19,7 @@ use Rattle.jv_yard.specs.Later.{IsStagedWith, contents_of}
 use Rattle.jv_yard.specs.Staging.{staged_since}
 use Rattle.jv_shared.specs.Shared.{HasStore, Known, Shared, staged_in}
 use Rattle.jv_shared.specs.Fresh.{IsFresh}
+use Rattle.jv_shared.proofs.DirectLaws.{stored-direct}
 use Rattle.jv_shared.proofs.RowStepLaws.{sized-slices}
 
 module _ (v : Shared) (s : IsFresh v) where
@@ -131,11 +132,12 @@ module _ (v : Shared) (s : IsFresh v) where
       objects_are = s.objects_are;
       staged = s.staged;
       staged_are = s.staged_are;
-      there = s.there;
+      there = stored-direct v.yard.setting.block (typed s.rows) (blocks_in v.yard.setting s.objects) (staged_in v.yard s.staged) s.there;
       copies = depot_copies;
       staged_copies = client_copies;
       kept = s.kept;
       below = all_below;
       tree = refl;
+      direct = s.there;
     },
   )

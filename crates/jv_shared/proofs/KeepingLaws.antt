@@ -13,32 +13,32 @@ use Rattle.jv_slices.proofs.BlockLaws.{index_below}
 use Rattle.jv_slices.proofs.PlanLaws.{visible_covers}
 use Rattle.jv_volume.specs.TypedRows.{Rows}
 use Rattle.jv_volume.specs.Slices.{IsUnknown, next_slice}
-use Rattle.jv_contents.specs.Blocks.{Blocks, Grows, known_by}
+use Rattle.jv_contents.specs.Blocks.{known_by}
 use Rattle.jv_contents.specs.Bytes.{spot_byte}
 use Rattle.jv_contents.specs.Flights.{Flight}
 use Rattle.jv_contents.proofs.BlockLaws.{grows-none, grows-then, there-grows, known-grows, seen_contained}
 use Rattle.jv_contents.proofs.FlightLaws.{flies-still}
 use Rattle.jv_contents.proofs.PlaceLaws.{record_inside}
 use Rattle.jv_contents.proofs.WholeLaws.{all-mapped}
-use Rattle.jv_shared.specs.Shared.{Known, Shared, present_in, rows_in}
+use Rattle.jv_shared.specs.Shared.{Known, Shared, depot_in, rows_in}
 use Rattle.jv_shared.specs.Seen.{IsFound, ShowsWindow}
 use Rattle.jv_shared.specs.Flying.{Flies, IsFlying}
 use Rattle.jv_shared.specs.Keeping.{Keeps, KeepsShared, Leads}
+use Rattle.jv_shared.proofs.DirectLaws.{depot-none, depot-then}
 
 -- ---- steps
 
 -- nothing has changed
-pub keeps-none : (own : ℕ) (rows : Rows) (g : Known) (present : Blocks) → Keeps own rows rows g g present present
-keeps-none own rows g present = record {
+pub keeps-none : (own : ℕ) (rows : Rows) (g : Known) → Keeps own rows rows g g
+keeps-none own rows g = record {
   learns = record { blocks = grows-none g.blocks; only = λ b bytes apart there. there; sizes = λ id low. refl };
   numbers = record { next = omega arith; unknown = λ id some apart u. u };
-  blocks = record { grows = grows-none present; only = λ b bytes apart there. there };
 }
 
 -- one step after another, of the same slice
-pub keeps-then : (own : ℕ) (rows rows' rows'' : Rows) (g g' g'' : Known) (present present' present'' : Blocks)
-    → Keeps own rows rows' g g' present present' → Keeps own rows' rows'' g' g'' present' present'' → Keeps own rows rows'' g g'' present present''
-keeps-then own rows rows' rows'' g g' g'' present present' present'' k l = record {
+pub keeps-then : (own : ℕ) (rows rows' rows'' : Rows) (g g' g'' : Known)
+    → Keeps own rows rows' g g' → Keeps own rows' rows'' g' g'' → Keeps own rows rows'' g g''
+keeps-then own rows rows' rows'' g g' g'' k l = record {
   learns = record {
     blocks = grows-then g.blocks g'.blocks g''.blocks k.learns.blocks l.learns.blocks;
     only = λ b bytes apart there. k.learns.only b bytes apart (l.learns.only b bytes apart there);
@@ -48,30 +48,26 @@ keeps-then own rows rows' rows'' g g' g'' present present' present'' k l = recor
     next = (let first = k.numbers.next in let second = l.numbers.next in omega (arith, first, second));
     unknown = λ id some apart u. l.numbers.unknown id some apart (k.numbers.unknown id some apart u);
   };
-  blocks = record {
-    grows = grows-then present present' present'' k.blocks.grows l.blocks.grows;
-    only = λ b bytes apart there. k.blocks.only b bytes apart (l.blocks.only b bytes apart there);
-  };
 }
 
-module _ (own : ℕ) (rows rows' : Rows) (g g' : Known) (present present' : Blocks) (k : Keeps own rows rows' g g' present present') where
+module _ (own : ℕ) (rows rows' : Rows) (g g' : Known) (k : Keeps own rows rows' g g') where
   -- ---- views
 
-  pub found-keeps : (block : ℕ) (r : Rec) → IsFound block rows g present r → IsFound block rows' g' present' r
+  pub found-keeps : (block : ℕ) (r : Rec) → IsFound block rows g r → IsFound block rows' g' r
   found-keeps block r found = record {
     record_is = found.record_is;
     numbered = λ named. (let low = found.numbered named in let more = k.numbers.next in omega (arith, low, more));
     sized = λ named. found.sized named ∙ sym (k.learns.sizes r.id (found.numbered named));
-    there = λ named index low. there-grows present present' (block_at r.id r.size block index) k.blocks.grows (found.there named index low);
+    there = λ named index low. there-grows g.blocks g'.blocks (block_at r.id r.size block index) k.learns.blocks (found.there named index low);
   }
 
-  -- what is known of the places of a list whose records' blocks are there stays
-  known_keeps : (block : ℕ) → 0 < block → Grows present g.blocks → (list : List Rec) → AllByRecursion (IsFound block rows g present) list → (place : ℕ)
+  -- what is known of the places of a list stays
+  known_keeps : (block : ℕ) → 0 < block → (list : List Rec) → AllByRecursion (IsFound block rows g) list → (place : ℕ)
       → spot_byte (known_by block g'.blocks) (stored_place list place) ≡ spot_byte (known_by block g.blocks) (stored_place list place)
   unfolding stored_place
-  known_keeps block some known list found place = by_record (visible list place) refl
+  known_keeps block some list found place = by_record (visible list place) refl
     where
-      of_record : (r : Rec) → IsFound block rows g present r → (r.pos ≤ place) × (place < r.pos + r.len) → (zero : Bool) → (r.id == 0) ≡ zero
+      of_record : (r : Rec) → IsFound block rows g r → (r.pos ≤ place) × (place < r.pos + r.len) → (zero : Bool) → (r.id == 0) ≡ zero
           → spot_byte (known_by block g'.blocks) (cond zero Zero (Slice r.id r.size (r.off + (place - r.pos))))
           ≡ spot_byte (known_by block g.blocks) (cond zero Zero (Slice r.id r.size (r.off + (place - r.pos))))
       of_record r is covered true z = refl
@@ -81,34 +77,31 @@ module _ (own : ℕ) (rows rows' : Rows) (g g' : Known) (present present' : Bloc
           let at : ℕ = r.off + (place - r.pos) in
           let inside : at < r.size = omega (arith, within, covered) in
           known-grows block g.blocks g'.blocks k.learns.blocks r.id r.size at
-          (there-grows present g.blocks (block_at r.id r.size block (at / block)) known
-          (is.there named (at / block) (index_below r.size block at (at / block) some inside (omega arith))))
+          (is.there named (at / block) (index_below r.size block at (at / block) some inside (omega arith)))
 
       by_record : (o : Option Rec) → visible list place ≡ o
           → spot_byte (known_by block g'.blocks) (place_by o place) ≡ spot_byte (known_by block g.blocks) (place_by o place)
       by_record None seen = refl
       by_record (Some r) seen =
-          of_record r (All-contains (IsFound block rows g present) list r (All-from_recursion (IsFound block rows g present) list found) (seen_contained list place r seen))
+          of_record r (All-contains (IsFound block rows g) list r (All-from_recursion (IsFound block rows g) list found) (seen_contained list place r seen))
           (visible_covers list place r seen) (r.id == 0) refl
 
-  -- What a window shows stays, where all blocks of the depot are known.
-  pub shows-keeps : (block : ℕ) → 0 < block → Grows present g.blocks → (window length : ℕ) (list : List Rec) (content : Content)
-      → ShowsWindow block rows g present window length list content → ShowsWindow block rows' g' present' window length list content
-  shows-keeps block some known window length list content shows = record {
+  -- What a window shows stays.
+  pub shows-keeps : (block : ℕ) → 0 < block → (window length : ℕ) (list : List Rec) (content : Content)
+      → ShowsWindow block rows g window length list content → ShowsWindow block rows' g' window length list content
+  shows-keeps block some window length list content shows = record {
     long = shows.long;
-    records = all-mapped (IsFound block rows g present) (IsFound block rows' g' present') (found-keeps block) list shows.records;
-    bytes = λ place small low. shows.bytes place small low ∙ sym (known_keeps block some known list shows.records place);
+    records = all-mapped (IsFound block rows g) (IsFound block rows' g') (found-keeps block) list shows.records;
+    bytes = λ place small low. shows.bytes place small low ∙ sym (known_keeps block some list shows.records place);
   }
 
   -- ---- flights
 
   -- a flight of another slice goes on
-  pub flying-keeps : (block : ℕ) (f : Flight) → f.id ≢ own → IsFlying block rows g present f → IsFlying block rows' g' present' f
+  pub flying-keeps : (block : ℕ) (f : Flight) → f.id ≢ own → IsFlying block rows g f → IsFlying block rows' g' f
   flying-keeps block f apart flying = record {
     ever = flies-still block rows g.blocks f flying.ever rows' g'.blocks low unknown k.learns.blocks
         (λ b bytes its there. k.learns.only b bytes (λ same. apart (sym its ∙ same)) there);
-    here = flies-still block rows present f flying.here rows' present' low unknown k.blocks.grows
-        (λ b bytes its there. k.blocks.only b bytes (λ same. apart (sym its ∙ same)) there);
     size = k.learns.sizes f.id flying.ever.below ∙ flying.size;
   }
     where
@@ -121,19 +114,20 @@ module _ (own : ℕ) (rows rows' : Rows) (g g' : Known) (present present' : Bloc
 -- ---- what clients share
 
 pub stays-none : (own : ℕ) (g : Known) (v : Shared) → KeepsShared own g g v v
-stays-none own g v = record { setting = refl; keeps = keeps-none own (rows_in v) g (present_in v) }
+stays-none own g v = record { setting = refl; keeps = keeps-none own (rows_in v) g; depot = depot-none own (depot_in v) }
 
 pub stays-then : (own : ℕ) (g g' g'' : Known) (v v' v'' : Shared) → KeepsShared own g g' v v' → KeepsShared own g' g'' v' v'' → KeepsShared own g g'' v v''
 stays-then own g g' g'' v v' v'' k l = record {
   setting = l.setting ∙ k.setting;
-  keeps = keeps-then own (rows_in v) (rows_in v') (rows_in v'') g g' g'' (present_in v) (present_in v') (present_in v'') k.keeps l.keeps;
+  keeps = keeps-then own (rows_in v) (rows_in v') (rows_in v'') g g' g'' k.keeps l.keeps;
+  depot = depot-then own (depot_in v) (depot_in v') (depot_in v'') k.depot l.depot;
 }
 
 -- a flight of another slice goes on
 pub flies-stay : (own : ℕ) (g g' : Known) (v v' : Shared) → KeepsShared own g g' v v' → (f : Flight) → f.id ≢ own → Flies g v f → Flies g' v' f
 flies-stay own g g' v v' k f apart flying =
-    subst (λ (x : Setting). IsFlying x.block (rows_in v') g' (present_in v') f) (sym k.setting)
-    (flying-keeps own (rows_in v) (rows_in v') g g' (present_in v) (present_in v') k.keeps v.yard.setting.block f apart flying)
+    subst (λ (x : Setting). IsFlying x.block (rows_in v') g' f) (sym k.setting)
+    (flying-keeps own (rows_in v) (rows_in v') g g' k.keeps v.yard.setting.block f apart flying)
 
 -- also where the step is about no slice
 pub flies-stay_none : (g g' : Known) (v v' : Shared) → KeepsShared 0 g g' v v' → (f : Flight) → Flies g v f → Flies g' v' f

@@ -1,6 +1,7 @@
 -- What is proved of what clients share.
 pub mod SettingLaws
 pub mod SeenLaws
+pub mod DirectLaws
 pub mod KeepingLaws
 pub mod StoreLaws
 pub mod FlyingLaws

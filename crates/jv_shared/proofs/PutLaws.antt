@@ -1,5 +1,5 @@
 -- The put of a flight's next block: it leads to the same tree, and the flight goes on with one more block.
-use Rattle.std.proofs.Common.{◌≡◌, ◌≢◌, ℕ, ◌+◌, ◌<◌, ◌^◌, Bool, true, false, inl, inr, List, Some, refl, sym, ap, subst, ◌∙◌, arith}
+use Rattle.std.proofs.Common.{◌≡◌, ◌≢◌, ℕ, ◌+◌, ◌<◌, ◌^◌, Bool, true, false, inl, inr, List, Option, None, Some, refl, sym, ap, subst, ◌∙◌, arith}
 use Rattle.std.specs.Prelude.{if◌then◌else◌}
 use Rattle.jv_model.specs.declared.slice.BlockId.{BlockId}
 use Rattle.jv_model.specs.blocks.BlockNames.{IsBlock, name_in}
@@ -13,7 +13,7 @@ use Rattle.jv_outside.specs.Parcels.{StandsFor}
 use Rattle.jv_slices.proofs.NeedLaws.{equal_if_same, same_self}
 use Rattle.jv_volume.specs.TypedRows.{Rows, typed}
 use Rattle.jv_volume.specs.Slices.{next_slice}
-use Rattle.jv_contents.specs.Blocks.{Blocks, Grows, IsPut}
+use Rattle.jv_contents.specs.Blocks.{Blocks, Grows, HasBlocks, IsPut}
 use Rattle.jv_contents.specs.Flights.{Flight, flight_block, flight_bytes}
 use Rattle.jv_contents.proofs.BlockLaws.{has_blocks-grow, tree-grows}
 use Rattle.jv_contents.proofs.FlightLaws.{next_block-free, put-below, put-grows, put-next, put_or_was}
@@ -23,10 +23,13 @@ use Rattle.jv_yard.specs.Contents.{blocks_in}
 use Rattle.jv_yard.specs.YardValue.{YardValue}
 use Rattle.jv_yard.proofs.CallLaws.{IsKept-same}
 use Rattle.jv_yard.proofs.ContentsLaws.{put-objects, put-other, put-same}
-use Rattle.jv_shared.specs.Shared.{HasStore, Known, Shared, depot_blocks, present_in, rows_in, with_block}
-use Rattle.jv_shared.specs.Flying.{Flies, IsFlying}
-use Rattle.jv_shared.specs.Keeping.{Keeps, KeepsShared, Leads}
-use Rattle.jv_shared.proofs.StoreLaws.{block_length, block_some, known_has, present_are, rows_are}
+use Rattle.jv_shared.specs.Shared.{HasStore, Known, Shared, depot_blocks, depot_in, rows_in, staged_in, with_block}
+use Rattle.jv_shared.specs.Flying.{Flies}
+use Rattle.jv_shared.specs.Direct.{HasPut, KeepsDepot}
+use Rattle.jv_shared.specs.Keeping.{KeepsShared, Leads}
+use Rattle.jv_shared.proofs.DirectLaws.{has_put-next, stored-direct}
+use Rattle.jv_shared.proofs.FlyingLaws.{flight_bytes-long}
+use Rattle.jv_shared.proofs.StoreLaws.{block_length, block_some, known_has, depot_are, rows_are}
 
 -- a block is known, and all others are as before
 pub with_block-put : (b : BlockId) (bytes : List ℕ) (g : Known) → IsPut b bytes g.blocks (with_block b bytes g).blocks
@@ -49,8 +52,8 @@ module _ (t : Tree) (g : Known) (v : Shared) (s : HasStore t g v) (f : Flight) (
   abbrev learned : Known
   learned = with_block next bytes g
 
-  abbrev present : Blocks
-  present = blocks_in v.yard.setting s.objects
+  abbrev depot : Blocks
+  depot = blocks_in v.yard.setting s.objects
 
   ever_put : IsPut next bytes g.blocks learned.blocks
   ever_put = with_block-put next bytes g
@@ -65,37 +68,51 @@ module _ (t : Tree) (g : Known) (v : Shared) (s : HasStore t g v) (f : Flight) (
     | inr same ↦ absurd (apart (ap (λ (x : BlockId). x.id) same))
   ]
 
-  here_now : IsFlying v.yard.setting.block (rows_in v) g present f
-  here_now = subst (λ (blocks : Blocks). IsFlying v.yard.setting.block (rows_in v) g blocks f) (present_are t g v s) flies
+  -- the depot doesn't have the block yet
+  depot_free : depot next ≡ None
+  depot_free = by_bytes (depot next) refl
+    where
+      by_bytes : (o : Option (List ℕ)) → depot next ≡ o → depot next ≡ None
+      by_bytes None e = e
+      by_bytes (Some its) e =
+          let known : g.blocks next ≡ Some its = s.copies next its e in
+          let none : g.blocks next ≡ None = next_block-free v.yard.setting.block (rows_in v) g.blocks f flies.ever in
+          absurd (cc)
 
   module _ (is : IsBlock v.yard.setting.block next) (at : ℕ) where
     abbrev after : ObjectMap
     after = with_object (name_in v.yard.setting next) bytes at s.objects
 
-    abbrev present' : Blocks
-    present' = blocks_in v.yard.setting after
+    abbrev depot' : Blocks
+    depot' = blocks_in v.yard.setting after
 
     small : v.yard.setting.block < 2 ^ 32
     small = (let most = (block_length t g v s).most in omega (arith, most))
 
-    present_put : IsPut next bytes present present'
-    present_put = record {
+    depot_put : IsPut next bytes depot depot'
+    depot_put = record {
       here = put-same v.yard.setting small s.objects next bytes at is;
       others = λ other apart. put-other v.yard.setting small s.objects next bytes at is other apart;
     }
 
-    present_grows : Grows present present'
-    present_grows = put-grows next bytes present present' present_put (next_block-free v.yard.setting.block (rows_in v) present f here_now.here)
+    depot_grows : Grows depot depot'
+    depot_grows = put-grows next bytes depot depot' depot_put depot_free
 
-    present_learned : Grows present' learned.blocks
-    present_learned b its there = elim (put_or_was next bytes present present' present_put b its there) [
+    depot_learned : Grows depot' learned.blocks
+    depot_learned b its there = elim (put_or_was next bytes depot depot' depot_put b its there) [
       | inl was ↦ ever_grows b its (s.copies b its was)
-      | inr same ↦ ap learned.blocks same ∙ ever_put.here ∙ sym present_put.here ∙ ap present' (sym same) ∙ there
+      | inr same ↦ ap learned.blocks same ∙ ever_put.here ∙ sym depot_put.here ∙ ap depot' (sym same) ∙ there
     ]
 
-    module _ (depot : Holding ObjectMap) (log : List Note) (carrier : Carriage) (content : depot.content ≡ Some after) where
+    has_now : HasBlocks v.yard.setting.block (typed s.rows) depot'
+    has_now = has_blocks-grow v.yard.setting.block (typed s.rows) depot depot' depot_grows s.direct
+
+    module _ (held : Holding ObjectMap) (log : List Note) (carrier : Carriage) (content : held.content ≡ Some after) where
       abbrev put_shared : Shared
-      put_shared = record v { yard = record v.yard { depot = depot; log = log }; carrier = carrier }
+      put_shared = record v { yard = record v.yard { depot = held; log = log }; carrier = carrier }
+
+      depot_then : depot' ≡ depot_in put_shared
+      depot_then = sym (ap (depot_blocks v.yard.setting) content)
 
       put_store : HasStore t learned put_shared
       put_store = record {
@@ -108,37 +125,37 @@ module _ (t : Tree) (g : Known) (v : Shared) (s : HasStore t g v) (f : Flight) (
         objects_are = content;
         staged = s.staged;
         staged_are = s.staged_are;
-        there = has_blocks-grow v.yard.setting.block (typed s.rows) present present' present_grows s.there;
-        copies = present_learned;
+        there = stored-direct v.yard.setting.block (typed s.rows) depot' (staged_in v.yard s.staged) has_now;
+        copies = depot_learned;
         staged_copies = λ client b its there. ever_grows b its (s.staged_copies client b its there);
-        kept = IsKept-same v.yard (record v.yard { depot = depot; log = log }) refl refl refl s.kept;
+        kept = IsKept-same v.yard (record v.yard { depot = held; log = log }) refl refl refl s.kept;
         below = put-below next bytes g.blocks learned.blocks ever_put (typed s.rows)
             (subst (λ (rows : Rows). f.id < next_slice rows) (rows_are t g v s) flies.ever.below) s.below;
         tree = s.tree
             ∙ sym (tree-grows (typed s.rows) s.whole.slices v.yard.setting.block g.blocks learned.blocks (block_some t g v s) (known_has t g v s) ever_grows);
+        direct = has_now;
       }
 
       put_kept : KeepsShared f.id g learned v put_shared
       put_kept = record {
         setting = refl;
-        keeps = subst (λ (blocks : Blocks). Keeps f.id (rows_in v) (rows_in v) g learned blocks (present_in put_shared)) (sym (present_are t g v s))
-            (subst (λ (blocks : Blocks). Keeps f.id (rows_in v) (rows_in v) g learned present blocks) (sym (ap (depot_blocks v.yard.setting) content))
-            (record {
-              learns = record { blocks = ever_grows; only = put_own g.blocks learned.blocks ever_put; sizes = λ id low. refl };
-              numbers = record { next = omega arith; unknown = λ id some apart u. u };
-              blocks = record { grows = present_grows; only = put_own present present' present_put };
-            }));
+        keeps = record {
+          learns = record { blocks = ever_grows; only = put_own g.blocks learned.blocks ever_put; sizes = λ id low. refl };
+          numbers = record { next = omega arith; unknown = λ id some apart u. u };
+        };
+        depot = subst (λ (blocks : Blocks). KeepsDepot f.id blocks (depot_in put_shared)) (sym (depot_are t g v s))
+            (subst (λ (blocks : Blocks). KeepsDepot f.id depot blocks) depot_then
+            (record { grows = depot_grows; only = put_own depot depot' depot_put }));
       }
 
       put_flies : Flies learned put_shared (record f { put = f.put + 1 })
-      put_flies =
-          subst (λ (blocks : Blocks). IsFlying v.yard.setting.block (rows_in v) learned blocks (record f { put = f.put + 1 }))
-          (sym (ap (depot_blocks v.yard.setting) content))
-          (record {
-            ever = put-next v.yard.setting.block (rows_in v) g.blocks f flies.ever learned.blocks ever_put;
-            here = put-next v.yard.setting.block (rows_in v) present f here_now.here present' present_put;
-            size = flies.size;
-          })
+      put_flies = record { ever = put-next v.yard.setting.block (rows_in v) g.blocks f flies.ever learned.blocks ever_put; size = flies.size }
+
+      put_has : HasPut v.yard.setting.block (depot_in v) f → HasPut v.yard.setting.block (depot_in put_shared) (record f { put = f.put + 1 })
+      put_has has =
+          subst (λ (blocks : Blocks). HasPut v.yard.setting.block blocks (record f { put = f.put + 1 })) depot_then
+          (has_put-next v.yard.setting.block depot depot' f (flight_bytes-long v.yard.setting.block f f.put) depot_grows depot_put
+          (subst (λ (blocks : Blocks). HasPut v.yard.setting.block blocks f) (depot_are t g v s) has))
 
   module _ (client : ℕ) (parcel : Parcel) (yard : YardValue) (carrier : Carriage) (at : ℕ) (is : IsBlock v.yard.setting.block next)
       (stands : StandsFor parcel (name_in v.yard.setting next) bytes at) (put : PutsParcel client parcel v.yard yard) where
@@ -158,3 +175,10 @@ module _ (t : Tree) (g : Known) (v : Shared) (s : HasStore t g v) (f : Flight) (
     put-flies_on =
         subst (λ (y : YardValue). Flies (with_block next bytes g) (record v { yard = y; carrier = carrier }) (record f { put = f.put + 1 })) (sym put.others)
         (put_flies is at yard.depot yard.log carrier content_is)
+
+    -- of which the depot has the blocks that were put
+    pub put-has_put : HasPut v.yard.setting.block (depot_in v) f
+        → HasPut yard.setting.block (depot_in (record v { yard = yard; carrier = carrier })) (record f { put = f.put + 1 })
+    put-has_put has =
+        subst (λ (y : YardValue). HasPut y.setting.block (depot_in (record v { yard = y; carrier = carrier })) (record f { put = f.put + 1 })) (sym put.others)
+        (put_has is at yard.depot yard.log carrier content_is has)

@@ -24,15 +24,17 @@ use Rattle.jv_contents.specs.Bytes.{KnownBytes, bytes_of, tree_with}
 use Rattle.jv_contents.specs.Counts.{KeepsOthers}
 use Rattle.jv_contents.specs.Flights.{Flight, IsComplete}
 use Rattle.jv_contents.proofs.BlockLaws.{below-rows, grows-none, has_blocks-on, named_has_row}
-use Rattle.jv_contents.proofs.FlightLaws.{complete-there, flies-new}
+use Rattle.jv_contents.proofs.FlightLaws.{flies-new}
 use Rattle.jv_contents.proofs.KeepLaws.{below-keeps, bytes-stay, has_blocks-stay, keeps-quiet, stay-counters, unknown-stay}
 use Rattle.jv_contents.proofs.WholeLaws.{all-mapped}
 use Rattle.jv_yard.specs.Contents.{blocks_in}
-use Rattle.jv_shared.specs.Shared.{AreSized, HasStore, Known, Shared, present_in, rows_in, typed_in, with_size}
+use Rattle.jv_shared.specs.Shared.{AreSized, HasStore, Known, Shared, depot_in, staged_in, typed_in, with_size}
 use Rattle.jv_shared.specs.Seen.{SliceIsThere}
 use Rattle.jv_shared.specs.Flying.{Flies, IsFlying}
+use Rattle.jv_shared.specs.Direct.{HasPut}
 use Rattle.jv_shared.specs.Keeping.{Keeps, KeepsNumbers, KeepsShared, Leads}
-use Rattle.jv_shared.proofs.StoreLaws.{block_some, present_are, present_known, rows_are}
+use Rattle.jv_shared.proofs.DirectLaws.{depot-none, has_put-complete, stored-direct}
+use Rattle.jv_shared.proofs.StoreLaws.{depot_are, rows_are}
 
 -- ---- sizes
 
@@ -67,7 +69,7 @@ module _ (t : Tree) (g : Known) (v : Shared) (s : HasStore t g v) where
       → (tree_with (known_by v.yard.setting.block g.blocks) (typed left)).setting ≡ t.setting
       → HasBlocks v.yard.setting.block (typed left) (blocks_in v.yard.setting s.objects) → AreBelow (typed left) g.blocks
       → HasStore (tree_with (known_by v.yard.setting.block g.blocks) (typed left)) (record g { sizes = sizes }) (record v { keeper = keeper; carrier = carrier })
-  store_left keeper carrier left sizes is whole sized setting there below = record {
+  store_left keeper carrier left sizes is whole sized setting has below = record {
     rows = left;
     rows_are = is;
     whole = whole;
@@ -79,12 +81,13 @@ module _ (t : Tree) (g : Known) (v : Shared) (s : HasStore t g v) where
     objects_are = s.objects_are;
     staged = s.staged;
     staged_are = s.staged_are;
-    there = there;
+    there = stored-direct v.yard.setting.block (typed left) (blocks_in v.yard.setting s.objects) (staged_in v.yard s.staged) has;
     copies = s.copies;
     staged_copies = s.staged_copies;
     kept = s.kept;
     below = below;
     tree = refl;
+    direct = has;
   }
 
   keeps_left : (keeper : Store) (carrier : Carriage) (left : RowMap) (sizes : ℕ → ℕ) (own : ℕ) → keeper.rows ≡ Some left → KeepsNumbers own (typed s.rows) (typed left)
@@ -92,21 +95,21 @@ module _ (t : Tree) (g : Known) (v : Shared) (s : HasStore t g v) where
       → KeepsShared own g (record g { sizes = sizes }) v (record v { keeper = keeper; carrier = carrier })
   keeps_left keeper carrier left sizes own is numbers same = record {
     setting = refl;
-    keeps = subst (λ (rows : Rows). Keeps own rows (typed_in keeper.rows) g (record g { sizes = sizes }) (present_in v) (present_in v)) (sym (rows_are t g v s))
-        (subst (λ (rows : Rows). Keeps own (typed s.rows) rows g (record g { sizes = sizes }) (present_in v) (present_in v)) (sym (ap typed_in is))
+    keeps = subst (λ (rows : Rows). Keeps own rows (typed_in keeper.rows) g (record g { sizes = sizes })) (sym (rows_are t g v s))
+        (subst (λ (rows : Rows). Keeps own (typed s.rows) rows g (record g { sizes = sizes })) (sym (ap typed_in is))
         (record {
           learns = record { blocks = grows-none g.blocks; only = λ b bytes apart there. there; sizes = same };
           numbers = numbers;
-          blocks = record { grows = grows-none (present_in v); only = λ b bytes apart there. there };
         }));
+    depot = depot-none own (depot_in v);
   }
 
   -- ---- transactions
 
-  -- A transaction on lists leads to the tree of the rows left, where the blocks of its own slice are there.
+  -- A transaction on lists leads to the tree of the rows left, where the depot has the blocks of its own slice.
   pub lists-lead : (keeper : Store) (carrier : Carriage) (left : RowMap) (own more : ℕ) → keeper.rows ≡ Some left → Whole (typed left)
       → KeepsOthers own more (typed s.rows) (typed left)
-      → ((slice : SliceRow) → slice_row_at (typed left) own ≡ Some slice → (slice.size ≡ g.sizes own) × SliceIsThere v.yard.setting.block (present_in v) own slice.size)
+      → ((slice : SliceRow) → slice_row_at (typed left) own ≡ Some slice → (slice.size ≡ g.sizes own) × SliceIsThere v.yard.setting.block (depot_in v) own slice.size)
       → (tree_with (known_by v.yard.setting.block g.blocks) (typed left)).setting ≡ t.setting
       → Leads own (tree_with (known_by v.yard.setting.block g.blocks) (typed left)) g g v (record v { keeper = keeper; carrier = carrier })
   lists-lead keeper carrier left own more is whole keeps its setting = record {
@@ -114,8 +117,8 @@ module _ (t : Tree) (g : Known) (v : Shared) (s : HasStore t g v) where
         (sized-keeps g.sizes own more (typed s.rows) (typed left) whole.slices keeps (λ slice there. (its slice there).0) s.sized)
         setting
         (has_blocks-on v.yard.setting.block own more (typed s.rows) (typed left) (blocks_in v.yard.setting s.objects) keeps
-        (λ slice there. subst (λ (blocks : Blocks). SliceIsThere v.yard.setting.block blocks own slice.size) (present_are t g v s) (its slice there).1)
-        s.there)
+        (λ slice there. subst (λ (blocks : Blocks). SliceIsThere v.yard.setting.block blocks own slice.size) (depot_are t g v s) (its slice there).1)
+        s.direct)
         (below-keeps own more (typed s.rows) (typed left) g.blocks keeps s.below);
     kept = keeps_left keeper carrier left g.sizes own is
         (record { next = (let same = keeps.next in omega (arith, same)); unknown = keeps.unknown })
@@ -145,17 +148,18 @@ module _ (t : Tree) (g : Known) (v : Shared) (s : HasStore t g v) where
   }
 
   -- the commit of a flight whose blocks were all put
-  pub commit-leads : (keeper : Store) (carrier : Carriage) (left : RowMap) (f : Flight) (more : ℕ) → Flies g v f → IsComplete v.yard.setting.block f
+  pub commit-leads : (keeper : Store) (carrier : Carriage) (left : RowMap) (f : Flight) (more : ℕ) → Flies g v f
+      → HasPut v.yard.setting.block (depot_in v) f → IsComplete v.yard.setting.block f
       → keeper.rows ≡ Some left → Whole (typed left) → KeepsOthers f.id more (typed s.rows) (typed left)
       → ((slice : SliceRow) → slice_row_at (typed left) f.id ≡ Some slice → slice.size ≡ length f.bytes)
       → (tree_with (known_by v.yard.setting.block g.blocks) (typed left)).setting ≡ t.setting
       → Leads f.id (tree_with (known_by v.yard.setting.block g.blocks) (typed left)) g g v (record v { keeper = keeper; carrier = carrier })
-  commit-leads keeper carrier left f more flies complete is whole keeps long setting =
+  commit-leads keeper carrier left f more flies has complete is whole keeps long setting =
       lists-lead keeper carrier left f.id more is whole keeps
       (λ slice there. (
         long slice there ∙ sym flies.size,
-        subst (λ n. SliceIsThere v.yard.setting.block (present_in v) f.id n) (sym (long slice there))
-            (λ index low. complete-there v.yard.setting.block (rows_in v) (present_in v) f flies.here complete (block_some t g v s) index low),
+        subst (λ n. SliceIsThere v.yard.setting.block (depot_in v) f.id n) (sym (long slice there))
+            (has_put-complete v.yard.setting.block (depot_in v) f complete has),
       ))
       setting
 
@@ -198,7 +202,7 @@ module _ (t : Tree) (g : Known) (v : Shared) (s : HasStore t g v) where
           s.sized.slices other slice (sym (slice_row-stay (typed s.rows) (typed left) numbered_stay other) ∙ there)
           ∙ sym (numbered_size size other (λ new. (let none = unknown.no_row in let row = ap (slice_row_at (typed left)) (sym new) ∙ there in absurd (cc))))))
           (ap (λ (x : Tree). x.setting) numbered_tree)
-          (has_blocks-stay (typed s.rows) (typed left) numbered_stay v.yard.setting.block (blocks_in v.yard.setting s.objects) s.there)
+          (has_blocks-stay (typed s.rows) (typed left) numbered_stay v.yard.setting.block (blocks_in v.yard.setting s.objects) s.direct)
           (below-rows (typed s.rows) (typed left) g.blocks (omega (arith, given, next)) s.below));
       kept = keeps_left keeper carrier left (with_size id size g).sizes own is
           (record {
@@ -211,11 +215,9 @@ module _ (t : Tree) (g : Known) (v : Shared) (s : HasStore t g v) where
     -- and a slice with this number is in flight, of which nothing is put yet
     pub number-flies : (bytes : List ℕ) → Flies (with_size id (length bytes) g) (record v { keeper = keeper; carrier = carrier }) (record { id = id; bytes = bytes; put = 0 })
     number-flies bytes =
-        subst (λ (rows : Rows). IsFlying v.yard.setting.block rows (with_size id (length bytes) g) (present_in v) (record { id = id; bytes = bytes; put = 0 }))
+        subst (λ (rows : Rows). IsFlying v.yard.setting.block rows (with_size id (length bytes) g) (record { id = id; bytes = bytes; put = 0 }))
         (sym (ap typed_in is))
         (record {
           ever = flies-new v.yard.setting.block (typed s.rows) (typed left) g.blocks bytes id some (omega (arith, given)) s.below (omega (arith, next)) unknown;
-          here = flies-new v.yard.setting.block (typed s.rows) (typed left) (present_in v) bytes id some (omega (arith, given))
-              (λ b its there. s.below b its (present_known t g v s b its there)) (omega (arith, next)) unknown;
           size = ap (λ b. if b then length bytes else g.sizes id) (eq-eqb id id refl);
         })

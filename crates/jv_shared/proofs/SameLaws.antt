@@ -15,8 +15,10 @@ use Rattle.jv_yard.specs.BlockCalls.{GetsBlock}
 use Rattle.jv_yard.specs.Refusals.{Refuses}
 use Rattle.jv_yard.specs.YardValue.{YardValue}
 use Rattle.jv_yard.proofs.CallLaws.{IsKept-same}
-use Rattle.jv_shared.specs.Shared.{HasStore, Known, Shared, depot_blocks, present_in, rows_in, staged_in, typed_in}
+use Rattle.jv_shared.specs.Shared.{HasStore, Known, Shared, depot_blocks, depot_in, rows_in, staged_in, typed_in}
+use Rattle.jv_shared.specs.Direct.{KeepsDepot}
 use Rattle.jv_shared.specs.Keeping.{HoldsSame, Keeps, KeepsShared, Leads}
+use Rattle.jv_shared.proofs.DirectLaws.{depot-none, stored-direct}
 use Rattle.jv_shared.proofs.KeepingLaws.{keeps-none}
 
 -- ---- which calls those are
@@ -72,12 +74,12 @@ same-gets v yard client name (Err fault) refused = same-refused v yard fault ref
 pub same-stays : (own : ℕ) (g : Known) (v v' : Shared) → HoldsSame v v' → KeepsShared own g g v v'
 same-stays own g v v' same = record {
   setting = same.setting;
-  keeps = subst (λ (blocks : Blocks). Keeps own (rows_in v) (rows_in v') g g (present_in v) blocks) present_same
-      (subst (λ (rows : Rows). Keeps own (rows_in v) rows g g (present_in v) (present_in v)) (ap typed_in (sym same.rows)) (keeps-none own (rows_in v) g (present_in v)));
+  keeps = subst (λ (rows : Rows). Keeps own (rows_in v) rows g g) (ap typed_in (sym same.rows)) (keeps-none own (rows_in v) g);
+  depot = subst (λ (blocks : Blocks). KeepsDepot own (depot_in v) blocks) depot_same (depot-none own (depot_in v));
 }
   where
-    present_same : present_in v ≡ present_in v'
-    present_same = λ i. depot_blocks (sym same.setting i) (sym same.objects i)
+    depot_same : depot_in v ≡ depot_in v'
+    depot_same = λ i. depot_blocks (sym same.setting i) (sym same.objects i)
 
 -- The tree is the same.
 pub same-store : (t : Tree) (g : Known) (v v' : Shared) → HoldsSame v v' → HasStore t g v → HasStore t g v'
@@ -91,14 +93,18 @@ same-store t g v v' same s = record {
   objects_are = same.objects ∙ s.objects_are;
   staged = s.staged;
   staged_are = same.blocks ∙ s.staged_are;
-  there = subst (λ (x : Setting). HasBlocks x.block (typed s.rows) (blocks_in x s.objects)) (sym same.setting) s.there;
+  there = stored-direct v'.yard.setting.block (typed s.rows) (blocks_in v'.yard.setting s.objects) (staged_in v'.yard s.staged) has_same;
   copies = subst (λ (x : Setting). Grows (blocks_in x s.objects) g.blocks) (sym same.setting) s.copies;
   staged_copies = λ client. subst (λ (blocks : Blocks). Grows blocks g.blocks) (staged_same client) (s.staged_copies client);
   kept = IsKept-same v.yard v'.yard same.setting same.blocks same.staged s.kept;
   below = s.below;
   tree = s.tree ∙ ap (λ (x : Setting). tree_with (known_by x.block g.blocks) (typed s.rows)) (sym same.setting);
+  direct = has_same;
 }
   where
+    has_same : HasBlocks v'.yard.setting.block (typed s.rows) (blocks_in v'.yard.setting s.objects)
+    has_same = subst (λ (x : Setting). HasBlocks x.block (typed s.rows) (blocks_in x s.objects)) (sym same.setting) s.direct
+
     staged_same : (client : ℕ) → staged_in v.yard s.staged client ≡ staged_in v'.yard s.staged client
     staged_same client = λ i. staged_in (record v.yard { setting = sym same.setting i; staged = sym same.staged i }) s.staged client
 

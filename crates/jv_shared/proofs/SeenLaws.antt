@@ -28,7 +28,7 @@ use Rattle.jv_contents.proofs.BlockLaws.{named_has_row}
 use Rattle.jv_contents.proofs.PlaceLaws.{place_in-window}
 use Rattle.jv_contents.proofs.WholeLaws.{all-mapped}
 use Rattle.jv_shared.specs.Shared.{AreSized, Known}
-use Rattle.jv_shared.specs.Seen.{IsFound, ShowsWindow}
+use Rattle.jv_shared.specs.Seen.{IsFound, ShowsWindow, SliceIsThere}
 
 -- ---- a look
 
@@ -55,8 +55,32 @@ byte_looked known_bytes rows inode content is p low =
     by_row None e = absurd (cc)
     by_row (Some row) e = by_kind row (row.kind == 1) (row.kind == 2) e
 
-module _ (block : ℕ) (rows : Rows) (g : Known) (present : Blocks) (w : WholeSlices rows) (sized : AreSized g.sizes rows) (has : HasBlocks block rows present) where
-  found : (key : RowKey) (r : Rec) → Contains (listed key (get rows key)) r → IsFound block rows g present r
+module _ (rows : Rows) where
+  -- what holds of the records of each list holds of those of a file's window
+  pub each_listed : (P : Rec → Type 0) → ((key : RowKey) (r : Rec) → Contains (listed key (get rows key)) r → P r) → (inode window : ℕ)
+      → AllByRecursion P (lists_of rows inode window)
+  unfolding lists_of
+  each_listed P each inode window = by_test (nat_lt window (2 ^ 32))
+    where
+      list : List Rec
+      list = listed (list_key inode window) (get rows (list_key inode window))
+
+      by_test : (b : Bool) → AllByRecursion P (if b then records_in (row_in (get rows (list_key inode window))) else [])
+      by_test true =
+          all-mapped (Contains list) P (each (list_key inode window)) list (recursion_from_All (Contains list) list (All-contains_itself list))
+      by_test false = tt
+
+  -- where slices with rows have their blocks, those that a list's records name have
+  pub listed_there : (block : ℕ) (blocks : Blocks) → WholeSlices rows → HasBlocks block rows blocks
+      → (key : RowKey) (r : Rec) → Contains (listed key (get rows key)) r → r.id ≢ 0 → SliceIsThere block blocks r.id r.size
+  listed_there block blocks w has key r among named index low =
+      let row = named_has_row rows w key r among named in
+      subst (λ n. IsThere blocks (block_at r.id n block index)) row.size_is
+      (has r.id row.slice row.is index (subst (λ n. index < block_count n block) (sym row.size_is) low))
+
+module _ (block : ℕ) (rows : Rows) (g : Known) (w : WholeSlices rows) (sized : AreSized g.sizes rows) (has : HasBlocks block rows g.blocks) where
+  -- what the records of a list name is found
+  found : (key : RowKey) (r : Rec) → Contains (listed key (get rows key)) r → IsFound block rows g r
   found key r among = record {
     record_is = All-contains IsRecord list r (All-from_recursion IsRecord list (w.records key)) among;
     numbered = λ named. (let row = named_has_row rows w key r among named in elim (cases_lt r.id (next_slice rows)) [
@@ -64,9 +88,7 @@ module _ (block : ℕ) (rows : Rows) (g : Known) (present : Blocks) (w : WholeSl
       | inr high ↦ (let none = (w.below r.id high).no_row in let is = row.is in absurd (cc))
     ]);
     sized = All-contains HasSize list r (All-from_recursion HasSize list (sized.records key)) among;
-    there = λ named index low. (let row = named_has_row rows w key r among named in
-        subst (λ n. IsThere present (block_at r.id n block index)) row.size_is
-        (has r.id row.slice row.is index (subst (λ n. index < block_count n block) (sym row.size_is) low)));
+    there = listed_there rows block g.blocks w has key r among;
   }
     where
       list : List Rec
@@ -75,27 +97,12 @@ module _ (block : ℕ) (rows : Rows) (g : Known) (present : Blocks) (w : WholeSl
       HasSize : Rec → Type 0
       HasSize r = r.id ≢ 0 → r.size ≡ g.sizes r.id
 
-  -- what the records of a list name is there
-  pub all_found : (key : RowKey) → AllByRecursion (IsFound block rows g present) (listed key (get rows key))
-  all_found key = all-mapped (Contains list) (IsFound block rows g present) (found key) list (recursion_from_All (Contains list) list (All-contains_itself list))
-    where
-      list : List Rec
-      list = listed key (get rows key)
-
-  records_found : (inode window : ℕ) → AllByRecursion (IsFound block rows g present) (lists_of rows inode window)
-  unfolding lists_of
-  records_found inode window = by_test (nat_lt window (2 ^ 32))
-    where
-      by_test : (b : Bool) → AllByRecursion (IsFound block rows g present) (if b then records_in (row_in (get rows (list_key inode window))) else [])
-      by_test true = all_found (list_key inode window)
-      by_test false = tt
-
   -- a look at a window of a file: its records show the file's bytes
   pub looked_shows : (inode window : ℕ) (content : Content) → content_at (tree_with (known_by block g.blocks) rows) inode ≡ Some content
-      → ShowsWindow block rows g present window content.length (lists_of rows inode window) content
+      → ShowsWindow block rows g window content.length (lists_of rows inode window) content
   looked_shows inode window content is = record {
     long = refl;
-    records = records_found inode window;
+    records = each_listed rows (IsFound block rows g) found inode window;
     bytes = λ place small low. byte_looked known_bytes rows inode content is (window * WINDOW + place) low
         ∙ ap (spot_byte known_bytes) (place_in-window (lists_of rows inode) window place small);
   }
@@ -114,8 +121,8 @@ bytes_from-same f g a b (suc n) same =
     ap f (omega arith) ∙ same (k + 1) (omega (arith, low)) ∙ ap g (omega arith)) in
     λ i. first i ∷ others i
 
-module _ (block : ℕ) (rows : Rows) (g : Known) (present : Blocks) (window length : ℕ) (list : List Rec) (content : Content)
-    (shows : ShowsWindow block rows g present window length list content) where
+module _ (block : ℕ) (rows : Rows) (g : Known) (window length : ℕ) (list : List Rec) (content : Content)
+    (shows : ShowsWindow block rows g window length list content) where
   -- a part of the window reads as the file did
   pub window_reads : (from n : ℕ) → from + n ≤ WINDOW → window * WINDOW + from + n ≤ length
       → bytes_from (λ q. spot_byte (known_by block g.blocks) (stored_place list q)) from n ≡ bytes_from content.byte (window * WINDOW + from) n
@@ -123,11 +130,11 @@ module _ (block : ℕ) (rows : Rows) (g : Known) (present : Blocks) (window leng
       bytes_from-same (λ q. spot_byte (known_by block g.blocks) (stored_place list q)) content.byte from (window * WINDOW + from) n
       (λ k low. sym (shows.bytes (from + k) (omega (arith, low, inside)) (omega (arith, low, within))) ∙ ap content.byte (omega arith))
 
-  -- what a record names is there
-  pub record_found : (r : Rec) → Contains list r → IsFound block rows g present r
-  record_found r among = All-contains (IsFound block rows g present) list r (All-from_recursion (IsFound block rows g present) list shows.records) among
+  -- what a record names is found
+  pub record_found : (r : Rec) → Contains list r → IsFound block rows g r
+  record_found r among = All-contains (IsFound block rows g) list r (All-from_recursion (IsFound block rows g) list shows.records) among
 
-  -- a block of a slice that a record names is there
+  -- a block of a slice that a record names is known
   pub named_there : (b : BlockId) (r : Rec) → Contains list r → 0 < r.id → b.index < block_count r.size block → b ≡ block_at r.id r.size block b.index
-      → IsThere present b
-  named_there b r among some low is = subst (IsThere present) (sym is) ((record_found r among).there (λ none. absurd (omega (arith, none, some))) b.index low)
+      → IsThere g.blocks b
+  named_there b r among some low is = subst (IsThere g.blocks) (sym is) ((record_found r among).there (λ none. absurd (omega (arith, none, some))) b.index low)

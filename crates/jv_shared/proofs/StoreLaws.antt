@@ -14,16 +14,18 @@ use Rattle.jv_outside.specs.Blocks.{staged_at}
 use Rattle.jv_outside.specs.Objects.{ObjectMap, bytes_at}
 use Rattle.jv_volume.specs.TypedRows.{Rows, typed}
 use Rattle.jv_volume.specs.Views.{lists_of}
-use Rattle.jv_contents.specs.Blocks.{Blocks, Grows, HasBlocks, IsThere}
-use Rattle.jv_contents.proofs.BlockLaws.{has_blocks-grow, there-grows}
+use Rattle.jv_contents.specs.Blocks.{Blocks, HasBlocks, IsThere}
+use Rattle.jv_contents.proofs.BlockLaws.{there-grows}
 use Rattle.jv_yard.specs.BlockCalls.{IsBlockBy, IsBlockOf}
 use Rattle.jv_yard.specs.Contents.{blocks_in, is_block}
 use Rattle.jv_yard.specs.Staging.{staged_since}
 use Rattle.jv_yard.proofs.ContentsLaws.{is_block-says, read-depot}
-use Rattle.jv_shared.specs.Shared.{HasStore, Known, Shared, depot_blocks, present_in, rows_in, typed_in}
+use Rattle.jv_shared.specs.Shared.{HasStore, InDepot, IsStored, Known, OnShelf, Shared, depot_blocks, depot_in, rows_in, staged_in, typed_in}
 use Rattle.jv_shared.specs.Lengths.{IsLength}
 use Rattle.jv_shared.specs.Seen.{IsView, ShowsWindow}
+use Rattle.jv_shared.specs.Direct.{HasNamed}
 use Rattle.jv_shared.specs.Keeping.{KeepsShared}
+use Rattle.jv_shared.proofs.DirectLaws.{has_named-there, looked_has}
 use Rattle.jv_shared.proofs.SeenLaws.{looked_shows, named_there}
 use Rattle.jv_shared.proofs.SettingLaws.{setting_length}
 use Rattle.jv_shared.proofs.KeepingLaws.{shows-keeps}
@@ -44,8 +46,8 @@ module _ (t : Tree) (g : Known) (v : Shared) (s : HasStore t g v) where
   pub rows_are : rows_in v ≡ typed s.rows
   rows_are = ap typed_in s.rows_are
 
-  pub present_are : present_in v ≡ blocks_in v.yard.setting s.objects
-  present_are = ap (depot_blocks v.yard.setting) s.objects_are
+  pub depot_are : depot_in v ≡ blocks_in v.yard.setting s.objects
+  depot_are = ap (depot_blocks v.yard.setting) s.objects_are
 
   -- rows that are known are these
   pub rows_known : (rows : RowMap) → v.keeper.rows ≡ Some rows → rows_in v ≡ typed rows
@@ -57,13 +59,14 @@ module _ (t : Tree) (g : Known) (v : Shared) (s : HasStore t g v) where
   pub block_some : 0 < v.yard.setting.block
   block_some = (let least = block_length.least in omega (arith, least))
 
-  -- all blocks of the depot are known
-  pub present_known : Grows (present_in v) g.blocks
-  present_known = subst (λ (blocks : Blocks). Grows blocks g.blocks) (sym present_are) s.copies
+  -- all blocks that are stored are known
+  stored_known : (b : BlockId) → IsStored (blocks_in v.yard.setting s.objects) (staged_in v.yard s.staged) b → IsThere g.blocks b
+  stored_known b (InDepot there) = there-grows (blocks_in v.yard.setting s.objects) g.blocks b s.copies there
+  stored_known b (OnShelf client there) = there-grows (staged_in v.yard s.staged client) g.blocks b (s.staged_copies client) there
 
   -- so all blocks of slices with rows are
   pub known_has : HasBlocks v.yard.setting.block (typed s.rows) g.blocks
-  known_has = has_blocks-grow v.yard.setting.block (typed s.rows) (blocks_in v.yard.setting s.objects) g.blocks s.copies s.there
+  known_has id slice is index low = stored_known (block_at id slice.size v.yard.setting.block index) (s.there id slice is index low)
 
   -- ---- looks and reads
 
@@ -71,21 +74,27 @@ module _ (t : Tree) (g : Known) (v : Shared) (s : HasStore t g v) where
   pub look-view : (inode window length : ℕ) (list : List Rec) (content : Content) → content_at t inode ≡ Some content → content.length ≡ length
       → list ≡ lists_of (typed s.rows) inode window → IsView g v window length list content
   look-view inode window length list content is long same =
-      subst (λ (blocks : Blocks). ShowsWindow v.yard.setting.block (rows_in v) g blocks window length list content) (sym present_are)
-      (subst (λ (rows : Rows). ShowsWindow v.yard.setting.block rows g (blocks_in v.yard.setting s.objects) window length list content) (sym rows_are)
-      (subst (λ n. ShowsWindow v.yard.setting.block (typed s.rows) g (blocks_in v.yard.setting s.objects) window n list content) long
-      (subst (λ (rs : List Rec). ShowsWindow v.yard.setting.block (typed s.rows) g (blocks_in v.yard.setting s.objects) window content.length rs content)
-      (sym same)
-      (looked_shows v.yard.setting.block (typed s.rows) g (blocks_in v.yard.setting s.objects) s.whole.slices s.sized s.there inode window content
-      (subst (λ (x : Tree). content_at x inode ≡ Some content) s.tree is)))))
+      subst (λ (rows : Rows). ShowsWindow v.yard.setting.block rows g window length list content) (sym rows_are)
+      (subst (λ n. ShowsWindow v.yard.setting.block (typed s.rows) g window n list content) long
+      (subst (λ (rs : List Rec). ShowsWindow v.yard.setting.block (typed s.rows) g window content.length rs content) (sym same)
+      (looked_shows v.yard.setting.block (typed s.rows) g s.whole.slices s.sized known_has inode window content
+      (subst (λ (x : Tree). content_at x inode ≡ Some content) s.tree is))))
+
+  -- and the depot has the blocks that it names
+  pub look-has : (inode window : ℕ) (list : List Rec) → list ≡ lists_of (typed s.rows) inode window
+      → HasNamed v.yard.setting.block (depot_in v) list
+  look-has inode window list same =
+      subst (λ (depot : Blocks). HasNamed v.yard.setting.block depot list) (sym depot_are)
+      (subst (λ (rs : List Rec). HasNamed v.yard.setting.block (blocks_in v.yard.setting s.objects) rs) (sym same)
+      (looked_has (typed s.rows) v.yard.setting.block (blocks_in v.yard.setting s.objects) s.whole.slices s.direct inode window))
 
   -- What a client reads of a block that is there is known of it: its own staged copy, or the depot's.
-  pub block_read : (client : ℕ) (b : BlockId) (value : Option (List ℕ)) → client ≤ LAST_CLIENT → IsThere (present_in v) b
+  pub block_read : (client : ℕ) (b : BlockId) (value : Option (List ℕ)) → client ≤ LAST_CLIENT → IsThere (depot_in v) b
       → IsBlockOf v.yard client (name_in v.yard.setting b) value → value ≡ g.blocks b
   block_read client b value low there read = by_since (staged_since client (name_in v.yard.setting b) v.yard.staged) refl
     where
       here : blocks_in v.yard.setting s.objects b ≡ Some there.bytes
-      here = ap (λ (blocks : Blocks). blocks b) (sym present_are) ∙ there.is
+      here = ap (λ (blocks : Blocks). blocks b) (sym depot_are) ∙ there.is
 
       passes : is_block v.yard.setting.block b ≡ true
       passes = present_block v.yard.setting s.objects b there.bytes here
@@ -109,19 +118,18 @@ module _ (t : Tree) (g : Known) (v : Shared) (s : HasStore t g v) where
           found ∙ sym (by_copy staged (staged_at client (name_in v.yard.setting b) s.staged) refl
           (s.kept.there s.staged s.staged_are client (name_in v.yard.setting b) low staged))
 
-  -- and it has bytes of the length that its name says
-  pub block_known : (b : BlockId) → IsThere (present_in v) b → IsThere g.blocks b
-  block_known b there = there-grows (present_in v) g.blocks b present_known there
-
-  -- Of each block that a view's records name a client reads the bytes that are known of it.
+  -- Of each block that a view's records name, where the depot has them, a client reads the bytes that are known of it, which
+  -- have the length that its name says.
   pub named_read : (window length : ℕ) (list : List Rec) (content : Content) → IsView g v window length list content
-      → (b : BlockId) (r : Rec) → Contains list r → 0 < r.id → b.index < block_count r.size v.yard.setting.block
+      → HasNamed v.yard.setting.block (depot_in v) list → (b : BlockId) (r : Rec) → Contains list r → 0 < r.id → b.index < block_count r.size v.yard.setting.block
       → b ≡ block_at r.id r.size v.yard.setting.block b.index
       → (client : ℕ) (value : Option (List ℕ)) → client ≤ LAST_CLIENT → IsBlockOf v.yard client (name_in v.yard.setting b) value
       → (value ≡ g.blocks b) × IsThere g.blocks b
-  named_read window length list content view b r among some below is client value low read =
-      let there = named_there v.yard.setting.block (rows_in v) g (present_in v) window length list content view b r among some below is in
-      (block_read client b value low there read, block_known b there)
+  named_read window length list content view has b r among some below is client value low read =
+      let there = has_named-there v.yard.setting.block (depot_in v) list has b r among some is below in (
+        block_read client b value low there read,
+        named_there v.yard.setting.block (rows_in v) g window length list content view b r among some below is,
+      )
 
   -- ---- what others hold
 
@@ -129,6 +137,5 @@ module _ (t : Tree) (g : Known) (v : Shared) (s : HasStore t g v) where
     -- a view stays
     pub view-stays : (window length : ℕ) (list : List Rec) (content : Content) → IsView g v window length list content → IsView g' v' window length list content
     view-stays window length list content shows =
-        subst (λ (x : Setting). ShowsWindow x.block (rows_in v') g' (present_in v') window length list content) (sym k.setting)
-        (shows-keeps own (rows_in v) (rows_in v') g g' (present_in v) (present_in v') k.keeps v.yard.setting.block block_some present_known
-        window length list content shows)
+        subst (λ (x : Setting). ShowsWindow x.block (rows_in v') g' window length list content) (sym k.setting)
+        (shows-keeps own (rows_in v) (rows_in v') g g' k.keeps v.yard.setting.block block_some window length list content shows)

@@ -5,8 +5,9 @@ use Rattle.jv_model.specs.declared.slice.BlockId.{BlockId}
 use Rattle.jv_model.specs.tree.Tree.{Tree}
 use Rattle.jv_volume.specs.TypedRows.{Rows}
 use Rattle.jv_volume.specs.Slices.{IsUnknown, next_slice}
-use Rattle.jv_contents.specs.Blocks.{Blocks, Grows}
-use Rattle.jv_shared.specs.Shared.{HasStore, Known, Shared, present_in, rows_in}
+use Rattle.jv_contents.specs.Blocks.{Grows}
+use Rattle.jv_shared.specs.Shared.{HasStore, Known, Shared, depot_in, rows_in}
+use Rattle.jv_shared.specs.Direct.{KeepsDepot}
 
 -- More is known later: no block changes, new ones are of the step's own slice, and only a slice
 -- that had no number gets a size.
@@ -22,23 +23,17 @@ pub record KeepsNumbers (own : ℕ) (rows after : Rows) : Type 0 where
   pub next : next_slice rows ≤ next_slice after
   pub unknown : (id : ℕ) → 0 < id → id ≢ own → IsUnknown rows id → IsUnknown after id
 
--- The depot keeps its blocks, and gets none but of the step's own slice.
-pub record KeepsBlocks (own : ℕ) (before after : Blocks) : Type 0 where
-  pub grows : Grows before after
-  pub only : (b : BlockId) (bytes : List ℕ) → b.id ≢ own → after b ≡ Some bytes
-      → before b ≡ Some bytes
-
--- all of that
-pub record Keeps (own : ℕ) (rows rows' : Rows) (g g' : Known)
-    (present present' : Blocks) : Type 0 where
+-- both, by which views and slices in flight stay
+pub record Keeps (own : ℕ) (rows rows' : Rows) (g g' : Known) : Type 0 where
   pub learns : Learns own (next_slice rows) g g'
   pub numbers : KeepsNumbers own rows rows'
-  pub blocks : KeepsBlocks own present present'
 
--- A step on what clients share that leaves all this alone. The volume's setting is the same.
+-- A step on what clients share that leaves all this alone. The volume's setting is the same, and
+-- the depot keeps its blocks.
 pub record KeepsShared (own : ℕ) (g g' : Known) (v v' : Shared) : Type 0 where
   pub setting : v'.yard.setting ≡ v.yard.setting
-  pub keeps : Keeps own (rows_in v) (rows_in v') g g' (present_in v) (present_in v')
+  pub keeps : Keeps own (rows_in v) (rows_in v') g g'
+  pub depot : KeepsDepot own (depot_in v) (depot_in v')
 
 -- A step after which the tree is another one's, or still the same.
 pub record Leads (own : ℕ) (t' : Tree) (g g' : Known) (v v' : Shared) : Type 0 where

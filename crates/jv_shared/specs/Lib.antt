@@ -3,5 +3,6 @@ pub mod Shared
 pub mod Lengths
 pub mod Seen
 pub mod Flying
+pub mod Direct
 pub mod Keeping
 pub mod Fresh

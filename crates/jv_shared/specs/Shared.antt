@@ -1,10 +1,10 @@
 -- What all clients share, and when it is a tree's.
-use Rattle.std.specs.Prelude.{◌≡◌, ◌≢◌, ℕ, ◌&&◌, ◌==◌, if◌then◌else◌, List, is_some, Option, None, Some}
+use Rattle.std.specs.Prelude.{◌≡◌, ◌≢◌, ℕ, ◌<◌, ◌&&◌, ◌==◌, if◌then◌else◌, List, is_some, Option, None, Some}
 use Rattle.jv_model.specs.declared.row.SliceRow.{SliceRow}
 use Rattle.jv_model.specs.declared.setting.Setting.{Setting}
 use Rattle.jv_model.specs.declared.slice.BlockId.{BlockId}
 use Rattle.jv_model.specs.FiniteMap.{empty_map}
-use Rattle.jv_model.specs.blocks.Slices.{is_same_block}
+use Rattle.jv_model.specs.blocks.Slices.{block_at, block_count, is_same_block}
 use Rattle.jv_model.specs.rows.RowKeys.{RowMap}
 use Rattle.jv_model.specs.tree.Tree.{Tree}
 use Rattle.jv_model.specs.blocks.BlockNames.{name_in}
@@ -16,7 +16,7 @@ use Rattle.jv_volume.specs.TypedRows.{Rows, typed}
 use Rattle.jv_volume.specs.Views.{setting_at, slice_row_at}
 use Rattle.jv_volume.specs.Slices.{ListsHave}
 use Rattle.jv_volume.specs.Whole.{Whole}
-use Rattle.jv_contents.specs.Blocks.{AreBelow, Blocks, Grows, HasBlocks, known_by}
+use Rattle.jv_contents.specs.Blocks.{AreBelow, Blocks, Grows, HasBlocks, IsThere, known_by}
 use Rattle.jv_contents.specs.Bytes.{tree_with}
 use Rattle.jv_yard.specs.Contents.{blocks_in, is_block}
 use Rattle.jv_yard.specs.Staging.{staged_since}
@@ -41,8 +41,8 @@ abbrev pub depot_blocks : Setting → Option ObjectMap → Blocks
 depot_blocks setting None = λ b. None
 depot_blocks setting (Some objects) = blocks_in setting objects
 
-abbrev pub present_in : Shared → Blocks
-present_in v = depot_blocks v.yard.setting v.yard.depot.content
+abbrev pub depot_in : Shared → Blocks
+depot_in v = depot_blocks v.yard.setting v.yard.depot.content
 
 -- What is known for good: the bytes of each block that there ever was, and the size of each slice
 -- that has a number.
@@ -72,9 +72,21 @@ staged_in yard staged client b =
     && is_some (staged_since client (name_in yard.setting b) yard.staged)
     then staged_at client (name_in yard.setting b) staged else None)
 
+-- a block is in the depot, or a client has staged it, with the length of its name
+pub data IsStored (depot : Blocks) (staged : ℕ → Blocks) (b : BlockId) : Type 0 where
+  InDepot : IsThere depot b → IsStored depot staged b
+  OnShelf : (client : ℕ) → IsThere (staged client) b → IsStored depot staged b
+
+-- each block of each slice that has a row is stored
+abbrev pub AreStored : ℕ → Rows → Blocks → (ℕ → Blocks) → Type 0
+AreStored block rows depot staged = (id : ℕ) (slice : SliceRow) → slice_row_at rows id ≡ Some slice
+    → (index : ℕ) → index < block_count slice.size block
+    → IsStored depot staged (block_at id slice.size block index)
+
 -- The tree is that of the keeper's rows, which are known and whole, with the bytes that their
--- slices' blocks have. The depot has each of these blocks; all copies of a block have its bytes,
--- and none is of a slice that is still to get its number.
+-- slices' blocks have. Each of these blocks is stored; all copies of a block have its bytes, and
+-- none is of a slice that is still to get its number. `direct` holds while each block goes to the
+-- depot at once and none is removed.
 pub record HasStore (t : Tree) (g : Known) (v : Shared) : Type 0 where
   pub rows : RowMap
   pub rows_are : v.keeper.rows ≡ Some rows
@@ -85,9 +97,11 @@ pub record HasStore (t : Tree) (g : Known) (v : Shared) : Type 0 where
   pub objects_are : v.yard.depot.content ≡ Some objects
   pub staged : StagedMap
   pub staged_are : v.yard.shelf.content ≡ Some staged
-  pub there : HasBlocks v.yard.setting.block (typed rows) (blocks_in v.yard.setting objects)
+  pub there : AreStored v.yard.setting.block (typed rows) (blocks_in v.yard.setting objects)
+      (staged_in v.yard staged)
   pub copies : Grows (blocks_in v.yard.setting objects) g.blocks
   pub staged_copies : (client : ℕ) → Grows (staged_in v.yard staged client) g.blocks
   pub kept : IsKept v.yard
   pub below : AreBelow (typed rows) g.blocks
   pub tree : t ≡ tree_with (known_by v.yard.setting.block g.blocks) (typed rows)
+  pub direct : HasBlocks v.yard.setting.block (typed rows) (blocks_in v.yard.setting objects)

@@ -31,7 +31,8 @@ use Rattle.jv_rows.proofs.NeedingLaws.{session_is}
 -- ---- a transaction after readings
 
 module _ {A : Type 0} (ready : Tree → Type 0) (before middle after : Store) (reply : A → Reply) (act rest : Tree → Result Outcome Fault) (p : Past before middle act rest) where
-  lands_past : (result : Result A TxFault) (known : RowMap) (bytes : ℕ → ℕ → ℕ) → act (tree_of bytes (typed known)) ≡ rest (tree_of bytes (typed known))
+  -- what landed in the rest of a transaction landed in the whole of it, and what came undone there
+  pub lands_past : (result : Result A TxFault) (known : RowMap) (bytes : ℕ → ℕ → ℕ) → act (tree_of bytes (typed known)) ≡ rest (tree_of bytes (typed known))
       → Lands known after.rows bytes reply rest result → Lands known after.rows bytes reply act result
   lands_past (Ok x) known bytes same l = record { left = l.left; is = l.is; whole = l.whole; quiet = l.quiet; model = same ∙ l.model }
   lands_past (Err (Refused fault)) known bytes same l = same ∙ l
@@ -40,7 +41,7 @@ module _ {A : Type 0} (ready : Tree → Type 0) (before middle after : Store) (r
   lands_past (Err (OfRows Failed)) known bytes same l = tt
   lands_past (Err (OfRows Memory)) known bytes same l = tt
 
-  undone_past : (result : Result A TxFault) → OnErr result (after.rows ≡ middle.rows) → OnErr result (after.rows ≡ before.rows)
+  pub undone_past : (result : Result A TxFault) → OnErr result (after.rows ≡ middle.rows) → OnErr result (after.rows ≡ before.rows)
   undone_past (Ok x) h = tt
   undone_past (Err fault) h = h ∙ p.rows_are
 

@@ -1,4 +1,4 @@
-//! Lending a yard for one step at a time.
+//! What has the yard between lines. With threads that upload, a step will take it from there and give it back.
 ghost use Rattle.std.specs.Prelude.{◌≡◌, None, Some, IsSome, IfSome};
 ghost use Rattle.std.specs.Option.{option_map};
 ghost use Rattle.jv_yard.specs.Doors.{IsTaken};
@@ -7,7 +7,7 @@ use crate::yard::{ObservedYard, Yard};
 use jv_outside::{Depot, Shelf};
 use std::mem::replace;
 
-/// Lends a yard to main for one step at a time, while workers may have it between two steps.
+/// Has the yard while main doesn't, and lends it. Workers may have it meanwhile.
 pub trait YardDoor<D: Depot, H: Shelf> {
     ghost use Rattle.std.specs.Prelude.{Option};
     ghost use Rattle.jv_yard.specs.YardValue.{YardValue};

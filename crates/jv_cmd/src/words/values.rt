@@ -1,7 +1,7 @@
 ghost use Rattle.std.specs.Prelude.{◌≤◌, IfSome, ◌≡◌, ◌||◌, ◌==◌, if◌then◌else◌, take, ◌-◌, length, option_map};
 ghost use Rattle.std.specs.List.{list_all};
 ghost use Rattle.std.specs.Option.{option_copied};
-ghost use Rattle.jv_model.specs.script.Spelling.{is_numeral, is_decimal_digit, number_of};
+ghost use Rattle.jv_model.specs.script.Spelling.{is_numeral, is_decimal_digit};
 ghost use Rattle.jv_model.specs.rows.RowGrammar.{is_block_length};
 ghost use Rattle.jv_cmd.specs.Values.{number_of_digits, number_within, digits_of, unit_of, block_size_of, place_of};
 
@@ -24,23 +24,6 @@ fn number(text: &[u8]) -> Option<u64>
     let mut number: u64 = 0;
     for digit in text {
         number = number * 10 + u64::from(*digit - b'0');
-    }
-    Some(number)
-}
-
-/// A number of 64 bits.
-#[tactic(auto, unfolding(jv_model::specs::script::Spelling::number_of))]
-pub(crate) fn seed(text: &[u8]) -> Option<u64>
-    ensures { result ≡ number_of text.now }
-{
-    if !is_numeral(text) {
-        return None;
-    }
-    let mut number: u64 = 0;
-    for digit in text {
-        number = number
-            .checked_mul(10)?
-            .checked_add(u64::from(*digit - b'0'))?;
     }
     Some(number)
 }
