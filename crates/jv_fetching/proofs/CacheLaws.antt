@@ -136,10 +136,10 @@ abbrev pub finds_one : (before after : Cached) (b : BlockId) → HasBlock before
 finds_one before after b has e = record { blocks = b ∷ []; found = All-cons (HasBlock before) b [] has (All-nil (HasBlock before)); is = e }
 
 -- as many as before and after, or more
-pub few_none : (n : ℕ) (cache : Cached) → FindsFew n cache cache
+abbrev pub few_none : (n : ℕ) (cache : Cached) → FindsFew n cache cache
 few_none n cache = record { finds = finds_none cache; few = omega arith }
 
-pub few_then : (k m n : ℕ) (before middle after : Cached) → k + m ≤ n → FindsFew k before middle
+abbrev pub few_then : (k m n : ℕ) (before middle after : Cached) → k + m ≤ n → FindsFew k before middle
     → FindsFew m middle after → FindsFew n before after
 few_then k m n before middle after h first second = record {
   finds = finds_then before middle after first.finds second.finds;

@@ -20,7 +20,7 @@ use Rattle.jv_fetching.specs.declared.begun.Begun.{Begun}
 use Rattle.jv_fetching.specs.declared.begun.Read.{Read}
 use Rattle.jv_fetching.specs.declared.need.Need.{Need}
 use Rattle.jv_fetching.specs.declared.need.Need.TheVariants.{Look, Block, Nothing}
-use Rattle.jv_fetching.specs.Fetching.{Fetching, block_needed, fetch_left, next_of, weight}
+use Rattle.jv_fetching.specs.Fetching.{Fetching, block_needed, blocks_in, fetch_left, next_of, weight}
 use Rattle.jv_fetching.specs.Shows.{shown_len}
 use Rattle.jv_fetching.specs.Going.{CanFetch, HasBegun, HasRead, IsBegunBy, IsFetching, IsShown}
 use Rattle.jv_model.proofs.TestLaws.{some_same}
@@ -131,6 +131,18 @@ goes_then views c d e f g h first second = record {
   looks = few_then (fetch_left f - fetch_left g) (fetch_left g - fetch_left h) (fetch_left f - fetch_left h) c d e
       (omega (arith, first.falls, second.falls))
       first.looks second.looks;
+  shorter = omega (arith, first.shorter, second.shorter);
+  each = λ begun some same.
+      let short = first.shorter in
+      let shorter = second.shorter in
+      let one = first.each begun some (omega (arith, short, shorter, same)) in
+      let two = second.each one.begun (omega (arith, short, shorter, same, some))
+      (omega (arith, short, shorter, same)) in
+      record {
+        begun = two.begun;
+        are = append_assoc first.looks.finds.blocks second.looks.finds.blocks (blocks_in h.begun)
+            ∙ ap (λ (left : List BlockId). first.looks.finds.blocks ++ left) two.are ∙ one.are;
+      };
   reads = λ blocks all has is.
       let has' : HasCached blocks views g.block d =
       subst (λ (n : ℕ). HasCached blocks views n d) (sym first.block)
@@ -147,6 +159,8 @@ goes_nowhere views cache f stuck = record {
   falls = omega arith;
   begins = λ none seen. absurd (stuck none seen);
   looks = few_none (fetch_left f - fetch_left f) cache;
+  shorter = omega arith;
+  each = λ begun some same. record { begun = begun; are = refl };
   reads = λ blocks all has is. is;
 }
 
@@ -214,6 +228,8 @@ module _ (views : SeenViews) (cache : Cached) (block : ℕ) (read : List Read) w
     falls = omega (arith, h.few);
     begins = λ none seen. omega (arith, h.few);
     looks = few_none (1 + (asked.to - asked.from) + weight others - (length begun.part.left + weight others)) cache;
+    shorter = omega arith;
+    each = λ begun some same. (let never : ⊥ = cc in absurd never);
     reads = λ blocks all has is. record {
       some = is.some;
       few = is.few;
@@ -239,6 +255,8 @@ module _ (views : SeenViews) (cache : Cached) (block : ℕ) (read : List Read) w
         let all : length fills.finds.blocks + length part.left ≡ length begun.part.left =
         sym (length-append fills.finds.blocks part.left) ∙ ap (length {A = BlockId}) fills.each in
         record { finds = fills.finds; few = omega (arith, all) };
+    shorter = omega arith;
+    each = λ begun some same. record { begun = refl; are = fills.each };
     reads = λ blocks all has is. record {
       some = is.some;
       few = is.few;
@@ -306,6 +324,11 @@ module _ (blocks : Blocks) (views : SeenViews) (block : ℕ) (parts : List Asked
     (λ low. absurd (subst (λ (ps : List Asked). HasBegun views block (Some begun) ps) ((short low).1) has)),
   )
 
+fewer_after : (full : Bool) (parts : List Asked) → length (parts_after full parts) ≤ length parts - 1
+fewer_after true [] = omega arith
+fewer_after true (asked ∷ others) = omega arith
+fewer_after false parts = omega arith
+
 module _ (views : SeenViews) (cache : Cached) (block : ℕ) (read : List Read) where
   ends_goes : (parts : List Asked) (begun : Begun) (bytes : List ℕ) → AreOf bytes begun.part
       → Goes views cache cache (state block read (Some begun) parts)
@@ -316,6 +339,8 @@ module _ (views : SeenViews) (cache : Cached) (block : ℕ) (read : List Read) w
     falls = omega (arith, after_less begun.is_full parts);
     begins = λ none seen. (let never : ⊥ = cc in absurd never);
     looks = few_none (length begun.part.left + weight (drop 1 parts) - weight (parts_after begun.is_full parts)) cache;
+    shorter = omega (arith, fewer_after begun.is_full parts);
+    each = λ had some same. absurd (omega (arith, fewer_after begun.is_full parts, some, same));
     reads = λ blocks all has is. record {
       some = is.some;
       few = is.few;
@@ -324,11 +349,6 @@ module _ (views : SeenViews) (cache : Cached) (block : ℕ) (read : List Read) w
       fills = tt;
     };
   }
-
-fewer_after : (full : Bool) (parts : List Asked) → length (parts_after full parts) ≤ length parts - 1
-fewer_after true [] = omega arith
-fewer_after true (asked ∷ others) = omega arith
-fewer_after false parts = omega arith
 
 -- ---- a reading goes on with a part
 
@@ -409,17 +429,18 @@ module _ (views : SeenViews) (cache later : Cached) (f after : Fetching) where
   pub finds_to : GoesTo views cache later f after None → FindsAll cache later
   finds_to to = subst (FindsAll cache) (sym to.ends) to.goes.looks.finds
 
-  pub asks_to : (need : Need) → GoesTo views cache later f after (Some need)
-      → Asks need (fetch_left f - fetch_left after) cache later
+  pub asks_to : (need : Need) → GoesTo views cache later f after (Some need) → Asks need f after cache later
   asks_to need to = record {
     looks = record { middle = to.middle; finds = to.goes.looks.finds; last = to.ends };
     few = to.goes.looks.few;
+    each = to.goes.each;
   }
 
-  pub asks_nothing : GoesTo views cache later f after None → Asks Nothing (fetch_left f - fetch_left after) cache later
+  pub asks_nothing : GoesTo views cache later f after None → Asks Nothing f after cache later
   asks_nothing to = record {
     looks = record { middle = to.middle; finds = to.goes.looks.finds; last = to.ends };
     few = to.goes.looks.few;
+    each = to.goes.each;
   }
 
 -- after two parts nothing is left

@@ -1,6 +1,6 @@
 -- What the calls of a reading do.
-use Rattle.std.specs.Prelude.{◌≡◌, ◌≢◌, ℕ, ◌≤◌, All, IsSomeAnd, List, [], ◌∷◌, fold, length, is_some, true, Option}
-use Rattle.std.specs.Prelude.{None, Some}
+use Rattle.std.specs.Prelude.{◌≡◌, ◌≢◌, ℕ, ◌-◌, ◌≤◌, All, IsSomeAnd, IsTrue, List, [], ◌∷◌, ◌++◌, fold, length, is_some}
+use Rattle.std.specs.Prelude.{true, Option, None, Some}
 use Rattle.std.specs.List.{AllByRecursion}
 use Rattle.jv_model.specs.declared.slice.BlockId.{BlockId}
 use Rattle.jv_model.specs.declared.slice.Rec.{Rec}
@@ -14,7 +14,7 @@ use Rattle.jv_handles.specs.Views.{SeenViews, view_at}
 use Rattle.jv_reading.specs.Parts.{IsNamed}
 use Rattle.jv_fetching.specs.declared.need.Need.{Need}
 use Rattle.jv_fetching.specs.declared.need.Need.TheVariants.{Look, Block, Nothing}
-use Rattle.jv_fetching.specs.Fetching.{Fetching, block_needed}
+use Rattle.jv_fetching.specs.Fetching.{Fetching, block_needed, blocks_in, fetch_left}
 
 -- the window of the next part wasn't seen
 abbrev pub first_unseen : SeenViews → List Asked → ℕ → Type 0
@@ -66,10 +66,23 @@ pub record LooksFor (need : Need) (before after : Cached) : Type 0 where
   pub finds : FindsAll before middle
   pub last : LooksLast need before middle after
 
--- of which at most this many found their block
-pub record Asks (need : Need) (most : ℕ) (before after : Cached) : Type 0 where
-  pub looks : LooksFor need before after
-  pub few : length looks.finds.blocks ≤ most
+-- Of one part each block was looked up that is left no more, in its turn.
+pub record LooksEach (before after : Fetching) (blocks : List BlockId) : Type 0 where
+  pub begun : IsTrue (is_some after.begun)
+  pub are : blocks ++ blocks_in after.begun ≡ blocks_in before.begun
+
+-- While the part is read that has begun, these are the blocks that were looked up.
+abbrev pub LooksInPart : Fetching → Fetching → List BlockId → Type 0
+LooksInPart before after blocks =
+    IsTrue (is_some before.begun) → 1 ≤ length before.parts
+    → length after.parts ≡ length before.parts → LooksEach before after blocks
+
+-- The look-ups of a reading that goes on to a need: no more blocks were found than there are
+-- requests fewer left.
+pub record Asks (need : Need) (before after : Fetching) (cache later : Cached) : Type 0 where
+  pub looks : LooksFor need cache later
+  pub few : length looks.finds.blocks ≤ fetch_left before - fetch_left after
+  pub each : LooksInPart before after looks.finds.blocks
 
 -- a block that came is kept, or not where memory is out
 pub data Keeps (b : BlockId) (bytes : List ℕ) (before after : Cached) : Type 0 where

@@ -25,7 +25,8 @@ use Rattle.jv_fetching.specs.declared.spans.Spans.TheVariants.{Over, Last, Two}
 use Rattle.jv_fetching.specs.declared.fetch.Fetch.TheInside.{Inside}
 use Rattle.jv_fetching.specs.Fetching.{Fetching, fetch_left}
 use Rattle.jv_fetching.specs.Going.{CanFetch, IsBegunBy, IsFetching}
-use Rattle.jv_fetching.specs.Calls.{CachedOf, FindsAll, HasCached, IsMissing, LooksLast, Wants, cache_key, first_seen}
+use Rattle.jv_fetching.specs.Calls.{CachedOf, FindsAll, HasCached, IsMissing, LooksInPart, LooksLast, Wants, cache_key}
+use Rattle.jv_fetching.specs.Calls.{first_seen}
 use Rattle.jv_fetching.specs.Calls.{first_unseen}
 
 -- ---- what is kept
@@ -224,6 +225,8 @@ pub record Goes (views : SeenViews) (cache later : Cached) (before after : Fetch
   pub begins : before.begun ≡ None → first_seen views before.parts
       → fetch_left after < fetch_left before
   pub looks : FindsFew (fetch_left before - fetch_left after) cache later
+  pub shorter : length after.parts ≤ length before.parts
+  pub each : LooksInPart before after looks.finds.blocks
   pub reads : (blocks : Blocks) (all : List Asked) → HasCached blocks views before.block cache
       → IsFetching blocks views all before
       → IsFetching blocks views all after

@@ -89,8 +89,7 @@ impl Fetch {
         ensures begins_part { self.old.begun ≡ None → first_seen views.now self.old.parts
             → OnOk result (fetch_left self.new < fetch_left self.old) }
         ensures cache { OnErr result (FindsAll cache.old cache.new) }
-        ensures asks { IfOk result (λ need. let most = fetch_left self.old - fetch_left self.new in
-            Asks need most cache.old cache.new) }
+        ensures asks { IfOk result (λ need. Asks need self.old self.new cache.old cache.new) }
         ensures reads { (blocks : Blocks) (all : List Asked)
             → HasCached blocks views.now self.old.block cache.old
             → IsFetching blocks views.now all self.old
