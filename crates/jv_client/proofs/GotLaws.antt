@@ -347,8 +347,8 @@ module _ (now entry block : ℕ) (h : ClientValue) (d : Doing) (offset len : ℕ
           gets fills.cache_is looks refl
 
       -- it goes on
-      pub get-on : (f : Fetching) (need : Need) → next ≡ Some need → GoesAhead file.views kept filled f → Wants file.views f need
-          → need ≢ Nothing → LacksNeed need kept
+      pub get-on : (f : Fetching) (need : Need) → next ≡ Some need → GoesAhead file.views kept filled f
+          → Wants file.views f need → need ≢ Nothing → LacksNeed need kept
           → Makes now entry h (going_on h.handles later f need d h) before used (made.Request Quiet)
       get-on f need next_is goes wants more lacks =
           let can = goes.can (fills.can file.views asks.can) in

@@ -1,5 +1,6 @@
 -- What is looked up as a reading goes ahead.
 use Rattle.std.proofs.Common.{◌≡◌, ℕ, Option, None, Some, refl, sym, ap, subst}
+use Rattle.std.specs.Prelude.{IsErr, Result, Ok, Err}
 use Rattle.jv_cache.specs.Cached.{Cached}
 use Rattle.jv_fetching.specs.declared.need.Need.{Need}
 use Rattle.jv_fetching.specs.declared.need.Need.TheVariants.{Look as NeedsLook}
@@ -8,11 +9,19 @@ use Rattle.jv_fetching.proofs.CacheLaws.{LooksUp, finds_looks, finds_none, finds
 use Rattle.jv_client.specs.declared.doing.Doing.{Doing}
 use Rattle.jv_client.specs.ClientValue.{ClientValue}
 use Rattle.jv_client.specs.Reading.{Already, FromStart, LookedUp, LooksAhead, LooksOn, NeedsNext, Untouched, cache_in}
+use Rattle.jv_client.specs.Reading.{next_in}
+use Rattle.jv_client.specs.declared.reading.Ahead.{Ahead}
 use Rattle.jv_fetching.specs.Fetching.{Fetching}
 
 pub looks-on : (next : Option Need) (before after : Cached) → LooksOn next before after → LooksUp before after
 looks-on None before after looks = finds_looks before after looks
 looks-on (Some next) before after looks = for_looks next before after looks
+
+-- after an error the cache had what was looked up
+pub err-looks : {E : Type 0} (result : Result Ahead E) (before after : Cached) → IsErr result → FindsAll before after
+    → LooksOn (next_in result) before after
+err-looks (Ok ahead) before after err finds = absurd (cc err)
+err-looks (Err e) before after err finds = finds
 
 -- blocks that are there were looked up first
 pub on-after : (next : Option Need) (before start after : Cached) → FindsAll before start → LooksOn next start after

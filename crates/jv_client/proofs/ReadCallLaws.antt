@@ -94,7 +94,8 @@ module _ (now entry block : ℕ) (h : ClientValue) (d : Doing) (offset len : ℕ
 
   -- the reading goes ahead
   pub look-came : (ahead : Ahead) (then after : ClientValue) (done : Made)
-      → OnlyLooksUp (next_of ahead) (taken_out handles cache d h) then → ClientComesTo fetch (taken_out handles cache d h) ahead
+      → OnlyLooksUp (next_of ahead) (taken_out handles cache d h) then
+      → ClientComesTo fetch (taken_out handles cache d h) ahead
       → GoesOnAfter (Look file.inode window) ahead then after done → Makes now entry h after before used done
   look-came (Needs f need) then after done only comes goes =
       let up = looked_up (Some need) handles cache d h then only in
@@ -152,7 +153,8 @@ module _ (now entry block : ℕ) (h : ClientValue) (d : Doing) (offset len : ℕ
   now_used = record before { yard = yard }
 
   pub get-came : (ahead : Ahead) (then after : ClientValue) (done : Made)
-      → OnlyLooksUp (next_of ahead) (taken_out h.handles kept d h) then → ClientComesTo filled (taken_out h.handles kept d h) ahead
+      → OnlyLooksUp (next_of ahead) (taken_out h.handles kept d h) then
+      → ClientComesTo filled (taken_out h.handles kept d h) ahead
       → GoesOnAfter Quiet ahead then after done → Makes now entry h after before now_used done
   get-came (Needs f need) then after done only comes goes =
       let up = looked_up (Some need) h.handles kept d h then only in

@@ -220,15 +220,15 @@ module _ (h : ClientValue) where
 -- ---- a block that is needed isn't in the cache
 
 -- when it is asked for
-pub asks-lacks : (next : Need) (most : ℕ) (before after : Cached) → Asks next most before after → LacksNeed next before
-asks-lacks (NeedsLook window) most before after asks = tt
-asks-lacks (NeedsBlock b) most before after asks = asks.looks.last.1
-asks-lacks Nothing most before after asks = tt
+pub asks-lacks : (next : Need) (f g : Fetching) (before after : Cached) → Asks next f g before after → LacksNeed next before
+asks-lacks (NeedsLook window) f g before after asks = tt
+asks-lacks (NeedsBlock b) f g before after asks = asks.looks.last.1
+asks-lacks Nothing f g before after asks = tt
 
 -- where nothing is, each block that was looked up is there
-pub asks-none : (next : Need) (most : ℕ) (before after : Cached) → next ≡ Nothing → Asks next most before after
+pub asks-none : (next : Need) (f g : Fetching) (before after : Cached) → next ≡ Nothing → Asks next f g before after
     → FindsAll before after
-asks-none next most before after none asks =
+asks-none next f g before after none asks =
     let looks : LooksFor Nothing before after = subst (λ n. LooksFor n before after) none asks.looks in
     subst (FindsAll before) (sym looks.last) looks.finds
 

@@ -303,4 +303,5 @@ module _ (now entry block : ℕ) (h : ClientValue) (d : Doing) (offset len : ℕ
       subst (λ x. Makes now entry h after before used x) (sym ends.made_is)
       (subst (λ x. Makes now entry h x before used (made.Answer (ToldRefused NoMemory) (Refused NoMemory)))
       (sym ends.after_is)
-      (look-out cache (needs-found block h d fetch cache window asks.needs) (cached-known asks before length_is) looks.looks.rows_are looks.looks.opened_at looks.looks.counts))
+      (look-out cache (needs-found block h d fetch cache window asks.needs) (cached-known asks before length_is)
+      looks.looks.rows_are looks.looks.opened_at looks.looks.counts))
