@@ -2,7 +2,6 @@
 use Rattle.std.proofs.Common.{◌≡◌, false, [], ◌∷◌, None, Some, option_map, refl, codes}
 use Rattle.clap.proofs.OnLiterals.{clap_on_literals}
 use Rattle.jv_cmd.specs.declared.words.request.Command.TheVariants.{Format, Session}
-use Rattle.jv_model.specs.script.Spelling.{number_of}
 use Rattle.jv_cmd.specs.Program.{program_app}
 use Rattle.jv_cmd.specs.Values.{number_of_digits, number_within, digits_of, unit_of, block_size_of, place_of}
 use Rattle.jv_cmd.specs.Words.{asked, format_in, options_in, session_in, setting_fields_in, stored_setting_in, where_allowed}
@@ -11,13 +10,13 @@ session_by_default : asked (codes "session" ∷ codes "sqlite3://v" ∷ []) ≡ 
 unfolding clap_on_literals program_app asked session_in options_in number_within number_of_digits place_of
 session_by_default = refl
 
-drawn_session : asked (codes "session" ∷ codes "sqlite3://v" ∷ codes "--generate" ∷ codes "18446744073709551615" ∷ []) ≡ Some (Session (codes "v") (record { cache = 64; buffer = 32; uploads = 20; writeback = false; cache_dir = codes "juicevol-cache"; generate = Some 18446744073709551615 }))
-unfolding clap_on_literals program_app asked session_in options_in number_within number_of_digits number_of place_of
+drawn_session : asked (codes "session" ∷ codes "sqlite3://v" ∷ codes "--generate" ∷ codes "9999999999999999999" ∷ []) ≡ Some (Session (codes "v") (record { cache = 64; buffer = 32; uploads = 20; writeback = false; cache_dir = codes "juicevol-cache"; generate = Some 9999999999999999999 }))
+unfolding clap_on_literals program_app asked session_in options_in number_within number_of_digits place_of
 drawn_session = refl
 
-seed_of_65_bits : asked (codes "session" ∷ codes "sqlite3://v" ∷ codes "--generate" ∷ codes "18446744073709551616" ∷ []) ≡ None
-unfolding clap_on_literals program_app asked session_in options_in number_within number_of_digits number_of place_of
-seed_of_65_bits = refl
+seed_of_20_digits : asked (codes "session" ∷ codes "sqlite3://v" ∷ codes "--generate" ∷ codes "10000000000000000000" ∷ []) ≡ None
+unfolding clap_on_literals program_app asked session_in options_in number_within number_of_digits place_of
+seed_of_20_digits = refl
 
 format_by_default : asked (codes "format" ∷ codes "sqlite3://v" ∷ codes "vol" ∷ codes "--bucket" ∷ codes "b" ∷ []) ≡ option_map (Format (codes "v")) (where_allowed (record { version = 1; block = 4194304; trash_days = 1; capacity = 0; inodes = 0; hash = 0; name = codes "vol"; bucket = codes "b" }))
 unfolding clap_on_literals program_app asked format_in setting_fields_in stored_setting_in number_within number_of_digits digits_of unit_of block_size_of place_of

@@ -10,7 +10,6 @@ use Rattle.jv_model.specs.declared.limits.TheConstants.{FULL_COUNT, MAX_CAPACITY
 use Rattle.jv_model.specs.Optional.{◌>>=◌}
 use Rattle.jv_model.specs.declared.setting.Setting.{Setting}
 use Rattle.jv_model.specs.rows.RowGrammar.{is_setting}
-use Rattle.jv_model.specs.script.Spelling.{number_of}
 use Rattle.jv_cmd.specs.declared.words.request.Command.{Command}
 use Rattle.jv_cmd.specs.declared.words.request.Command.TheVariants.{Format, Session}
 use Rattle.jv_cmd.specs.declared.words.request.SessionOptions.{SessionOptions}
@@ -18,7 +17,7 @@ use Rattle.jv_cmd.specs.declared.words.request.WordsFault.{WordsFault}
 use Rattle.jv_cmd.specs.declared.words.request.WordsFault.TheVariants.{Refused, Memory}
 use Rattle.jv_cmd.specs.declared.words.read.BadValue.{BadValue}
 use Rattle.jv_cmd.specs.declared.words.read.BadValue.TheVariants as bad
-use Rattle.jv_cmd.specs.Values.{block_size_of, number_within, place_of}
+use Rattle.jv_cmd.specs.Values.{block_size_of, number_of_digits, number_within, place_of}
 use Rattle.jv_cmd.specs.Bounds.{AreAllowed}
 use Rattle.jv_cmd.specs.Program.{program_app}
 use Rattle.jv_cmd.specs.Saying.{EndsInFeed}
@@ -70,10 +69,10 @@ stored_setting_in rows = setting_fields_in rows >>= where_allowed
 abbrev pub setting_in : List Row → Option Setting
 setting_in rows = (if is_built_store rows then stored_setting_in rows else None)
 
--- the seed of a script that is drawn, where one is asked for: a number of 64 bits
+-- the seed of a script that is drawn, where one is asked for
 abbrev pub seed_of : Option Text → Option (Option ℕ)
 seed_of None = Some None
-seed_of (Some text) = option_map Some (number_of text)
+seed_of (Some text) = option_map Some (number_of_digits text)
 
 unfoldable pub options_in : List Row → Option SessionOptions
 options_in rows = do

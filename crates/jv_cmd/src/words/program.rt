@@ -192,7 +192,7 @@ fn generate<'a>(alloc: Global) -> Arg<'a>
         alloc,
         "generate",
         "N",
-        "Run the script drawn from the seed N, 0 to 2^64 - 1, instead, and print its totals alone",
+        "Run the script drawn from the seed N, of at most 19 digits, instead, and print its totals alone",
     )
 }
 

@@ -9,7 +9,7 @@ ghost use Rattle.jv_cmd.specs.Words.{Answers, Parses, Reads, Refuses, asked, com
 use super::program::program;
 use super::refusal::{refused, refused_by_clap};
 use super::request::{Command, SessionOptions, WordsFault};
-use super::values::{block_size, number_within, place};
+use super::values::{block_size, number, number_within, place};
 use clap::ArgMatches;
 use jv_model::options::{MAX_BUFFER, MAX_CACHE, MAX_UPLOADS, MIN_BUFFER};
 use jv_model::tables::ROWS_VERSION;
@@ -171,7 +171,7 @@ fn seed_in(values: &ArgMatches<'_>) -> Result<Option<u64>, BadValue>
     let Some(text) = text_in(values, "generate") else {
         return Ok(None);
     };
-    let seed = jv_script::number(text).ok_or(BadValue::OutOfRange)?;
+    let seed = number(text).ok_or(BadValue::OutOfRange)?;
     Ok(Some(seed))
 }
 

@@ -13,9 +13,9 @@ use jv_script::is_numeral;
 /// What comes before the path in the URL of a volume.
 const SCHEME: &[u8] = b"sqlite3://";
 
-/// The text of a number of at most [`MAX_DIGITS`] digits: decimal digits without a leading zero.
+/// The number of a text of at most [`MAX_DIGITS`] decimal digits without a leading zero.
 #[tactic(auto, unfolding(crate::specs::Values::number_of_digits))]
-fn number(text: &[u8]) -> Option<u64>
+pub(crate) fn number(text: &[u8]) -> Option<u64>
     ensures { result ≡ number_of_digits text.now }
 {
     if !is_numeral(text) || text.len() > MAX_DIGITS {
