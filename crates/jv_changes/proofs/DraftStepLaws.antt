@@ -11,8 +11,8 @@ use Rattle.jv_outside.specs.declared.batch.Change.{Change}
 use Rattle.jv_outside.specs.Store.{Store}
 use Rattle.jv_rows.specs.Transactions.{TransactionCounts, FaultCause, BadFault}
 use Rattle.jv_volume.specs.TypedRows.{typed}
-use Rattle.jv_volume.proofs.WalkShapeLaws.{same_Ok}
 use Rattle.jv_changes.specs.Drafting.{Minds, Led, LeadsTo, Drafting}
+use Rattle.jv_model.proofs.TestLaws.{same_Ok}
 
 -- what holds of the tree of each rows in mind that a step begins with
 abbrev pub OfMinds : (Tree → Type 0) → List Change → Store → (Tree → Type 0) → Type 0

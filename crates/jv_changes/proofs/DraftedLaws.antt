@@ -19,11 +19,11 @@ use Rattle.jv_rows.specs.Drafts.{drafted, cell, Drafts, Sees, RefusesCell, Needs
 use Rattle.jv_rows.specs.Readings.{RowCause}
 use Rattle.jv_rows.specs.Transactions.{FaultCause, is_needed, IsBad, Malformed, Lacks, BadFault}
 use Rattle.jv_volume.specs.Shape.{is_top}
-use Rattle.jv_rows.proofs.TransactionLaws.{of_known, if_known}
 use Rattle.jv_volume.specs.TypedRows.{Cell, Rows, typed}
 use Rattle.jv_volume.proofs.MapLaws.{get-alter-here, get-alter-apart}
 use Rattle.jv_volume.proofs.ShapeMapLaws.{same_or_apart, tied_apart}
 use Rattle.jv_changes.specs.Drafting.{Minds, AreRows, Led, LeadsTo, Drafting}
+use Rattle.jv_model.proofs.TestLaws.{if_some-by, of_known}
 
 -- ---- one more change
 
@@ -213,7 +213,7 @@ module _ {A : Type 0} (ready : Tree → Type 0) (was now : List Change) (before 
     formed = λ are. tt;
     leads = λ known is bytes t m is_ready. leads-cell key was A middle.rows fault s.refused known
         (p.rows_are ∙ is) bytes t m now (step t);
-    bad = λ are. if_known (λ known. BadFault (typed known) (OfRows fault)) before.rows
+    bad = λ are. if_some-by (λ known. BadFault (typed known) (OfRows fault)) before.rows
         (λ known is. bad-cell key was middle.rows fault s.refused are known (p.rows_are ∙ is));
   }
 
@@ -231,7 +231,7 @@ module _ {A : Type 0} (ready : Tree → Type 0) (was now : List Change) (before 
     formed = λ are. tt;
     leads = λ known is bytes t m is_ready. leads-needed key was need A middle.rows fault n.refused known
         (p.rows_are ∙ is) bytes t m (there known bytes t m is_ready) now (step t);
-    bad = λ are. if_known (λ known. BadFault (typed known) fault) before.rows
+    bad = λ are. if_some-by (λ known. BadFault (typed known) fault) before.rows
         (λ known is. bad-needed key was need middle.rows fault n.refused are known (p.rows_are ∙ is));
   }
 
@@ -243,7 +243,7 @@ module _ {A : Type 0} (ready : Tree → Type 0) (was now : List Change) (before 
     counts = p.calm;
     formed = λ are. tt;
     leads = λ known is bytes t m is_ready. tt;
-    bad = λ are. if_known (λ known. BadFault (typed known) (OfRows Memory)) before.rows (λ known is. tt);
+    bad = λ are. if_some-by (λ known. BadFault (typed known) (OfRows Memory)) before.rows (λ known is. tt);
   }
 
   -- it is refused, and so is the model's
@@ -257,7 +257,7 @@ module _ {A : Type 0} (ready : Tree → Type 0) (was now : List Change) (before 
     counts = p.calm;
     formed = λ are. tt;
     leads = refuses;
-    bad = λ are. if_known (λ known. BadFault (typed known) (Refused fault)) before.rows (λ known is. tt);
+    bad = λ are. if_some-by (λ known. BadFault (typed known) (Refused fault)) before.rows (λ known is. tt);
   }
 
   -- it is made

@@ -15,15 +15,15 @@ use Rattle.jv_outside.specs.Store.{Store, Commits}
 use Rattle.std.specs.Option.{option_map}
 use Rattle.jv_rows.specs.Drafts.{drafted}
 use Rattle.jv_rows.specs.Transactions.{FaultCause, BadFault, Landed, Lands, Transacts}
-use Rattle.jv_rows.proofs.TransactionLaws.{Past, Fails, FailsBy, of_known, if_known}
+use Rattle.jv_rows.proofs.TransactionLaws.{Past, Fails, FailsBy}
 use Rattle.jv_volume.specs.TypedRows.{typed}
 use Rattle.jv_volume.specs.TreeOf.{tree_of}
 use Rattle.jv_volume.specs.Shape.{WholeShape, shape_of}
 use Rattle.jv_volume.specs.Whole.{Whole, no_bytes}
 use Rattle.jv_volume.proofs.QuietLaws.{quiet-none, quiet-slices}
 use Rattle.jv_volume.proofs.StoredLaws.{same_shape, stored-again, whole-stored}
-use Rattle.jv_volume.proofs.WalkShapeLaws.{same_Ok}
 use Rattle.jv_changes.specs.Drafting.{Minds, AreRows, Led, LeadsTo, Drafting}
+use Rattle.jv_model.proofs.TestLaws.{if_some-by, of_known, same_Ok}
 
 -- ---- what is in mind
 
@@ -176,7 +176,7 @@ module _ {A : Type 0} (ready : Tree → Type 0) (before middle after : Store) (w
         (refuses known is whole bytes is_ready)
         (d.leads known (p.rows_are ∙ is) bytes (now t) (p.minds known is whole bytes is_ready)
         (may known is whole bytes is_ready)) refl);
-    bad = if_known (λ known. BadFault (typed known) fault) before.rows (λ known is.
+    bad = if_some-by (λ known. BadFault (typed known) fault) before.rows (λ known is.
         of_known (λ known. BadFault (typed known) fault) middle.rows known (p.rows_are ∙ is) (d.bad p.formed));
   }
 
@@ -205,7 +205,7 @@ module _ {A : Type 0} (ready : Tree → Type 0) (before middle after : Store) (w
     counts = counted fault p.calm f.cause;
     undone = f.rows_are ∙ p.rows_are;
     lands = λ known is whole bytes is_ready. failed fault known bytes is whole f.why;
-    bad = if_known (λ known. BadFault (typed known) fault) before.rows (bad_of fault f.why);
+    bad = if_some-by (λ known. BadFault (typed known) fault) before.rows (bad_of fault f.why);
   }
 
   landed : (known : RowMap) (bytes : ℕ → ℕ → ℕ) (answer : Reply) (t : Tree) → Commits middle after (Ok tt) was

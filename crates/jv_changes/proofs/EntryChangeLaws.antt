@@ -17,7 +17,6 @@ use Rattle.jv_model.specs.rows.RowPlaces.{node_key, edge_key}
 use Rattle.jv_model.specs.tree.Attempt.{◌>>=◌, require}
 use Rattle.jv_model.specs.tree.Tree.{Tree, Node, EntryKey, parent_of, is_directory, link_count, links_fit, node_at}
 use Rattle.jv_model.specs.tree.Changes.{put_entry, take_entry}
-use Rattle.jv_model.proofs.TestLaws.{some_same}
 use Rattle.jv_outside.specs.declared.batch.Change.{Change}
 use Rattle.jv_outside.specs.Store.{Store}
 use Rattle.jv_rows.specs.Drafts.{drafted}
@@ -34,6 +33,7 @@ use Rattle.jv_changes.specs.Present.{Presents, links_to_node, linked_row}
 use Rattle.jv_changes.specs.Ready.{StandsAt, MayStandAt, entry_put, IsThere}
 use Rattle.jv_changes.proofs.DraftedLaws.{Drafted, are_rows-put, are_rows-drop, Stays, stays-then, drafting-made, drafting-refused}
 use Rattle.jv_changes.proofs.PresentLaws.{stays-present, present-stands, drafting-absent, Sound, sound-minds, minds-sound, sound-node, sound-edge}
+use Rattle.std.proofs.lemmas.Option.{same_Some}
 
 -- ---- three changes of rows: an entry's, its directory's, and its inode's
 
@@ -170,7 +170,7 @@ module _ (known : RowMap) (was : List Change) (bytes : ℕ → ℕ → ℕ) (t :
     minds-entry_in name changes is = minds-sound known changes bytes (put_entry t now at inode) rows_in
         (sound-three rows at inode row dir here there apart (Some edge_cell) (typed known)
         (sound-minds known was bytes t m)
-        (λ x e. subst (IsRowAt (edge_key at.dir at.name)) (some_same edge_cell x e)
+        (λ x e. subst (IsRowAt (edge_key at.dir at.name)) (same_Some edge_cell x e)
         (record { key_is = name; cell_is = refl })) now
         (dir.nlink + links_by row.kind) (row.nlink + links_to_node row.kind))
         is tree_in stored_in

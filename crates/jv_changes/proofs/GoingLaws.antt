@@ -18,7 +18,6 @@ use Rattle.jv_outside.specs.declared.batch.Change.{Change}
 use Rattle.jv_outside.specs.Store.{Store}
 use Rattle.jv_rows.specs.Drafts.{drafted, Needs}
 use Rattle.jv_rows.specs.Transactions.{Always}
-use Rattle.jv_rows.proofs.TransactionLaws.{of_known}
 use Rattle.jv_rows.proofs.WalkLaws.{of_top}
 use Rattle.jv_volume.specs.TypedRows.{Cell, Rows, typed}
 use Rattle.jv_volume.specs.Views.{row_in, counters_in, counters_at, node_row_at}
@@ -40,6 +39,7 @@ use Rattle.jv_changes.specs.Present.{Presents}
 use Rattle.jv_changes.specs.Ready.{MayGo, sustaining}
 use Rattle.jv_changes.proofs.DraftedLaws.{Drafted, are_rows-put, are_rows-drop, spare-node, Stays, stays-none, stays-then, stays-needs, needed-stands, drafting-lacking, drafting-made}
 use Rattle.jv_changes.proofs.PresentLaws.{stays-present, drafting-absent, Sound, sound-minds, minds-sound}
+use Rattle.jv_model.proofs.TestLaws.{of_known}
 
 -- ---- rows of a tree that is about to change
 

@@ -11,12 +11,11 @@ use Rattle.jv_model.specs.FiniteMap.{get, insert, alter}
 use Rattle.jv_model.specs.rows.RowKeys.{RowMap}
 use Rattle.jv_model.specs.rows.RowPlaces.{node_key, edge_key}
 use Rattle.jv_model.specs.tree.Tree.{Tree, node_at}
-use Rattle.jv_model.proofs.TestLaws.{some_same}
+use Rattle.jv_model.proofs.TestLaws.{if_some-by, of_known}
 use Rattle.jv_outside.specs.declared.batch.Change.{Change}
 use Rattle.jv_outside.specs.Store.{Store}
 use Rattle.jv_rows.specs.Drafts.{drafted, Drafts}
 use Rattle.jv_rows.specs.Transactions.{FaultCause, BadFault}
-use Rattle.jv_rows.proofs.TransactionLaws.{of_known, if_known}
 use Rattle.jv_volume.specs.TypedRows.{Cell, Rows, typed}
 use Rattle.jv_volume.specs.Views.{row_in, node_in, node_row_at}
 use Rattle.jv_volume.specs.TreeOf.{tree_of}
@@ -31,6 +30,7 @@ use Rattle.jv_changes.specs.Drafting.{Minds, AreRows, LeadsTo, Drafting}
 use Rattle.jv_changes.specs.Present.{Presents, RefusesNode}
 use Rattle.jv_changes.specs.Ready.{IsThere}
 use Rattle.jv_changes.proofs.DraftedLaws.{Drafted, was_drafted, Stays, bad-cell, leads-cell}
+use Rattle.std.proofs.lemmas.Option.{same_Some}
 
 -- ---- a node that was read
 
@@ -84,7 +84,7 @@ module _ (inode : ℕ) (was : List Change) (middle after : Store) where
     formed = λ are. tt;
     leads = λ known is bytes t m is_ready. absent_leads A fault s.refused known (p.rows_are ∙ is) bytes t m
         (there t is_ready) now step;
-    bad = λ are. if_known (λ known. BadFault (typed known) fault) before.rows
+    bad = λ are. if_some-by (λ known. BadFault (typed known) fault) before.rows
         (λ known is. absent_bad fault s.refused are known (p.rows_are ∙ is));
   }
 
@@ -128,7 +128,7 @@ module _ (start rows : Rows) (sound : Sound start rows) where
       → Sound start (insert rows (node_key inode) (Ok (OfNode row)))
   sound-node inode was row there kind length = record {
     cells = rows-alter rows (node_key inode) (Some (Ok (OfNode row))) sound.cells
-        (λ x e. subst (IsRowAt (node_key inode)) (some_same (Ok (OfNode row)) x e)
+        (λ x e. subst (IsRowAt (node_key inode)) (same_Some (Ok (OfNode row)) x e)
         (record { key_is = refl; cell_is = refl }));
     files = files-same_length rows inode was row sound.files there kind length;
     quiet = quiet-then start rows (insert rows (node_key inode) (Ok (OfNode row))) sound.quiet

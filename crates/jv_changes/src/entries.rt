@@ -1,5 +1,5 @@
 //! Entries that come and go, with the times and the link counts of their directories and their nodes.
-ghost use Rattle.std.specs.Prelude.{◌≡◌, ◌-◌, IsTrue, Ok};
+ghost use Rattle.std.specs.Prelude.{◌≡◌, ◌-◌, Ok};
 ghost use Rattle.jv_changes.specs.Drafting.{Drafting};
 ghost use Rattle.jv_changes.specs.Present.{links_to_node, linked_row, Rises};
 ghost use Rattle.jv_volume.specs.Stored.{links_by, directory_touched};

@@ -17,7 +17,6 @@ use Rattle.jv_model.specs.client.OpForms.{changes_bytes}
 use Rattle.jv_model.specs.tree.Trash.{due_after}
 use Rattle.jv_outside.specs.Store.{Store}
 use Rattle.jv_data.specs.Changing.{AnyBytes, Changes, IsCrowded, Never, count_in}
-use Rattle.jv_metadata.specs.Attempts.{mapped}
 use Rattle.jv_shared.specs.Shared.{Shared}
 use Rattle.jv_handles.specs.Handles.{inode_here}
 use Rattle.jv_handles.proofs.TableLaws.{the_some}
@@ -37,6 +36,7 @@ use Rattle.jv_client.proofs.ClosingLaws.{closes-unseen}
 use Rattle.jv_client.proofs.DueLaws.{ChangesOne, OfCopy, OfTruncate, changes-one}
 use Rattle.jv_client.proofs.FormLaws.{ready-closes}
 use Rattle.jv_client.proofs.ChangingLaws.{blind, copied-makes, copy-unmade, truncate-unmade, truncated-makes}
+use Rattle.jv_model.specs.Optional.{mapped}
 
 -- ---- a result that is another one's with its value changed
 

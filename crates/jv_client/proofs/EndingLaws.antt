@@ -27,7 +27,7 @@ use Rattle.jv_client.specs.Ending.{closed, ended, finished_here, refused_here, t
 use Rattle.jv_client.proofs.DirectLaws.{direct-with_file}
 use Rattle.jv_client.proofs.LastLaws.{inode-same, is_last-same}
 use Rattle.jv_client.proofs.HeldLaws.{held-doing, holds-doing, holds-unmounted}
-use Rattle.jv_client.proofs.NextSegmentLaws.{kept-some}
+use Rattle.jv_model.proofs.ListLaws.{all_filter}
 
 -- a write that is done keeps its bytes
 abbrev pub keeps_bytes : Op → Told → Bool
@@ -198,7 +198,7 @@ module _ (t : Tree) (m : ModelClient) (holds : Holds t m) where
   IsOfFile b = IsHoldable t b.inode
 
   others-held : (inode : ℕ) (bytes : List PendingByte) → AllByRecursion IsOfFile bytes → AllByRecursion IsOfFile (pending_of_others inode bytes)
-  others-held inode bytes h = kept-some (IsHoldable t) (λ b. not (b.inode == inode)) bytes h
+  others-held inode bytes h = all_filter (λ (b : PendingByte). IsHoldable t b.inode) (λ b. not (b.inode == inode)) bytes h
 
 holds-finished : (o : Op) (t : Tree) (m : ModelClient) → is_write o ≡ false → Holds t m → Holds t (record (finished o m) { doing = None })
 holds-finished op.Umount t m e holds = holds-unmounted t

@@ -10,21 +10,13 @@ use Rattle.jv_pending.proofs.SegmentLaws.{own_segment}
 use Rattle.jv_client.specs.declared.doing.Flush.{Flush}
 use Rattle.jv_client.specs.declared.doing.Flush.TheVariants as flush
 use Rattle.jv_client.specs.Held.{segment_left}
+use Rattle.jv_model.proofs.ListLaws.{all_filter}
 
 -- the inode of a segment
 
 module _ (P : ℕ → Type 0) where
   abbrev OfBytes : List PendingByte → Type 0
   OfBytes = AllByRecursion (λ (b : PendingByte). P b.inode)
-
-  kept-if : (b : Bool) (byte : PendingByte) (bytes : List PendingByte) → P byte.inode → OfBytes bytes
-      → OfBytes (if b then byte ∷ bytes else bytes)
-  kept-if true byte bytes own all = (own, all)
-  kept-if false byte bytes own all = all
-
-  pub kept-some : (keep : PendingByte → Bool) (bytes : List PendingByte) → OfBytes bytes → OfBytes (filter keep bytes)
-  kept-some keep [] all = tt
-  kept-some keep (byte ∷ bytes) all = kept-if (keep byte) byte (filter keep bytes) all.0 (kept-some keep bytes all.1)
 
   first-of : (bytes : List PendingByte) (segment : Segment) → first_segment bytes ≡ Some segment → OfBytes bytes
       → P segment.inode
@@ -38,7 +30,7 @@ module _ (P : ℕ → Type 0) where
       → (others ≡ Some segment → P segment.inode) → P segment.inode
   of_file inode bytes segment others None is e all other = other e
   of_file inode bytes segment others (Some first) is e all other =
-      first-of (pending_of inode bytes) segment (is ∙ e) (kept-some (λ b. b.inode == inode) bytes all)
+      first-of (pending_of inode bytes) segment (is ∙ e) (all_filter (λ (b : PendingByte). P b.inode) (λ b. b.inode == inode) bytes all)
 
   of_files : (inodes : List ℕ) (bytes : List PendingByte) (segment : Segment)
       → segment_of_files inodes bytes ≡ Some segment → OfBytes bytes → P segment.inode

@@ -498,11 +498,6 @@ module _ (entries : ℕ) (h middle after : ClientValue) (made : Option Cached) (
         (begins-read offset len block h here.d here.busy here.does_is ready none first here.file looks.cache looks.later
         has_cache looks-up found (comes-here start outcome (ahead.Read found) of_start of_ahead comes) finds)
 
--- what holds anyway holds on an error
-pub on_err : {A E : Type 0} (result : Result A E) (P : Type 0) → P → OnErr result P
-on_err (Ok value) P p = tt
-on_err (Err fault) P p = p
-
 -- a client that only kept its cache
 pub same-cached : (h : ClientValue) → IsCachedAs h h
 same-cached h = record {

@@ -18,7 +18,7 @@ use Rattle.jv_client.specs.Held.{IsHeld, Holds}
 use Rattle.jv_client.specs.Flushing.{bytes_of, without_segment}
 use Rattle.jv_client.proofs.DirectLaws.{direct-goes, direct-unseen}
 use Rattle.jv_client.proofs.HeldLaws.{holds-later}
-use Rattle.jv_client.proofs.NextSegmentLaws.{kept-some}
+use Rattle.jv_model.proofs.ListLaws.{all_filter}
 
 -- The segment's bytes and the others are all that was pending.
 pub length-parted : (segment : Segment) (pending : List PendingByte)
@@ -59,6 +59,6 @@ module _ (segment : Segment) where
       holds-later t after (left_of_model m) stays (record {
         opened = holds.opened;
         pending =
-            kept-some (IsHoldable t) (λ b. not (is_in_range segment.inode segment.from segment.len b)) m.pending
+            all_filter (λ (b : PendingByte). IsHoldable t b.inode) (λ b. not (is_in_range segment.inode segment.from segment.len b)) m.pending
             holds.pending;
       })

@@ -1,5 +1,6 @@
 //! Operations that change the bytes of files in one transaction: truncates and copies.
 ghost use Rattle.std.specs.Prelude.{◌≡◌, ℕ, IfSome, IsSome, IsTrue, None, map};
+ghost use Rattle.jv_model.specs.Optional.{mapped};
 ghost use Rattle.jv_model.specs.client.OpForms.{changes_bytes};
 ghost use Rattle.jv_outside.specs.Carriage.{Carriage};
 ghost use Rattle.jv_yard.specs.YardValue.{YardValue};
@@ -9,7 +10,6 @@ ghost use Rattle.jv_steps.specs.Stages.{changes_files};
 ghost use Rattle.jv_client.specs.UnderWay.{IsReady, left};
 ghost use Rattle.jv_client.specs.Makes.{Makes};
 ghost use Rattle.jv_client.specs.Changing.{TriesChange, copied_to, cut_to};
-ghost use Rattle.jv_metadata.specs.Attempts.{mapped};
 
 use crate::client::Client;
 use crate::made::Made;

@@ -19,7 +19,7 @@ pub struct Client {
     pub(crate) limits: Limits,
     pub(crate) session: Option<u64>,
     pub(crate) handles: Vec<Option<Handle>>,
-    /// The inodes that lost their last name by this client's own hand while it had them open.
+    /// The inodes that lost their last entry by this client's own hand while it had them open.
     pub(crate) sustained: Vec<u64>,
     pub(crate) pending: Pending,
     /// `None` until the first read. A cache that is there has room for as many blocks as the limits say.

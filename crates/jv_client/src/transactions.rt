@@ -1,9 +1,10 @@
 //! Operations that are one metadata transaction, after what they flush.
 ghost use Rattle.std.specs.Prelude.{◌≡◌, ◌+◌, ◌≤◌, IsSome, IsTrue, IfSome, OnOk, None, Some, vec_len, vec_capacity};
+ghost use Rattle.jv_model.specs.Optional.{mapped};
 ghost use Rattle.jv_model.specs.client.ModelClient.{free_handle, with_file};
 ghost use Rattle.jv_model.specs.journal.State.{gift_of};
 ghost use Rattle.jv_model.specs.journal.Steps.{entry_of_gift, told_of};
-ghost use Rattle.jv_metadata.specs.Attempts.{mapped, plain};
+ghost use Rattle.jv_metadata.specs.Attempts.{plain};
 ghost use Rattle.jv_outside.specs.Carriage.{Carriage};
 ghost use Rattle.jv_yard.specs.YardValue.{YardValue};
 ghost use Rattle.jv_client.specs.ClientValue.{ClientValue};

@@ -7,7 +7,6 @@ use Rattle.jv_model.specs.rows.RowKeys.{RowMap}
 use Rattle.jv_model.specs.journal.Past.{at_start}
 use Rattle.jv_model.specs.journal.State.{state_at_start}
 use Rattle.jv_model.specs.tree.Tree.{Tree}
-use Rattle.jv_model.proofs.TestLaws.{some_same}
 use Rattle.jv_outside.specs.Objects.{ObjectMap}
 use Rattle.jv_volume.specs.TypedRows.{typed}
 use Rattle.jv_contents.specs.Blocks.{known_by}
@@ -25,13 +24,14 @@ use Rattle.jv_client.specs.Held.{in_flight}
 use Rattle.jv_session.specs.Stands.{AreApart, IsClientAt, Stands, fresh_schedule}
 use Rattle.jv_cmd.specs.Run.{Beginning, StartsWhole, session_run, start_of}
 use Rattle.jv_cmd.specs.Stages.{StageValue}
+use Rattle.std.proofs.lemmas.Option.{same_Some}
 
 -- The depot's blocks have the bytes that all known blocks have.
 known_same : (v : Shared) (fresh : IsFresh v) (g : Known) (t : Tree) → HasStore t g v
     → HasStore (tree_with (known_by v.yard.setting.block (blocks_in v.yard.setting fresh.objects)) (typed fresh.rows)) g v
 known_same v fresh g t store =
-    let rows : store.rows ≡ fresh.rows = some_same _ _ (sym store.rows_are ∙ fresh.rows_are) in
-    let objects : store.objects ≡ fresh.objects = some_same _ _ (sym store.objects_are ∙ fresh.objects_are) in
+    let rows : store.rows ≡ fresh.rows = same_Some _ _ (sym store.rows_are ∙ fresh.rows_are) in
+    let objects : store.objects ≡ fresh.objects = same_Some _ _ (sym store.objects_are ∙ fresh.objects_are) in
     let long = setting_length store.rows v.yard.setting store.setting in
     let some : 0 < v.yard.setting.block = (let least = long.least in omega (arith, least)) in
     let by_depot : t ≡ tree_with (known_by v.yard.setting.block (blocks_in v.yard.setting store.objects)) (typed store.rows) =
@@ -49,10 +49,10 @@ module _ (start : Beginning) (before : StageValue) (w : StartsWhole before start
   first = (start_of start).tree
 
   same_rows : w.fresh.rows ≡ start.rows
-  same_rows = some_same _ _ (sym w.fresh.rows_are ∙ w.known)
+  same_rows = same_Some _ _ (sym w.fresh.rows_are ∙ w.known)
 
   same_objects : w.fresh.objects ≡ start.objects
-  same_objects = some_same _ _ (sym w.fresh.objects_are ∙ w.objects)
+  same_objects = same_Some _ _ (sym w.fresh.objects_are ∙ w.objects)
 
   abbrev known_first : Known
   known_first = (fresh_store v w.fresh).0
@@ -68,7 +68,7 @@ module _ (start : Beginning) (before : StageValue) (w : StartsWhole before start
   setting_first =
       let store = HasStore-start in
       ap (λ (t : Tree). t.setting) store.tree
-      ∙ some_same _ _ (sym (setting_stored (known_by v.yard.setting.block known_first.blocks) (typed store.rows) store.whole) ∙ store.setting)
+      ∙ same_Some _ _ (sym (setting_stored (known_by v.yard.setting.block known_first.blocks) (typed store.rows) store.whole) ∙ store.setting)
 
   rows_first : rows_in v ≡ typed start.rows
   rows_first = ap typed_in w.known

@@ -9,7 +9,7 @@ use Rattle.jv_model.specs.FiniteMap.{get, text_key}
 use Rattle.jv_model.specs.blocks.BlockNames.{IsBlock, name_in}
 use Rattle.jv_model.specs.tree.Tree.{Tree}
 use Rattle.jv_model.proofs.FiniteMapLaws.{get-empty_map}
-use Rattle.jv_model.proofs.TestLaws.{known_is, some_same}
+use Rattle.jv_model.proofs.TestLaws.{of_known}
 use Rattle.jv_outside.specs.Blocks.{StagedMap, staged_at}
 use Rattle.jv_outside.specs.Holding.{Holding}
 use Rattle.jv_outside.specs.Objects.{ObjectMap, bytes_at}
@@ -27,6 +27,7 @@ use Rattle.jv_shared.specs.Fresh.{IsFresh}
 use Rattle.jv_shared.specs.Shared.{HasStore, Known, Shared, staged_in}
 use Rattle.jv_session.specs.Lines.{StaysPut}
 use Rattle.jv_cmd.specs.Run.{Leaves}
+use Rattle.std.proofs.lemmas.Option.{same_Some}
 
 -- What a yard found on its shelf is what it has staged in the end.
 Found-left : (setting : Setting) (depot : Holding ObjectMap) (shelf : Holding StagedMap) (before left : Shared)
@@ -59,8 +60,7 @@ module _ (t : Tree) (g : Known) (v w : Shared) (store : HasStore t g v)
   known_shelved client b bytes low is at =
       let name = name_in setting b in
       let named : NamesBlock setting name = record { block = b; is = record { is_block = is; spelled = refl } } in
-      let since : get (v.yard.staged client) name ≡ Some 0 = known_is v.yard.shelf.content store.staged
-      (λ m. (n : List ℕ) → NamesBlock setting n → IsSome (staged_at client n m) → get (v.yard.staged client) n ≡ Some 0)
+      let since : get (v.yard.staged client) name ≡ Some 0 = of_known (λ m. (n : List ℕ) → NamesBlock setting n → IsSome (staged_at client n m) → get (v.yard.staged client) n ≡ Some 0) v.yard.shelf.content store.staged
       store.staged_are (found client low).all name named (ap is_some at) in
       let passes = is_block-passes setting.block b is in
       let there : is_some (staged_since client name v.yard.staged) ≡ true = ap is_some since in
@@ -96,12 +96,12 @@ module _ (t : Tree) (g : Known) (v w : Shared) (store : HasStore t g v)
       → IsCopy contents name second → first ≡ second
   alike_named name first second named a b =
       let is = named.is.is_block in
-      some_same first second
+      same_Some first second
       (sym (known_copy named.block first is (subst (λ n. IsCopy contents n first) named.is.spelled a))
       ∙ known_copy named.block second is (subst (λ n. IsCopy contents n second) named.is.spelled b))
 
   alike_left : AreAlike contents
-  alike_left name first second (inl a) (inl b) = some_same first second (sym a ∙ b)
+  alike_left name first second (inl a) (inl b) = same_Some first second (sym a ∙ b)
   alike_left name first second (inl a) (inr b) =
       alike_named name first second (staged_name name second b) (inl a) (inr b)
   alike_left name first second (inr a) b = alike_named name first second (staged_name name first a) (inr a) b

@@ -3,7 +3,6 @@
 ghost use Rattle.std.specs.Prelude.{◌≡◌, ◌≤◌, ◌++◌, ◌∷◌, [], codes, drop, IfOk, IsSome, IsSomeAnd, MatchOption, OnOk, Some};
 ghost use Rattle.jv_model.specs.declared.limits.TheConstants.{MAX_DATA};
 ghost use Rattle.jv_model.specs.script.Printed.{number_word};
-ghost use Rattle.jv_model.specs.client.OpForms.{is_read};
 ghost use Rattle.jv_generator.specs.Summary.{totals_of, with_reply};
 ghost use Rattle.jv_generator.specs.Script.{script};
 ghost use Rattle.jv_cmd.specs.Generating.{EndsScript, PrintsSummary, SumsUp, words_of_create, is_read_line, line_text, operation_text, words_of_read, repeated_text, replies_said, reply_said, script_text, spelled_bytes, summary_of, words_of_write};
@@ -142,17 +141,11 @@ fn spelled_bytes(alloc: Global, digits: &[u8]) -> Result<Bytes, AllocError>
     }
 }
 
-fn is_read(op: &Op) -> bool
-    ensures { result ≡ is_read op.now }
-{
-    matches!(op, Op::Read { .. })
-}
-
 fn is_read_line(line: &Line) -> bool
     ensures { result ≡ is_read_line line.now }
 {
     match line {
-        Line::Do(_, op) => is_read(op),
+        Line::Do(_, op) => op.is_read(),
         _ => false,
     }
 }

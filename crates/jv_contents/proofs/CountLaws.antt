@@ -26,73 +26,20 @@ use Rattle.jv_volume.specs.Views.{row_in, records_in, counters_in, slice_in, sli
 use Rattle.jv_volume.specs.TreeOf.{or_no_counters}
 use Rattle.jv_volume.specs.Slices.{listed, records_naming, named_by, count_in, slice_count, ListsHave, next_slice, WholeSlices}
 use Rattle.jv_volume.proofs.MapLaws.{get-alter-apart}
-use Rattle.jv_volume.proofs.QuietLaws.{sum-retain_keys}
 use Rattle.jv_volume.proofs.ShapeMapLaws.{tied_same}
 use Rattle.jv_rows.specs.Counts.{is_named, recounted, Recounted, Adjusted, IsFull}
 use Rattle.jv_contents.specs.Counts.{record_count, Behind, HadSize, HasDied}
 use Rattle.jv_contents.proofs.BehindLaws.{behind-none, behind-more}
 use Rattle.jv_contents.proofs.BlockLaws.{named_has_row}
 use Rattle.jv_contents.proofs.WholeLaws.{SlicesGo}
-
--- ---- a sum over all lists
-
--- of a function that has nothing for no records
-abbrev sum_of : (List Rec → ℕ) → Rows → ℕ
-sum_of f rows = sum_over (λ key cell. f (listed key (Some cell))) rows
-
-module _ (f : List Rec → ℕ) (nothing : f [] ≡ 0) where
-  none_by : (b : Bool) → f (if b then [] else []) ≡ 0
-  none_by true = nothing
-  none_by false = nothing
-
-  share_is : (key : RowKey) (o : Option Cell) → share (λ key cell. f (listed key (Some cell))) key o ≡ f (listed key o)
-  share_is key None = sym (none_by (key.tab == TABLE_OF_LISTS))
-  share_is key (Some cell) = refl
-
-  -- with other records at one key
-  sum-list : (rows : Rows) (key : RowKey) (cell : Option Cell) → sum_of f (alter rows key cell) + f (listed key (get rows key)) ≡ sum_of f rows + f (listed key cell)
-  sum-list rows key None =
-      let sum = sum-remove row_key (λ key cell. f (listed key (Some cell))) rows key in
-      let old = share_is key (get rows key) in
-      let new = none_by (key.tab == TABLE_OF_LISTS) in
-      omega (arith, sum, old, new)
-  sum-list rows key (Some cell) =
-      let sum = sum-insert row_key (λ key cell. f (listed key (Some cell))) rows key cell in
-      let old = share_is key (get rows key) in
-      omega (arith, sum, old)
-
-  -- rows with the same lists
-  sum-lists : (rows after : Rows) → ((key : RowKey) → (key.tab == TABLE_OF_LISTS) ≡ true → get after key ≡ get rows key) → sum_of f after ≡ sum_of f rows
-  sum-lists rows after same =
-      sym (sum-retain_keys row_key (λ key cell. f (listed key (Some cell))) (λ key. key.tab == TABLE_OF_LISTS) no_list after)
-      ∙ ap (sum_of f) (same_maps (retain_keys (λ key. key.tab == TABLE_OF_LISTS) after) (retain_keys (λ key. key.tab == TABLE_OF_LISTS) rows) (λ key.
-      get-retain_keys after (λ key. key.tab == TABLE_OF_LISTS) key ∙ by_table key (key.tab == TABLE_OF_LISTS) refl ∙ sym (get-retain_keys rows (λ key. key.tab == TABLE_OF_LISTS) key)))
-      ∙ sum-retain_keys row_key (λ key cell. f (listed key (Some cell))) (λ key. key.tab == TABLE_OF_LISTS) no_list rows
-    where
-      no_list : (key : RowKey) (cell : Cell) → (key.tab == TABLE_OF_LISTS) ≡ false → f (listed key (Some cell)) ≡ 0
-      no_list key cell other = ap (λ b. f (if b then records_in (row_in (Some cell)) else [])) other ∙ nothing
-
-      by_table : (key : RowKey) (b : Bool) → (key.tab == TABLE_OF_LISTS) ≡ b → cond b (get after key) None ≡ cond b (get rows key) None
-      by_table key true e = same key e
-      by_table key false e = refl
+use Rattle.jv_volume.proofs.ListSumLaws.{is_list_key, sum-list, sum-lists, named-lists, listed-lists}
 
 -- ---- rows with the same lists
 
-module _ (rows after : Rows) (same : (key : RowKey) → (key.tab == TABLE_OF_LISTS) ≡ true → get after key ≡ get rows key) where
-  listed_same : (key : RowKey) → listed key (get after key) ≡ listed key (get rows key)
-  listed_same key = by_table (key.tab == TABLE_OF_LISTS) refl
-    where
-      by_table : (b : Bool) → (key.tab == TABLE_OF_LISTS) ≡ b → (if b then records_in (row_in (get after key)) else []) ≡ (if b then records_in (row_in (get rows key)) else [])
-      by_table true e = ap (λ c. records_in (row_in c)) (same key e)
-      by_table false e = refl
-
-  named-lists : (id : ℕ) → named_by after id ≡ named_by rows id
-  unfolding named_by
-  named-lists id = sum-lists (records_naming id) refl rows after same
-
+module _ (rows after : Rows) (same : (key : RowKey) → is_list_key key ≡ true → get after key ≡ get rows key) where
   record_count-lists : record_count after ≡ record_count rows
   unfolding record_count
-  record_count-lists = sum-lists length refl rows after same
+  record_count-lists = sum-lists rows after same length refl
 
 -- ---- one list changes
 
@@ -319,7 +266,7 @@ module _ (more : ℕ) (rows middle after : Rows) (gone added : List Rec) (due : 
       by_becomes (Stays other row stays) = inl (sym (m.deads id) ∙ sym stays ∙ there)
 
   lists_after : (P : Rec → Type 0) → ListsHave P middle → ListsHave P after
-  lists_after P have key = subst (AllByRecursion P) (sym (listed_same middle after (lists-adjusted gone added due middle after a) key)) (have key)
+  lists_after P have key = subst (AllByRecursion P) (sym (listed-lists middle after (lists-adjusted gone added due middle after a) key)) (have key)
 
   pub go-adjusted : SlicesGo more rows after
   go-adjusted = record {

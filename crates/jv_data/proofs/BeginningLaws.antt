@@ -16,7 +16,7 @@ use Rattle.jv_model.specs.tree.Changes.{empty_content, overwritten, with_content
 use Rattle.jv_model.specs.tree.Tree.{Tree, Content, content_at, fits}
 use Rattle.jv_outside.specs.declared.batch.Change.{Change}
 use Rattle.jv_outside.specs.Store.{Store}
-use Rattle.jv_rows.proofs.TransactionLaws.{Past, past-start, past-as, past-looks, past-ends, of_known}
+use Rattle.jv_rows.proofs.TransactionLaws.{Past, past-start, past-as, past-looks, past-ends}
 use Rattle.jv_volume.specs.TypedRows.{typed}
 use Rattle.jv_volume.specs.TreeOf.{tree_of}
 use Rattle.jv_volume.specs.Views.{row_in, node_in, node_row_at}
@@ -26,16 +26,12 @@ use Rattle.jv_rows.specs.Drafts.{drafted}
 use Rattle.jv_data.specs.Committing.{HasFile, Begun, BeginsCommit}
 use Rattle.jv_data.specs.Resizing.{AreSized, ResizesFile}
 use Rattle.jv_data.specs.Truncating.{LeaveSlices}
+use Rattle.jv_model.proofs.TestLaws.{of_known, bound}
 
 -- a block that is young enough at the moments of the arguments
 pub is_timely : (now started n s : ℕ) (young : Bool) → n ≡ now → s ≡ started → young ≡ nat_lt n (s + UPLOAD_LIFE) → young ≡ true
     → nat_lt now (started + UPLOAD_LIFE) ≡ true
 is_timely now started n s young now_is started_is young_is is = (λ i. nat_lt (sym now_is i) (sym started_is i + UPLOAD_LIFE)) ∙ sym young_is ∙ is
-
--- one step after two is two steps after one
-pub binds : {A B C : Type 0} (r : Result A Fault) (f : A → Result B Fault) (g : B → Result C Fault) → (r >>= f) >>= g ≡ r >>= (λ x. f x >>= g)
-binds (Ok x) f g = refl
-binds (Err fault) f g = refl
 
 -- a test whose answer isn't asked for
 without : {A : Type 0} (b : Bool) (fault : Fault) (x : A) → (require b fault >>= (λ unit. Ok x)) >>= (λ left. Ok tt) ≡ require b fault
@@ -65,9 +61,9 @@ module _ (sid now inode end started : ℕ) (before : Store) where
 
   act_is : (from : ℕ) (patch : List ℕ) (t : Tree) → act from patch t ≡ length_seen sid inode t >>= (λ length. in_time from patch t)
   act_is from patch t =
-      binds (length_seen sid inode t) _ (λ left. Ok tt)
+      bound (length_seen sid inode t) _ (λ left. Ok tt)
       ∙ ap (λ r. length_seen sid inode t >>= (λ length. r))
-      (binds (require (nat_lt now (started + UPLOAD_LIFE)) (TimedOut started now)) _ (λ left. Ok tt)
+      (bound (require (nat_lt now (started + UPLOAD_LIFE)) (TimedOut started now)) _ (λ left. Ok tt)
       ∙ ap (λ r. require (nat_lt now (started + UPLOAD_LIFE)) (TimedOut started now) >>= (λ unit. r))
       (without (fits t (committed t now inode from patch)) NoSpace (committed t now inode from patch)))
 

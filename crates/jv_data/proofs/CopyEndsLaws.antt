@@ -34,7 +34,7 @@ use Rattle.jv_outside.specs.Store.{Store, Commits}
 use Rattle.jv_rows.specs.Counts.{is_named, IsFull as CountIsFull, FailsToRecount, RefusesAdjust, Adjusted, Adjusts}
 use Rattle.jv_rows.specs.Drafts.{drafted, IsNoRow}
 use Rattle.jv_rows.specs.Transactions.{BadFault, IsFor, Looks, TransactionCounts}
-use Rattle.jv_rows.proofs.TransactionLaws.{Past, if_known, of_known, past-start, past-as, past-calm, past-ends, past-fails, past-looks, past-refuses, past-stops, fails-commit}
+use Rattle.jv_rows.proofs.TransactionLaws.{Past, past-start, past-as, past-calm, past-ends, past-fails, past-looks, past-refuses, past-stops, fails-commit}
 use Rattle.jv_volume.specs.TreeOf.{tree_of}
 use Rattle.jv_volume.specs.TypedRows.{Rows, typed}
 use Rattle.jv_volume.specs.Views.{row_in, node_in, node_row_at, lists_of}
@@ -57,6 +57,7 @@ use Rattle.jv_data.proofs.RestLaws.{of_left}
 use Rattle.jv_data.proofs.SizedLaws.{sized_rows}
 use Rattle.jv_data.proofs.TruncateLaws.{has_named}
 use Rattle.jv_data.proofs.CountersLaws.{fits-same}
+use Rattle.jv_model.proofs.TestLaws.{if_some-by, of_known}
 
 -- ---- the model's copy, by its steps
 
@@ -363,7 +364,7 @@ module _ (sid now src dst from to len : ℕ) (due : Setting → ℕ) where
                   counts = subst (λ m. TransactionCounts {A = ℕ} m after.faults (Err fault)) past_lists.calm a.counts;
                   undone = a.rows_are ∙ past_lists.rows_are;
                   lands = λ known is whole known_bytes ready. lands_uncounted after fault a.refused known is whole known_bytes;
-                  bad = if_known (λ known. BadFault (typed known) fault) before.rows (λ known is. bad_uncounted fault a.refused known is);
+                  bad = if_some-by (λ known. BadFault (typed known) fault) before.rows (λ known is. bad_uncounted fault a.refused known is);
                 }
 
                 module _ (counted : Store) (d3 : List Change) (a : Adjusts [] added 0 lists counted d2 d3 (Ok tt)) where

@@ -15,13 +15,13 @@ use Rattle.jv_outside.specs.declared.batch.Change.{Change}
 use Rattle.jv_outside.specs.Store.{Store}
 use Rattle.jv_rows.specs.Drafts.{drafted, cell}
 use Rattle.jv_rows.specs.Transactions.{Looks}
-use Rattle.jv_rows.proofs.TransactionLaws.{of_known}
 use Rattle.jv_volume.specs.TypedRows.{typed}
 use Rattle.jv_volume.specs.Views.{lists_of}
 use Rattle.jv_data.specs.declared.copying.CopyCourse.{CopyCourse}
 use Rattle.jv_data.specs.Copying.{ShowsRange, part_len, window_at, rows_added, CopiesPart, Copying, CopiesLists}
 use Rattle.jv_data.specs.Records.{HasRecords}
 use Rattle.jv_data.proofs.TruncateLaws.{looks-then}
+use Rattle.jv_model.proofs.TestLaws.{of_known}
 
 -- records that are allowed pass the test
 pub all_allowed : (list : List Rec) → AllByRecursion IsRecord list → list_all is_record list ≡ true

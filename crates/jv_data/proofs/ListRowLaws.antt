@@ -20,11 +20,7 @@ use Rattle.jv_volume.proofs.MapLaws.{get-alter-here, get-alter-apart}
 use Rattle.jv_volume.proofs.ShapeMapLaws.{same_or_apart}
 use Rattle.jv_contents.specs.Places.{with_list}
 use Rattle.jv_contents.specs.Counts.{record_count}
-
-sum-alter : {K X : Type 0} (order : KeyOrder K) (f : K → X → ℕ) (m : Map order X) (k : K) (x : Option X)
-    → sum_over f (alter m k x) + share f k (get m k) ≡ sum_over f m + share f k x
-sum-alter order f m k None = (let without = sum-remove order f m k in omega (arith, without))
-sum-alter order f m k (Some x) = sum-insert order f m k x
+use Rattle.jv_volume.proofs.ListSumLaws.{not_list, sum-list}
 
 -- a row of another table
 pub get-other : (rows : Rows) (key : RowKey) (cell : Option Cell) (k : RowKey) → (k.tab == key.tab) ≡ false → get (alter rows key cell) k ≡ get rows k
@@ -32,40 +28,6 @@ get-other rows key cell k other = get-alter-apart row_key rows key cell k
     (λ same. let both : true ≡ false = sym (eq-eqb k.tab key.tab (ap (λ (x : RowKey). x.tab) same)) ∙ other in absurd (cc))
 
 -- ---- numbers over all lists
-
-abbrev over_lists : (List Rec → ℕ) → RowKey → Cell → ℕ
-over_lists f key cell = f (listed key (Some cell))
-
-module _ (f : List Rec → ℕ) (nothing : f [] ≡ 0) where
-  share_is : (key : RowKey) (cell : Option Cell) → share (over_lists f) key cell ≡ f (listed key cell)
-  share_is key None = sym (ap f (by_table (key.tab == TABLE_OF_LISTS)) ∙ nothing)
-    where
-      by_table : (b : Bool) → (let l : List Rec = (if b then [] else []) in l) ≡ []
-      by_table true = refl
-      by_table false = refl
-  share_is key (Some cell) = refl
-
-  pub sum-list : (rows : Rows) (key : RowKey) (cell : Option Cell)
-      → sum_over (over_lists f) (alter rows key cell) + f (listed key (get rows key)) ≡ sum_over (over_lists f) rows + f (listed key cell)
-  sum-list rows key cell =
-      let all = sum-alter row_key (over_lists f) rows key cell in
-      let was = share_is key (get rows key) in
-      let is = share_is key cell in
-      omega (arith, all, was, is)
-
-  -- a list's number is at most that of all
-  pub share-sum : (rows : Rows) (key : RowKey) → f (listed key (get rows key)) ≤ sum_over (over_lists f) rows
-  share-sum rows key =
-      let all = sum-list rows key None in
-      let none = ap f (not_there (key.tab == TABLE_OF_LISTS)) ∙ nothing in
-      omega (arith, all, none)
-    where
-      not_there : (b : Bool) → (let l : List Rec = (if b then [] else []) in l) ≡ []
-      not_there true = refl
-      not_there false = refl
-
-not_list : (key : RowKey) (cell : Option Cell) → (key.tab == TABLE_OF_LISTS) ≡ false → listed key cell ≡ []
-not_list key cell other = ap (λ b. if b then records_in (row_in cell) else []) other
 
 -- another table's row changes neither
 pub named_by-other : (rows : Rows) (key : RowKey) (cell : Option Cell) → (key.tab == TABLE_OF_LISTS) ≡ false → (id : ℕ)

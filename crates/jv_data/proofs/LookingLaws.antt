@@ -24,8 +24,9 @@ use Rattle.jv_volume.proofs.StoredLaws.{found_node, no_node, whole-stored}
 use Rattle.jv_rows.specs.Drafts.{Sees, cell}
 use Rattle.jv_rows.specs.Transactions.{Looks}
 use Rattle.jv_rows.proofs.NeedingLaws.{session_is}
-use Rattle.jv_rows.proofs.TransactionLaws.{Past, if_known, past-start, past-as, past-calm, past-looks, past-fails, past-gives, past-refuses, fails-sees, stands-sees, as_stored, node-seen}
+use Rattle.jv_rows.proofs.TransactionLaws.{Past, past-start, past-as, past-calm, past-looks, past-fails, past-gives, past-refuses, fails-sees, stands-sees, as_stored, node-seen}
 use Rattle.jv_data.specs.Committing.{HasFile}
+use Rattle.jv_model.proofs.TestLaws.{if_some-by}
 
 -- what a look does once its session is there
 abbrev pub length_at : ℕ → Tree → Result ℕ Fault
@@ -78,7 +79,7 @@ module _ (before middle : Store) (sid inode : ℕ) where
             let has = found_node bytes (typed known) (whole-stored bytes (typed known) whole) inode node (stands (Some node) s known here) in
             ap (λ o. some_or o (Stale (GoneNode inode)) >>= (λ content. Ok content.length))
             (has.content ∙ ap (λ k. if k == 1 then Some (content_of node.length (bytes inode)) else None) file)));
-        stands = if_known (λ known. get (typed known) (node_key inode) ≡ Some (Ok (OfNode node))) after.rows (λ known is.
+        stands = if_some-by (λ known. get (typed known) (node_key inode) ≡ Some (Ok (OfNode node))) after.rows (λ known is.
             stands-sees OfNode is_node (node_key inode) [] middle after (as_stored (node_key inode) middle) (Some node) s known (sym s.rows_are ∙ is));
         file = file;
         allowed = s.allowed;

@@ -31,7 +31,8 @@ use Rattle.jv_contents.proofs.CutLaws.{all-append}
 use Rattle.jv_contents.proofs.WholeLaws.{all-mapped}
 use Rattle.jv_contents.proofs.PlaceLaws.{place_in-push, place_in-same}
 use Rattle.jv_contents.proofs.ByteLaws.{past-put_over}
-use Rattle.jv_data.proofs.ListRowLaws.{get-other, named_by-other, record_count-other, lists_of-other, listed-other, named_by-list, record_count-list, lists_of-list, lists_of-beside, listed-list, share-sum, lists-have}
+use Rattle.jv_data.proofs.ListRowLaws.{get-other, named_by-other, record_count-other, lists_of-other, listed-other, named_by-list, record_count-list, lists_of-list, lists_of-beside, listed-list, lists-have}
+use Rattle.jv_volume.proofs.ListSumLaws.{share-sum}
 
 -- ---- records that name a slice
 

@@ -30,7 +30,7 @@ use Rattle.jv_outside.specs.Store.{Store, Commits}
 use Rattle.jv_rows.specs.Appending.{Appends}
 use Rattle.jv_rows.specs.Drafts.{drafted, cell}
 use Rattle.jv_rows.specs.Transactions.{FaultCause, Agrees, Looks}
-use Rattle.jv_rows.proofs.TransactionLaws.{Fails, FailsBy, of_known, fails-memory, fails-commit}
+use Rattle.jv_rows.proofs.TransactionLaws.{Fails, FailsBy, fails-memory, fails-commit}
 use Rattle.jv_volume.specs.TypedRows.{Rows, typed}
 use Rattle.jv_volume.specs.Views.{row_in, node_in, node_row_at, slice_row_at, lists_of}
 use Rattle.jv_volume.specs.Whole.{Whole}
@@ -44,6 +44,7 @@ use Rattle.jv_data.proofs.CommitLaws.{RefusedBy, began, commit-unbegun, commit-r
 use Rattle.jv_data.proofs.RecordsLaws.{records-unread, records-seen_in}
 use Rattle.jv_data.proofs.RecordedLaws.{last, lives-last, rest-last, whole-last, others-last, size-last, tree-last}
 use Rattle.jv_data.proofs.RestLaws.{of_left}
+use Rattle.jv_model.proofs.TestLaws.{of_known}
 
 -- a reading, and then something that fails
 pub fails-after : {A : Type 0} (before middle after : Store) (x : A) (fault : TxFault) → (act : Tree → Result A Fault) → Looks before middle (Ok x) act

@@ -24,10 +24,11 @@ use Rattle.jv_rows.specs.Drafts.{Sees, cell, drafted}
 use Rattle.jv_rows.specs.Readings.{ReadsRow}
 use Rattle.jv_rows.specs.Tables.{list_row}
 use Rattle.jv_rows.proofs.DraftLaws.{sees_stored}
-use Rattle.jv_rows.proofs.TransactionLaws.{past-ends, if_known, fails-looks, fails-sees, stands-sees, drafted-none}
+use Rattle.jv_rows.proofs.TransactionLaws.{past-ends, fails-looks, fails-sees, stands-sees, drafted-none}
 use Rattle.jv_data.specs.Committing.{HasFile}
 use Rattle.jv_data.specs.Records.{HasRecords, LooksAt}
 use Rattle.jv_data.proofs.CommitLaws.{looks-any}
+use Rattle.jv_model.proofs.TestLaws.{if_some-by}
 
 -- the records that the grammar allows
 pub are_records : (records : List Rec) → IsTrue (list_all is_record records) → AllByRecursion IsRecord records
@@ -75,10 +76,10 @@ module _ (inode window : ℕ) (low : window < 2 ^ 32) (before after : Store) whe
         → HasRecords inode window before after (Ok records)
     records-found found records is s all = record {
       looks = record { rows_are = s.rows_are; opened_at = s.opened_at; counts = s.counts; agrees = λ known here whole bytes. refl; bad = tt };
-      list = if_known (λ known. records ≡ lists_of (typed known) inode window) before.rows (λ known here.
+      list = if_some-by (λ known. records ≡ lists_of (typed known) inode window) before.rows (λ known here.
           sym is ∙ lists_as (typed known) (cell OfList found) (stands-sees OfList is_list (list_key inode window) changes before after same found s known here));
       records = all;
-      formed = if_known (λ known. (bytes : List ℕ) → get (typed known) (list_key inode window) ≢ Some (Err bytes)) before.rows (λ known here.
+      formed = if_some-by (λ known. (bytes : List ℕ) → get (typed known) (list_key inode window) ≢ Some (Err bytes)) before.rows (λ known here.
           never_malformed (typed known) found (stands-sees OfList is_list (list_key inode window) changes before after same found s known here));
     }
 

@@ -23,7 +23,7 @@ use Rattle.jv_outside.specs.Store.{Store}
 use Rattle.jv_rows.specs.Drafts.{drafted, cell, Needs}
 use Rattle.jv_rows.specs.Walks.{HasNodeRow}
 use Rattle.jv_rows.proofs.NeedingLaws.{SettingNeeded, CountersNeeded, fails-needed, stands-needs}
-use Rattle.jv_rows.proofs.TransactionLaws.{Past, past-start, past-as, past-calm, past-fails, past-gives, past-refuses, fails-looks, drafted-none, of_known}
+use Rattle.jv_rows.proofs.TransactionLaws.{Past, past-start, past-as, past-calm, past-fails, past-gives, past-refuses, fails-looks, drafted-none}
 use Rattle.jv_volume.specs.TypedRows.{Rows, typed}
 use Rattle.jv_volume.specs.Views.{row_in, setting_in, setting_at, counters_in, counters_at, node_in, node_row_at}
 use Rattle.jv_volume.specs.Stored.{counters_row}
@@ -34,6 +34,7 @@ use Rattle.jv_volume.proofs.StoredLaws.{stored_counters, stored_setting}
 use Rattle.jv_data.specs.Resizing.{Resizes, ResizesFile, used_after, row_sized, rows_sized}
 use Rattle.jv_data.proofs.CountersLaws.{put_again, used-same, counters-same, fits-same, next-given}
 use Rattle.jv_data.proofs.SizedLaws.{fits-sized}
+use Rattle.jv_model.proofs.TestLaws.{of_known}
 
 -- setting, lists, slices and dead slices stay as they are where a file's row is put
 leave-node : (rows : Rows) (inode : ℕ) (node : NodeRow) (key : RowKey) → IsTrue ((key.tab == TABLE_OF_SETTING) || is_of_slices key.tab)

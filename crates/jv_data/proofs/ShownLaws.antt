@@ -22,7 +22,7 @@ use Rattle.jv_outside.specs.Store.{Store}
 use Rattle.jv_rows.specs.Drafts.{Sees}
 use Rattle.jv_rows.specs.Lists.{HasList}
 use Rattle.jv_rows.specs.Transactions.{Looks}
-use Rattle.jv_rows.proofs.TransactionLaws.{if_known, of_known, stands-sees, as_stored}
+use Rattle.jv_rows.proofs.TransactionLaws.{stands-sees, as_stored}
 use Rattle.jv_volume.specs.TypedRows.{Rows, typed}
 use Rattle.jv_volume.specs.Views.{lists_of}
 use Rattle.jv_volume.specs.Slices.{place_in}
@@ -36,6 +36,7 @@ use Rattle.jv_data.specs.Copying.{pieces_len, ArePieces, IsShown, ShowsRange}
 use Rattle.jv_data.specs.Records.{HasRecords}
 use Rattle.jv_data.specs.Truncating.{HasSlice, HaveSlices, ChecksSlices}
 use Rattle.jv_data.proofs.TruncateLaws.{looks-start, looks-calm, looks-then}
+use Rattle.jv_model.proofs.TestLaws.{if_some-by, of_known}
 
 -- ---- the records of pieces
 
@@ -153,7 +154,7 @@ cut-next from len done part cut short is less = elim (cases_lt 0 done) [
 
 module _ (inode window : ℕ) (low : window < 2 ^ 32) (before read : Store) (list : List Rec) (s : Sees OfList is_list (list_key inode window) [] before read (Ok (Some list))) where
   pub named-there : HasList read inode (window, list)
-  named-there = if_known (λ known. get (typed known) (list_key inode window) ≡ Some (Ok (OfList list))) read.rows (λ known is.
+  named-there = if_some-by (λ known. get (typed known) (list_key inode window) ≡ Some (Ok (OfList list))) read.rows (λ known is.
       stands-sees OfList is_list (list_key inode window) [] before read (as_stored (list_key inode window) before) (Some list) s known
       (sym s.rows_are ∙ is))
 

@@ -1,7 +1,7 @@
 -- A file of another length, with both times at a moment: what its row and the counters do to whole rows, and that their tree has the
 -- content that is put there.
 use Rattle.std.proofs.Common.{◌≡◌, ◌≢◌, ℕ, ◌+◌, ◌-◌, ◌≤◌, Bool, true, false, ◌&&◌, inl, inr, None, Some, Ok, refl, sym, ap, subst, ◌∙◌, arith, le-leb, ne_eqb}
-use Rattle.std.proofs.lemmas.Bool.{cases_eq}
+use Rattle.std.proofs.lemmas.Bool.{cases_eq, or_right}
 use Rattle.std.proofs.lemmas.Option.{same_Some}
 use Rattle.std.specs.Prelude.{◌==◌, ◌||◌, not, nat_lt, nat_le, IsTrue, if◌then◌else◌}
 use Rattle.std.specs.Option.{option_map}
@@ -253,12 +253,8 @@ module _ (rows : Rows) (inode : ℕ) (was : NodeRow) (c : Counters) (now length 
         && sum_fits (inode_limit before.setting) (used_inodes before) (used_inodes-with_content before now inode content i))
         ∙ same_inodes (sum_fits (space_limit setting) c.used_space space) (inode_limit before.setting) (used_inodes before)
       where
-        or_true : (b : Bool) → (b || true) ≡ true
-        or_true true = refl
-        or_true false = refl
-
         same_inodes : (b : Bool) (limit n : ℕ) → (b && sum_fits limit n n) ≡ b
-        same_inodes b limit n = ap (λ x. b && (nat_le n limit || x)) (le-leb n n (omega arith)) ∙ ap (λ x. b && x) (or_true (nat_le n limit)) ∙ and_true b
+        same_inodes b limit n = ap (λ x. b && (nat_le n limit || x)) (le-leb n n (omega arith)) ∙ ap (λ x. b && x) (or_right (nat_le n limit) true refl) ∙ and_true b
 
     -- the tree that is left is the model's
     pub tree-content : (changed : ℕ → ℕ → ℕ) → ((other : ℕ) → other ≢ inode → changed other ≡ bytes other)

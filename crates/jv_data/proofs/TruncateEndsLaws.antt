@@ -22,7 +22,7 @@ use Rattle.jv_model.specs.tree.Tree.{Tree, Content, content_at, fits}
 use Rattle.jv_outside.specs.Store.{Store, Commits}
 use Rattle.jv_model.specs.declared.basics.Who.{Who}
 use Rattle.jv_rows.specs.Transactions.{Agrees, IsFor}
-use Rattle.jv_rows.proofs.TransactionLaws.{Past, of_known, past-as, past-calm, past-ends, past-fails, past-looks, past-refuses, past-stops, fails-commit}
+use Rattle.jv_rows.proofs.TransactionLaws.{Past, past-as, past-calm, past-ends, past-fails, past-looks, past-refuses, past-stops, fails-commit}
 use Rattle.jv_data.specs.Resizing.{ResizesFile, AreSized}
 use Rattle.jv_data.specs.Truncating.{ListsCut, LeaveSlices, Cut, Kept, Shortens, list_after, CutsFile}
 use Rattle.jv_data.proofs.BeginningLaws.{content_found}
@@ -58,6 +58,7 @@ use Rattle.jv_volume.specs.TypedRows.{Rows, typed}
 use Rattle.jv_contents.specs.Bytes.{KnownBytes, spot_byte, bytes_of, tree_with}
 use Rattle.jv_data.specs.Changing.{Makes, DieUntil, AnyBytes, Never, Changed, Changes, may_change, KeepsRest}
 use Rattle.jv_data.specs.Committing.{HasFile}
+use Rattle.jv_model.proofs.TestLaws.{of_known}
 
 -- the model's truncate of a file that a session sees
 abbrev pub truncating : (sid now inode len : ℕ) → Tree → Result Outcome Fault

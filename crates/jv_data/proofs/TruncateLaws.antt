@@ -28,7 +28,7 @@ use Rattle.jv_rows.specs.Readings.{ReadsRow}
 use Rattle.jv_rows.specs.Tables.{slice_row}
 use Rattle.jv_rows.specs.Transactions.{Agrees, BadFault, Looks, IsBad, Malformed, NamesNone}
 use Rattle.jv_rows.proofs.DraftLaws.{sees_stored}
-use Rattle.jv_rows.proofs.TransactionLaws.{FailsBy, fails-memory, if_known, of_known, past-ends, fails-looks, fails-sees, stands-sees, as_stored}
+use Rattle.jv_rows.proofs.TransactionLaws.{FailsBy, fails-memory, past-ends, fails-looks, fails-sees, stands-sees, as_stored}
 use Rattle.jv_volume.specs.TypedRows.{Rows, typed}
 use Rattle.jv_volume.specs.Views.{row_in, records_in, lists_of, slice_in}
 use Rattle.jv_volume.specs.Slices.{listed, records_naming, count_in}
@@ -40,6 +40,7 @@ use Rattle.jv_contents.proofs.CutLaws.{all-push, all-append}
 use Rattle.jv_data.proofs.CutListsLaws.{get-ended}
 use Rattle.jv_data.proofs.DroppedLaws.{get-without}
 use Rattle.jv_data.specs.Truncating.{HasSlice, HaveSlices, records_of, Follow, ChecksSlice, ChecksSlices, Dropping, Dropped, DropsLists, IsLastBefore, LeaveSlices, SaysDue, EndsList, CutsLists}
+use Rattle.jv_model.proofs.TestLaws.{if_some-by, of_known}
 
 -- ---- readings of which the model sees nothing
 
@@ -305,11 +306,11 @@ module _ (gone : List Rec) (due : ℕ) (before after : Store) (changes changed :
   bad_by : (result : Result (Unit {0}) TxFault) → IfErr result (RefusesAdjust gone [] changes before.rows)
       → IfErr result (λ fault. IfSome before.rows (λ known. BadFault (typed known) fault))
   bad_by (Ok unit) h = tt
-  bad_by (Err (Refused fault)) h = if_known (λ known. BadFault (typed known) (Refused fault)) before.rows (λ known is. tt)
-  bad_by (Err (Moved list)) h = if_known (λ known. BadFault (typed known) (Moved list)) before.rows (λ known is. tt)
-  bad_by (Err (OfRows (Bad at bytes))) h = if_known (λ known. BadFault (typed known) (OfRows (Bad at bytes))) before.rows (λ known is. absurd (never_bad at bytes h known is))
-  bad_by (Err (OfRows Failed)) h = if_known (λ known. BadFault (typed known) (OfRows Failed)) before.rows (λ known is. tt)
-  bad_by (Err (OfRows Memory)) h = if_known (λ known. BadFault (typed known) (OfRows Memory)) before.rows (λ known is. tt)
+  bad_by (Err (Refused fault)) h = if_some-by (λ known. BadFault (typed known) (Refused fault)) before.rows (λ known is. tt)
+  bad_by (Err (Moved list)) h = if_some-by (λ known. BadFault (typed known) (Moved list)) before.rows (λ known is. tt)
+  bad_by (Err (OfRows (Bad at bytes))) h = if_some-by (λ known. BadFault (typed known) (OfRows (Bad at bytes))) before.rows (λ known is. absurd (never_bad at bytes h known is))
+  bad_by (Err (OfRows Failed)) h = if_some-by (λ known. BadFault (typed known) (OfRows Failed)) before.rows (λ known is. tt)
+  bad_by (Err (OfRows Memory)) h = if_some-by (λ known. BadFault (typed known) (OfRows Memory)) before.rows (λ known is. tt)
 
   pub adjust-looks : (result : Result (Unit {0}) TxFault) → Adjusts gone [] due before after changes changed result → Looks {A = Unit {0}} before after result (λ t. Ok tt)
   adjust-looks result a = record {

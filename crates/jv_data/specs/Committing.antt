@@ -18,16 +18,14 @@ use Rattle.jv_volume.specs.TypedRows.{Rows, typed}
 use Rattle.jv_volume.specs.Whole.{Whole}
 use Rattle.jv_data.specs.Resizing.{AreSized}
 use Rattle.jv_data.specs.Truncating.{LeaveSlices}
-
-abbrev pub length_in : Result Node TxFault → Result ℕ TxFault
-length_in (Ok node) = Ok node.length
-length_in (Err fault) = Err fault
+use Rattle.jv_model.specs.Optional.{mapped}
 
 -- A reading of a file's row: over whole rows it is the model's look, and the row, one that the
 -- grammar allows, stands there.
 pub record HasFile (sid inode : ℕ) (before after : Store)
     (result : Result Node TxFault) : Type 0 where
-  pub looks : Looks before after (length_in result) (length_seen sid inode)
+  pub looks : Looks before after (mapped (λ (node : Node). node.length) result)
+      (length_seen sid inode)
   pub stands : IfOk result (λ node. HasNodeRow after inode node)
   pub file : IfOk result (λ node. node.kind ≡ 1)
   pub allowed : IfOk result (λ node. IsTrue (is_node node))

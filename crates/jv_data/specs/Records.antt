@@ -29,6 +29,7 @@ use Rattle.jv_volume.specs.Whole.{Whole, no_bytes}
 use Rattle.jv_contents.specs.Bytes.{KnownBytes, spot_byte}
 use Rattle.jv_data.specs.declared.looking.View.{View}
 use Rattle.jv_data.specs.Changing.{Changes, Never}
+use Rattle.jv_model.specs.Optional.{mapped}
 
 -- no malformed row stands at a key, where rows are known
 abbrev pub IsWellFormed : RowKey → Option RowMap → Type 0
@@ -45,15 +46,12 @@ pub record HasRecords (inode window : ℕ) (before after : Store)
   pub records : IfOk result (AllByRecursion IsRecord)
   pub formed : OnOk result (IsWellFormed (list_key inode window) before.rows)
 
-abbrev pub length_viewed : Result View TxFault → Result ℕ TxFault
-length_viewed (Ok view) = Ok view.length
-length_viewed (Err fault) = Err fault
-
 -- A look at a window of a file: its length, and the window's records. A malformed row of the list
 -- is an error.
 pub record LooksAt (sid inode window : ℕ) (before after : Store)
     (result : Result View TxFault) : Type 0 where
-  pub looks : Looks before after (length_viewed result) (length_seen sid inode)
+  pub looks : Looks before after (mapped (λ (view : View). view.length) result)
+      (length_seen sid inode)
   pub list : IfOk result (λ view.
       IfSome before.rows (λ known. view.list ≡ lists_of (typed known) inode window))
   pub records : IfOk result (λ view. AllByRecursion IsRecord view.list)

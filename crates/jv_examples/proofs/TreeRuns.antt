@@ -17,6 +17,7 @@ use Rattle.jv_model.specs.tree.Sessions.{due_session, without_session}
 use Rattle.jv_model.specs.tree.TreeAct.{tree_act}
 use Rattle.jv_model.specs.script.ReplyText.{reply_text}
 use Rattle.jv_model.specs.script.Printed.{number_word}
+use Rattle.jv_model.specs.journal.State.{with_client}
 
 -- a client: its session, and the inodes of its handles from 1 on, 0 where a handle isn't in use
 pub record RunClient : Type 0 where
@@ -94,9 +95,6 @@ client_after ask (FileOpened handle inode) c = record c { files = with_inode (ha
 client_after (op.Close handle) Done c = record c { files = with_inode (handle - 1) 0 c.files }
 client_after op.Umount Done c = record { sid = 0; files = [] }
 client_after ask reply c = c
-
-abbrev pub with_client : (ℕ → RunClient) → ℕ → RunClient → ℕ → RunClient
-with_client clients client c = λ q. if q == client then c else clients q
 
 -- a state, and the text of an answer
 pub record Turn : Type 0 where

@@ -27,11 +27,6 @@ use Rattle.jv_fetching.specs.Calls.{AreSizedBy, CachedOf, FindsAll, HasBlock, Ha
 use Rattle.jv_fetching.specs.Calls.{Kept, LooksFor, LooksLast, Lost, cache_key}
 use Rattle.jv_fetching.specs.Inside.{FindsFew}
 
--- what holds anyway holds on an error
-pub on_err : {A E : Type 0} (result : Result A E) (P : Type 0) → P → OnErr result P
-on_err (Ok value) P p = tt
-on_err (Err fault) P p = p
-
 -- ---- what is found under a key
 
 abbrev Pairs : Type 0

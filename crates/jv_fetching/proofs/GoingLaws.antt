@@ -23,7 +23,6 @@ use Rattle.jv_fetching.specs.declared.need.Need.TheVariants.{Look, Block, Nothin
 use Rattle.jv_fetching.specs.Fetching.{Fetching, block_needed, blocks_in, fetch_left, next_of, weight}
 use Rattle.jv_fetching.specs.Shows.{shown_len}
 use Rattle.jv_fetching.specs.Going.{CanFetch, HasBegun, HasRead, IsBegunBy, IsFetching, IsShown}
-use Rattle.jv_model.proofs.TestLaws.{some_same}
 use Rattle.jv_fetching.specs.Calls.{Asks, CachedOf, FindsAll, HasBlock, HasCached, IsMissing, cache_key}
 use Rattle.jv_fetching.specs.Calls.{first_seen, first_unseen}
 use Rattle.jv_fetching.specs.Inside.{BeginsPart, HadBegun, BeginsNow, IsOver, LooksFirst, Ends, EndsPart, Fills, FillsBegun}
@@ -32,6 +31,7 @@ use Rattle.jv_fetching.specs.Inside.{IsFurther, Misses, Stops, Waits, Ended, end
 use Rattle.jv_fetching.proofs.CacheLaws.{few_none, few_then, finds_looks, finds_none, finds_one, finds_then, has_looks}
 use Rattle.jv_fetching.proofs.CacheLaws.{last_after, looks_keep, missing_before}
 use Rattle.jv_fetching.proofs.CacheLaws.{missing_before}
+use Rattle.std.proofs.lemmas.Option.{same_Some}
 
 -- ---- blocks of a part
 
@@ -73,7 +73,7 @@ next_less (x ∷ bs) b h = omega arith
 
 next_is : (bs : List BlockId) (b : BlockId) → slice_get bs 0 ≡ Some b → b ∷ drop 1 bs ≡ bs
 next_is [] b h = let never : ⊥ = cc in absurd never
-next_is (x ∷ bs) b h = ap (λ (first : BlockId). first ∷ bs) (sym (some_same x b h))
+next_is (x ∷ bs) b h = ap (λ (first : BlockId). first ∷ bs) (sym (same_Some x b h))
 
 further_fewer : (before after : Part) → IsFurther before after → length after.left ≤ length before.left
 further_fewer before after further =
@@ -569,7 +569,7 @@ module _ (cache later : Cached) (before middle : Fetching) where
           → EndsPart (waiting from.begun from.part before) after
           → GoesOn from.begun cache later (record before { begun = None }) after None
       ended_on after from now =
-          let same = some_same (record from.begun { part = from.part }) now.begun now.was in
+          let same = same_Some (record from.begun { part = from.part }) now.begun now.was in
           Ended from.part from.fills.0 from.fills.1 now.bytes
           (subst (λ (begun : Begun). (known_bytes : KnownBytes) → ReadsAs known_bytes begun.part
           → now.bytes ≡ bytes_from (window_byte known_bytes begun.part.list) begun.part.from (begun.part.to - begun.part.from))

@@ -10,18 +10,9 @@ use Rattle.jv_model.specs.declared.op.Op.TheVariants.{Mount, Read, Write, Flush}
 use Rattle.jv_generator.specs.declared.accesses.TheConstants.{FILES, ACCESSES, LINES, READ_EVERY, POSITIONS, MAX_LENGTH}
 use Rattle.jv_generator.specs.Script.{next_state, state, create, access, operations, on_client, script}
 use Rattle.jv_generator.specs.Laws.{IsAccess, IsAccessOp, AccessesFit}
+use Rattle.jv_model.proofs.ListLaws.{get_front, get_behind}
 
 -- ==== lists ====
-
-get_left : {X : Type 0} → (xs ys : List X) (i : ℕ) → i < length xs → slice_get (xs ++ ys) i ≡ slice_get xs i
-get_left [] ys i h = absurd (omega arith)
-get_left (x ∷ xs) ys zero h = refl
-get_left (x ∷ xs) ys (suc i) h = get_left xs ys i (omega arith)
-
-get_right : {X : Type 0} → (xs ys : List X) (i j : ℕ) → i ≡ length xs + j → slice_get (xs ++ ys) i ≡ slice_get ys j
-get_right [] ys i j h = let e : i ≡ j = omega arith in ap (λ k. slice_get ys k) e
-get_right (x ∷ xs) ys zero j h = absurd (omega arith)
-get_right (x ∷ xs) ys (suc i) j h = get_right xs ys i j (omega arith)
 
 -- the values of a function at numbers in a row
 get_drawn : (f : ℕ → Op) (a n i j : ℕ) → i < n → a + i ≡ j → slice_get (map f (range_with_len a n)) i ≡ Some (f j)
@@ -44,8 +35,8 @@ operation-create files accesses seed i h =
     let size : length creates ≡ files = length-map-range_with_len create 0 files in
     let front : suc i < length (Mount false ∷ creates) = omega (arith, size) in
     let middle : suc i < length ((Mount false ∷ creates) ++ touches) = omega (arith, front, length-append (Mount false ∷ creates) touches) in
-    get_left ((Mount false ∷ creates) ++ touches) flushes (suc i) middle
-    ∙ get_left (Mount false ∷ creates) touches (suc i) front
+    get_front ((Mount false ∷ creates) ++ touches) flushes (suc i) middle
+    ∙ get_front (Mount false ∷ creates) touches (suc i) front
     ∙ get_drawn create 0 files i i h (omega arith)
 
 operation-access : (files accesses seed k : ℕ) → 0 < k → k ≤ accesses
@@ -61,8 +52,8 @@ operation-access files accesses seed k low high =
     let touched : length touches ≡ accesses = length-map-range_with_len touch 1 accesses in
     let middle : files + k < length ((Mount false ∷ creates) ++ touches)
     = omega (arith, front, touched, length-append (Mount false ∷ creates) touches) in
-    get_left ((Mount false ∷ creates) ++ touches) flushes (files + k) middle
-    ∙ get_right (Mount false ∷ creates) touches (files + k) (k - 1) (omega (arith, front))
+    get_front ((Mount false ∷ creates) ++ touches) flushes (files + k) middle
+    ∙ get_behind (Mount false ∷ creates) touches (files + k) (k - 1) (omega (arith, front))
     ∙ get_drawn touch 1 accesses (k - 1) k (omega arith) (omega arith)
 
 operation-flush : (files accesses seed handle : ℕ) → 0 < handle → handle ≤ files
@@ -79,7 +70,7 @@ operation-flush files accesses seed handle low high =
     let touched : length touches ≡ accesses = length-map-range_with_len touch 1 accesses in
     let middle : length ((Mount false ∷ creates) ++ touches) ≡ suc files + accesses
     = omega (arith, front, touched, length-append (Mount false ∷ creates) touches) in
-    get_right ((Mount false ∷ creates) ++ touches) flushes (files + accesses + handle) (handle - 1) (omega (arith, middle))
+    get_behind ((Mount false ∷ creates) ++ touches) flushes (files + accesses + handle) (handle - 1) (omega (arith, middle))
     ∙ get_drawn flush 1 files (handle - 1) handle (omega arith) (omega arith)
 
 length-operations : (files accesses seed : ℕ) → length (operations files accesses seed) ≡ 1 + files + accesses + files

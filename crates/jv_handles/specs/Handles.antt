@@ -4,20 +4,19 @@ use Rattle.jv_model.specs.client.ModelClient.{file_of}
 use Rattle.jv_handles.specs.declared.handle.Handle.{Handle}
 use Rattle.jv_handles.specs.declared.views.View.{View}
 use Rattle.jv_handles.specs.Views.{no_views, with_view, without_view}
+use Rattle.jv_model.specs.Lists.{numbers_of}
+use Rattle.std.specs.Option.{option_map_or}
 
 -- the inode of a handle's file, 0 where it isn't open
 abbrev pub inode_of_handle : Option Handle → ℕ
-inode_of_handle None = 0
-inode_of_handle (Some handle) = handle.inode
+inode_of_handle handle = option_map_or (λ (handle : Handle). handle.inode) handle 0
 
 abbrev pub inode_here : List (Option Handle) → ℕ → ℕ
 inode_here handles handle = inode_of_handle (file_of handles handle)
 
 -- the inodes of all open files
 abbrev pub held_here : List (Option Handle) → List ℕ
-held_here [] = []
-held_here (None ∷ handles) = held_here handles
-held_here (Some handle ∷ handles) = handle.inode ∷ held_here handles
+held_here handles = numbers_of (λ (handle : Handle). handle.inode) handles
 
 -- a handle that was just opened, by the journal entry with this number
 abbrev pub new_handle : ℕ → ℕ → Handle

@@ -22,17 +22,9 @@ use Rattle.jv_model.specs.journal.Past.{Setup, Past, Due, NoMore, Refusal, MayLa
 use Rattle.jv_model.specs.journal.Legal.{Allowed, AllAllowed, IsRefusal, IsPublish, IsPublishOf, Drains, OfClient, OfLine, OfWorker}
 use Rattle.jv_model.specs.journal.Looks.{entry_at}
 use Rattle.jv_laws.proofs.JournalGrowthLaws.{past-append, advanced, begun_frame, after_line_begin_next}
+use Rattle.jv_model.proofs.ListLaws.{get_front, get_end}
 
 -- entries by their numbers
-
-get_before : (xs ys : List Act) (i : ℕ) → i < length xs → slice_get (xs ++ ys) i ≡ slice_get xs i
-get_before [] ys i h = absurd (omega arith)
-get_before (x ∷ xs) ys zero h = refl
-get_before (x ∷ xs) ys (suc i) h = get_before xs ys i (omega arith)
-
-get_last : (xs : List Act) (y : Act) → slice_get (xs ++ y ∷ []) (length xs) ≡ Some y
-get_last [] y = refl
-get_last (x ∷ xs) y = get_last xs y
 
 get_within : (xs : List Act) (i : ℕ) (P : Act → Type 0) → IsSomeAnd (slice_get xs i) P → i < length xs
 get_within [] i P h = absurd h
@@ -41,10 +33,10 @@ get_within (x ∷ xs) (suc i) P h = let rest = get_within xs i P h in omega (ari
 
 pub entry_before : (xs : List Act) (y : Act) (n : ℕ) → n ≤ length xs → entry_at (xs ++ y ∷ []) n ≡ entry_at xs n
 entry_before xs y zero h = refl
-entry_before xs y (suc i) h = get_before xs (y ∷ []) i (omega arith)
+entry_before xs y (suc i) h = get_front xs (y ∷ []) i (omega arith)
 
 pub entry_last : (xs : List Act) (y : Act) → entry_at (xs ++ y ∷ []) (length xs + 1) ≡ Some y
-entry_last xs y = let e : length xs + 1 ≡ suc (length xs) = omega arith in ap (entry_at (xs ++ y ∷ [])) e ∙ get_last xs y
+entry_last xs y = let e : length xs + 1 ≡ suc (length xs) = omega arith in ap (entry_at (xs ++ y ∷ [])) e ∙ get_end xs y
 
 pub entry_past : (xs : List Act) (n : ℕ) → length xs < n → entry_at xs n ≡ None
 entry_past xs zero h = refl

@@ -30,10 +30,11 @@ use Rattle.jv_volume.proofs.ClimbLaws.{Avoids, dir_parent, avoids_outside, outsi
 use Rattle.jv_volume.proofs.CountLaws.{short_way, used_below}
 use Rattle.jv_volume.proofs.ShapeMapLaws.{is_directory-form, form-parent}
 use Rattle.jv_volume.proofs.StoredLaws.{HasNode, found_counters, whole-shape, whole-stored}
-use Rattle.jv_volume.proofs.WalkShapeLaws.{parent_directory, same_Ok}
+use Rattle.jv_volume.proofs.WalkShapeLaws.{parent_directory}
 use Rattle.jv_links.specs.Climbs.{IsNear, StandsNear}
 use Rattle.jv_links.specs.Moves.{StandsDirectory}
 use Rattle.jv_links.proofs.RenameAnswerLaws.{has_node}
+use Rattle.jv_model.proofs.TestLaws.{same_Ok}
 
 module _ (t : Tree) (dir parent inode : ℕ) (whole : WholeShape (shape_of t)) (is : (shape_of t).form dir ≡ Dir parent)
     (within : IsTrue (is_dir ((shape_of t).form parent)))

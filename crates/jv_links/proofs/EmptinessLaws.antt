@@ -17,7 +17,7 @@ use Rattle.jv_outside.specs.Rows.{rows_after}
 use Rattle.jv_outside.specs.Store.{Store}
 use Rattle.jv_rows.specs.Scans.{rows_read, ScansRows}
 use Rattle.jv_rows.specs.Transactions.{Looks}
-use Rattle.jv_rows.proofs.TransactionLaws.{of_known, fails-looks, looks-exit}
+use Rattle.jv_rows.proofs.TransactionLaws.{fails-looks, looks-exit}
 use Rattle.jv_volume.specs.TypedRows.{typed}
 use Rattle.jv_volume.specs.TreeOf.{tree_of}
 use Rattle.jv_tree.proofs.DirectoryLaws.{entries_from, edges_after}
@@ -25,6 +25,7 @@ use Rattle.jv_tree.proofs.EdgeOrderLaws.{chain-behind}
 use Rattle.jv_tree.proofs.PageLaws.{has_some, first-of-page, none-of-page}
 use Rattle.jv_rows.proofs.ScannedLaws.{fails-scan}
 use Rattle.jv_tree.proofs.EntryReadLaws.{entries-known}
+use Rattle.jv_model.proofs.TestLaws.{of_known}
 
 kept_by : (test : EntryKey → ℕ → Bool) (e : EntryKey × ℕ) (es : List (EntryKey × ℕ)) (b : Bool)
     → is_some (first_passing test es) ≡ has_some

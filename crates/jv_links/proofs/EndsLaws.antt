@@ -32,11 +32,12 @@ use Rattle.jv_volume.specs.TreeOf.{tree_of}
 use Rattle.jv_volume.specs.Shape.{WholeShape, is_top, shape_of}
 use Rattle.jv_volume.specs.Whole.{Whole}
 use Rattle.jv_volume.proofs.StoredLaws.{whole-shape}
-use Rattle.jv_volume.proofs.WalkShapeLaws.{went_on, required, was_some, entry_within, same_Ok}
+use Rattle.jv_volume.proofs.WalkShapeLaws.{went_on, required, was_some, entry_within}
 use Rattle.jv_volume.proofs.EntryNameLaws.{entry_of-name}
 use Rattle.jv_links.specs.Removals.{has_no_zero}
 use Rattle.jv_links.specs.Moves.{Move, IsMove, place_of, move_asked, FindsEnds}
 use Rattle.jv_rows.proofs.NeedingLaws.{session_is}
+use Rattle.jv_model.proofs.TestLaws.{same_Ok}
 
 -- ---- rows that stay
 

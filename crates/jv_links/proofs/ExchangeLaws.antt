@@ -33,13 +33,14 @@ use Rattle.jv_volume.specs.TypedRows.{typed, is_entry_name}
 use Rattle.jv_volume.specs.TreeOf.{tree_of}
 use Rattle.jv_volume.proofs.MoveLaws.{whole-exchanged}
 use Rattle.jv_volume.proofs.StoredLaws.{whole-shape, whole-stored}
-use Rattle.jv_volume.proofs.WalkShapeLaws.{went_on, same_Ok}
+use Rattle.jv_volume.proofs.WalkShapeLaws.{went_on}
 use Rattle.jv_links.specs.declared.ends.Ends.{Ends}
 use Rattle.jv_links.specs.declared.fates.Removed.{Removed}
 use Rattle.jv_links.specs.Exchanges.{MayExchange, exchanged_within}
 use Rattle.jv_links.specs.Moves.{EndsStand, IsOverMove, Renames, Stands, place_of}
 use Rattle.jv_links.proofs.FreeMoveLaws.{move_in-sustained, renames-refused, tested_by, refused_by, within-sustained}
 use Rattle.jv_links.proofs.RenameAnswerLaws.{has_node, links_low, says_none}
+use Rattle.jv_model.proofs.TestLaws.{same_Ok}
 
 -- an exchange keeps what sessions keep
 exchanged-sustained : (t : Tree) (now : ℕ) (from : EntryKey) (source : ℕ) (to : EntryKey) (other : ℕ)

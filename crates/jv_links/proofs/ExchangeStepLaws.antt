@@ -23,11 +23,12 @@ use Rattle.jv_volume.proofs.ClimbLaws.{avoids_outside}
 use Rattle.jv_volume.proofs.LinkLaws.{dirs_of, dirs-shape, link_share, share-leaf, share-dir, standing_apart}
 use Rattle.jv_volume.proofs.LinkLaws.{is_directory-take_entry, is_directory-move_in, link_count-move_in, link_count-put_entry, link_count-take_entry}
 use Rattle.jv_volume.proofs.ShapeMapLaws.{naming_same, naming_apart, get-insert_apart, get-removed, get-remove_apart, is_directory-form, is_there-form}
-use Rattle.jv_volume.proofs.WalkShapeLaws.{went_on, same_Ok}
+use Rattle.jv_volume.proofs.WalkShapeLaws.{went_on}
 use Rattle.jv_links.specs.Exchanges.{MayExchange, entry_moved, exchanged_within}
 use Rattle.jv_links.proofs.ExchangeTreeLaws.{there-change_node, exchanged-taken}
 use Rattle.jv_links.proofs.MoveEntryLaws.{apart_first, entry_apart, required_then}
 use Rattle.jv_changes.proofs.StepLaws.{drafting-as, drafting-ready, then-stops, then-on}
+use Rattle.jv_model.proofs.TestLaws.{same_Ok}
 
 -- ---- what an entry adds to a link count
 

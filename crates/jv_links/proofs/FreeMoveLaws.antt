@@ -30,11 +30,12 @@ use Rattle.jv_volume.specs.TreeOf.{tree_of}
 use Rattle.jv_volume.proofs.ChangeLaws.{change_node-sustained}
 use Rattle.jv_volume.proofs.MoveLaws.{whole-moved_free}
 use Rattle.jv_volume.proofs.StoredLaws.{whole-shape}
-use Rattle.jv_volume.proofs.WalkShapeLaws.{went_on, same_Ok}
+use Rattle.jv_volume.proofs.WalkShapeLaws.{went_on}
 use Rattle.jv_links.specs.declared.ends.Ends.{Ends}
 use Rattle.jv_links.specs.declared.fates.Removed.{Removed}
 use Rattle.jv_links.specs.Moves.{EndsStand, IsFreeMove, MayMove, Renames, place_of, moved_within}
 use Rattle.jv_links.proofs.RenameAnswerLaws.{has_node, links_low, says_none}
+use Rattle.jv_model.proofs.TestLaws.{same_Ok, same_fault}
 
 -- what may be renamed by any kind may go
 pub leaves_by : (how : How) (place : EntryKey) → may_leave how place ≡ true → may_go place ≡ true
@@ -73,10 +74,7 @@ tested_by false left after h = absurd cc
 pub refused_by : (b : Bool) (left : Tree) (fault : Fault) → (require b NoSpace >>= (λ _. Ok left)) ≡ Err fault
     → (require b NoSpace >>= (λ _. done left)) ≡ Err fault
 refused_by true left fault h = absurd cc
-refused_by false left fault h = same (NoSpace) fault h
-  where
-    same : (f g : Fault) → ◌≡◌ {A = Result Tree Fault} (Err f) (Err g) → ◌≡◌ {A = Result Outcome Fault} (Err f) (Err g)
-    same f g e = cc
+refused_by false left fault h = same_fault NoSpace fault h
 
 -- an answer within links keeps what its tree keeps
 pub within-sustained : (from to : EntryKey) (t after : Tree) (d : Outcome) → after.sustained ≡ t.sustained

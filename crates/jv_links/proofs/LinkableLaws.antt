@@ -30,8 +30,9 @@ use Rattle.jv_volume.specs.TreeOf.{tree_of}
 use Rattle.jv_volume.specs.Whole.{Whole}
 use Rattle.jv_volume.proofs.ShapeMapLaws.{first_where-none, only_one, is_directory-form, there_of_dir}
 use Rattle.jv_volume.proofs.StoredLaws.{whole-shape}
-use Rattle.jv_volume.proofs.WalkShapeLaws.{went_on, required, was_some, same_Ok, root_directory, trash_directory, parent_directory, of_length, of_dir, above, of_name}
+use Rattle.jv_volume.proofs.WalkShapeLaws.{went_on, required, was_some, root_directory, trash_directory, parent_directory, of_length, of_dir, above, of_name}
 use Rattle.jv_links.specs.Linkable.{linkable}
+use Rattle.jv_model.proofs.TestLaws.{same_Ok}
 
 -- ---- the last step of a walk
 

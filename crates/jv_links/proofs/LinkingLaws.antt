@@ -34,7 +34,7 @@ use Rattle.jv_volume.proofs.LinkLaws.{link_count-put_entry-leaf, same_links}
 use Rattle.jv_volume.proofs.SameShapeLaws.{shape-status_changed}
 use Rattle.jv_volume.proofs.ShapeMapLaws.{naming_apart, is_there-form, shape-put_entry}
 use Rattle.jv_volume.proofs.StoredLaws.{whole-shape}
-use Rattle.jv_volume.proofs.WalkShapeLaws.{went_on, required, same_Ok, path_named}
+use Rattle.jv_volume.proofs.WalkShapeLaws.{went_on, required, path_named}
 use Rattle.jv_changes.specs.Drafting.{Drafting}
 use Rattle.jv_changes.specs.Ready.{MayStandAt, IsThere, entry_put}
 use Rattle.jv_changes.proofs.DraftingLaws.{PastSteps, OfWhole, steps-start, steps-on, steps-made, steps-stop, steps-fail, steps-commit, transacts-error}
@@ -42,6 +42,7 @@ use Rattle.jv_tree.specs.Entering.{new_pair, place_of, IsFreePlace}
 use Rattle.jv_tree.proofs.MakeLaws.{by_pair, free_place}
 use Rattle.jv_links.specs.Linkable.{linkable}
 use Rattle.jv_links.specs.Removals.{has_no_zero}
+use Rattle.jv_model.proofs.TestLaws.{same_Ok, same_fault}
 
 -- ---- the operation by its parts
 
@@ -152,12 +153,7 @@ module _ (t : Tree) (w : WholeShape (shape_of t)) (now : ℕ) (place : EntryKey)
       by_test true e h = absurd (cc)
       by_test false e h =
           ap (λ b. require b NoSpace >>= (λ _. done (linked t now place inode))) (sym node_fits ∙ e)
-          ∙ as_outcome NoSpace refused h
-        where
-          as_outcome : (x y : Fault) → ◌≡◌ {A = Result Tree Fault} (Err x) (Err y)
-              → ◌≡◌ {A = Result Outcome Fault} (Err x) (Err y)
-          as_outcome x y e = (let same : x ≡ y = cc in
-              ap (λ z. (let answer : Result Outcome Fault = Err z in answer)) same)
+          ∙ same_fault NoSpace refused h
 
   -- an entry that came
   put_made : (left : Tree) → entry_put now place inode t ≡ Ok left

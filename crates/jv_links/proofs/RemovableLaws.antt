@@ -21,9 +21,10 @@ use Rattle.jv_rows.proofs.TransactionLaws.{Past, past-start, past-as, past-looks
 use Rattle.jv_tree.proofs.MakeLaws.{by_pair}
 use Rattle.jv_volume.specs.TypedRows.{typed}
 use Rattle.jv_volume.specs.TreeOf.{tree_of}
-use Rattle.jv_volume.proofs.WalkShapeLaws.{went_on, required, was_some, same_Ok, entry_within}
+use Rattle.jv_volume.proofs.WalkShapeLaws.{went_on, required, was_some, entry_within}
 use Rattle.jv_links.specs.Removable.{removable_at, ComesToRemovable}
 use Rattle.jv_model.specs.tree.Caller.{session_there}
+use Rattle.jv_model.proofs.TestLaws.{same_Ok}
 
 -- the entry of a place, with its inode
 abbrev named_at : Tree → EntryKey → Result (EntryKey × ℕ) Fault

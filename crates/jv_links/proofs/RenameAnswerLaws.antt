@@ -18,7 +18,7 @@ use Rattle.jv_outside.specs.Store.{Store}
 use Rattle.jv_rows.specs.declared.walking.Place.{Place}
 use Rattle.jv_rows.specs.Transactions.{BadFault, TransactionCounts}
 use Rattle.jv_rows.specs.Walks.{HasNodeRow}
-use Rattle.jv_rows.proofs.TransactionLaws.{Past, of_known}
+use Rattle.jv_rows.proofs.TransactionLaws.{Past}
 use Rattle.jv_tree.proofs.MakeLaws.{lands_past, undone_past}
 use Rattle.jv_volume.specs.TypedRows.{typed}
 use Rattle.jv_volume.specs.TreeOf.{tree_of}
@@ -28,6 +28,7 @@ use Rattle.jv_volume.proofs.StoredLaws.{HasNode, found_node, whole-stored}
 use Rattle.jv_links.specs.declared.fates.Removed.{Removed}
 use Rattle.jv_links.specs.Removals.{SaysSustained, is_inode, kept_of, renamed_in}
 use Rattle.jv_links.specs.Moves.{Renames}
+use Rattle.jv_model.proofs.TestLaws.{of_known}
 
 -- ---- a row that was read
 

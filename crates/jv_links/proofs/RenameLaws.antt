@@ -21,13 +21,13 @@ use Rattle.jv_volume.specs.TypedRows.{typed}
 use Rattle.jv_volume.specs.TreeOf.{tree_of}
 use Rattle.jv_volume.specs.Whole.{Whole}
 use Rattle.jv_volume.proofs.StoredLaws.{whole-shape}
-use Rattle.jv_volume.proofs.WalkShapeLaws.{same_Ok}
 use Rattle.jv_links.specs.declared.ends.Ends.{Ends}
 use Rattle.jv_links.specs.declared.fates.Removed.{Removed}
 use Rattle.jv_links.specs.Removals.{HoldsFiles, has_no_zero}
 use Rattle.jv_links.specs.Moves.{Move, FindsEnds, FindsEntry, IsMove, IsFreeMove, IsOverMove, Renames, move_asked, move_of, place_of, renamed_with}
 use Rattle.jv_links.proofs.EndsLaws.{rename-is, is_move}
 use Rattle.jv_links.proofs.RenameAnswerLaws.{renames-past, says_none}
+use Rattle.jv_model.proofs.TestLaws.{same_Ok}
 
 -- ---- entries that name one inode
 

@@ -24,6 +24,7 @@ use Rattle.jv_volume.specs.TypedRows.{is_entry_name}
 use Rattle.jv_links.specs.declared.ends.Ends.{Ends}
 use Rattle.jv_links.specs.declared.fates.Removed.{Removed}
 use Rattle.jv_links.specs.Removals.{HoldsFiles, SaysSustained, renamed_in}
+use Rattle.jv_model.specs.Optional.{mapped}
 
 -- an inode that is to be moved from one entry to another
 pub record Move : Type 0 where
@@ -34,10 +35,6 @@ pub record Move : Type 0 where
 abbrev pub move_of : Ends → Move
 move_of ends =
     record { from = place_of ends.from; source = ends.source.inode; to = place_of ends.to }
-
-abbrev pub move_found : Result Ends TxFault → Result Move TxFault
-move_found (Ok ends) = Ok (move_of ends)
-move_found (Err fault) = Err fault
 
 -- what a rename asks before it looks at its target
 abbrev pub move_asked : Tree → ℕ → List ℕ → List ℕ → How → Result Move Fault
@@ -72,7 +69,7 @@ pub record EndsStand (store : Store) (ends : Ends) : Type 0 where
 pub record FindsEnds (before after : Store) (result : Result Ends TxFault)
     (finds : Tree → Result Move Fault) : Type 0
   where
-    pub looks : Looks before after (move_found result) finds
+    pub looks : Looks before after (mapped move_of result) finds
     pub stand : IfOk result (EndsStand after)
 
 -- what a tree was found to be for a rename of a kind

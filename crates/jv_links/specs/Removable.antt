@@ -13,6 +13,7 @@ use Rattle.jv_rows.specs.Transactions.{Looks}
 use Rattle.jv_rows.specs.Walks.{HasNodeRow}
 use Rattle.jv_links.specs.declared.removing.Removable.{Removable}
 use Rattle.jv_model.specs.tree.Caller.{session_there}
+use Rattle.jv_model.specs.Optional.{mapped}
 
 -- where an entry stands, and the inode that it names
 abbrev pub removable_at : Tree → ℕ → List ℕ → Result (EntryKey × ℕ) Fault
@@ -27,13 +28,13 @@ removable_at t sid path = do
 abbrev pub removable_place : Removable → EntryKey
 removable_place entry = record { dir = entry.dir; name = entry.name }
 
-abbrev pub removable_in : Result Removable TxFault → Result (EntryKey × ℕ) TxFault
-removable_in (Ok entry) = Ok (removable_place entry, entry.node.inode)
-removable_in (Err fault) = Err fault
+-- the place of what was found, and its inode
+abbrev pub place_and_inode : Removable → EntryKey × ℕ
+place_and_inode entry = (removable_place entry, entry.node.inode)
 
 -- Readings that reach an entry and its node: over whole rows they are the model's, and the node's
 -- row, one that the grammar allows, stands there.
 pub record ComesToRemovable (before after : Store) (result : Result Removable TxFault) (finds : Tree
     → Result (EntryKey × ℕ) Fault) : Type 0 where
-  pub looks : Looks before after (removable_in result) finds
+  pub looks : Looks before after (mapped place_and_inode result) finds
   pub stands : IfOk result (λ entry. HasNodeRow after entry.node.inode entry.node.node)

@@ -1,5 +1,5 @@
 //! Entries that change places.
-ghost use Rattle.std.specs.Prelude.{◌≡◌, ◌≢◌};
+ghost use Rattle.std.specs.Prelude.{◌≢◌};
 ghost use Rattle.jv_changes.specs.Drafting.{Drafting};
 ghost use Rattle.jv_changes.specs.Ready.{MayStandAt};
 ghost use Rattle.jv_links.specs.Exchanges.{MayExchange, entry_moved, exchanged_within};

@@ -1,5 +1,4 @@
 //! Entries that move to a free place.
-ghost use Rattle.std.specs.Prelude.{◌≡◌};
 ghost use Rattle.jv_changes.specs.Drafting.{Drafting};
 ghost use Rattle.jv_links.specs.Moves.{EndsStand, IsFreeMove, MayMove, Renames, moved_within, place_of};
 ghost use Rattle.jv_model.specs.declared.basics.How.{How};

@@ -1,5 +1,4 @@
 //! Entries removed, by POSIX.1-2017's "unlinkat" and "rmdir".
-ghost use Rattle.std.specs.Prelude.{◌≡◌, IsTrue};
 ghost use Rattle.jv_links.specs.Removable.{ComesToRemovable, removable_at};
 ghost use Rattle.jv_links.specs.Removals.{HoldsFiles, SaysSustained, removed_in};
 ghost use Rattle.jv_model.specs.declared.op.Reply.TheVariants.{Done};

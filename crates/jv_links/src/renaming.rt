@@ -1,5 +1,5 @@
 //! Entries renamed, by POSIX.1-2017's "renameat" and Linux's "renameat2".
-ghost use Rattle.std.specs.Prelude.{◌≡◌, IsTrue, None, Some};
+ghost use Rattle.std.specs.Prelude.{IsTrue, None, Some};
 ghost use Rattle.jv_links.specs.Moves.{EndsStand, IsFreeMove, IsOverMove, Renames, Stands, place_of, renamed_with};
 ghost use Rattle.jv_links.specs.Removals.{HoldsFiles, SaysSustained, has_no_zero, renamed_in};
 ghost use Rattle.jv_model.specs.declared.op.Reply.TheVariants.{Done};

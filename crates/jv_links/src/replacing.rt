@@ -1,5 +1,5 @@
 //! Entries that are replaced by another one.
-ghost use Rattle.std.specs.Prelude.{◌≡◌, ◌≢◌, ◌==◌, Ok};
+ghost use Rattle.std.specs.Prelude.{◌≢◌, ◌==◌, Ok};
 ghost use Rattle.jv_changes.specs.Drafting.{Drafting};
 ghost use Rattle.jv_links.specs.Moves.{EndsStand, IsOverMove, Renames, Stands, place_of};
 ghost use Rattle.jv_links.specs.Replacements.{MayClear, SaysCleared, may_replace as asked};

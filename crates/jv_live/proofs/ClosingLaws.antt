@@ -23,7 +23,7 @@ use Rattle.jv_outside.specs.declared.batch.Change.{Change}
 use Rattle.jv_outside.specs.Store.{Store, Commits}
 use Rattle.jv_rows.specs.Transactions.{IsFor, Looks, Transacts, Always}
 use Rattle.jv_rows.proofs.NeedingLaws.{session_is}
-use Rattle.jv_rows.proofs.TransactionLaws.{of_known, Past, past-start, past-as, past-calm, past-looks, past-stops, transacts-refused, fails-commit}
+use Rattle.jv_rows.proofs.TransactionLaws.{Past, past-start, past-as, past-calm, past-looks, past-stops, transacts-refused, fails-commit}
 use Rattle.jv_volume.specs.TypedRows.{Rows, typed}
 use Rattle.jv_volume.specs.TreeOf.{tree_of}
 use Rattle.jv_volume.specs.Shape.{WholeShape, shape_of}
@@ -39,6 +39,7 @@ use Rattle.jv_changes.proofs.DraftingLaws.{PastSteps, steps-on, steps-stop, step
 use Rattle.jv_live.specs.Steps.{letting_go, ending_session, is_past, is_ahead, KeepsNone, FindsKept}
 use Rattle.jv_live.proofs.SessionLaws.{fresh-steps, not_made, steps-fell}
 use Rattle.jv_live.proofs.KeptLaws.{kept-may_go, pair-kept}
+use Rattle.jv_model.proofs.TestLaws.{of_known}
 
 -- ---- the tree
 

@@ -25,7 +25,7 @@ use Rattle.jv_model.specs.tree.Caller.{Caller, Outcome, done}
 use Rattle.jv_model.specs.tree.Changes.{drop_node}
 use Rattle.jv_model.specs.tree.Sessions.{release, released}
 use Rattle.jv_model.specs.tree.Tree.{Tree, node_at, is_counted, is_sustained}
-use Rattle.jv_model.proofs.TestLaws.{none_if}
+use Rattle.jv_model.proofs.TestLaws.{none_if, if_some-by, of_known}
 use Rattle.jv_outside.specs.declared.batch.Change.{Change}
 use Rattle.jv_outside.specs.Store.{Store, Commits}
 use Rattle.jv_rows.specs.Drafts.{drafted, cell, Sees}
@@ -34,7 +34,7 @@ use Rattle.jv_rows.specs.Tables.{node_row}
 use Rattle.jv_rows.specs.Transactions.{IsFor, IsBad, NamesNone, Looks, Transacts, Always}
 use Rattle.jv_rows.proofs.DraftLaws.{sees_stored}
 use Rattle.jv_rows.proofs.NeedingLaws.{session_is}
-use Rattle.jv_rows.proofs.TransactionLaws.{of_known, if_known, Past, past-start, past-as, past-calm, past-looks, past-stops, past-fails, fails-looks, fails-sees, stands-sees, transacts-refused, transacts-answers, none_kept}
+use Rattle.jv_rows.proofs.TransactionLaws.{Past, past-start, past-as, past-calm, past-looks, past-stops, past-fails, fails-looks, fails-sees, stands-sees, transacts-refused, transacts-answers, none_kept}
 use Rattle.jv_volume.specs.TypedRows.{Rows, typed}
 use Rattle.jv_volume.specs.TreeOf.{tree_of}
 use Rattle.jv_volume.specs.Shape.{Form, Regular, Dir, WholeShape, Keeps, form_of, is_there, shape_of}
@@ -157,7 +157,7 @@ module _ (sid inode : ℕ) (small : inode < 2 ^ 64) (before after : Store) (pair
 -- a pair that was read
 pub has-pair : (sid inode : ℕ) (changes : List Change) → changes ≡ [] → (before after : Store) (unit : Unit {0})
     → Sees (λ unit. OfSustained) (λ unit. true) (sustained_key sid inode) changes before after (Ok (Some unit)) → HasPair after sid inode
-has-pair sid inode changes none before after unit s = if_known (λ known. get (typed known) (sustained_key sid inode) ≡ Some (Ok OfSustained)) after.rows
+has-pair sid inode changes none before after unit s = if_some-by (λ known. get (typed known) (sustained_key sid inode) ≡ Some (Ok OfSustained)) after.rows
     (λ known is. stands-sees (λ unit. OfSustained) (λ unit. true) (sustained_key sid inode) changes before after
     (λ known is. none_kept changes (sustained_key sid inode) none known) (Some unit) s known (sym s.rows_are ∙ is))
 

@@ -8,7 +8,6 @@ use Rattle.jv_model.specs.FiniteMap.{get, alter}
 use Rattle.jv_model.specs.rows.RowKeys.{RowMap}
 use Rattle.jv_model.specs.rows.RowPlaces.{counters_key, session_key, sustained_key}
 use Rattle.jv_model.specs.tree.Tree.{Tree}
-use Rattle.jv_model.proofs.TestLaws.{some_same}
 use Rattle.jv_outside.specs.declared.batch.Change.{Change}
 use Rattle.jv_outside.specs.Store.{Store}
 use Rattle.jv_rows.specs.Drafts.{drafted}
@@ -30,10 +29,11 @@ use Rattle.jv_volume.proofs.TreeOfLaws.{tree_of-put_session, tree_of-drop_sessio
 use Rattle.jv_changes.specs.Drafting.{Minds, Drafting}
 use Rattle.jv_changes.proofs.DraftedLaws.{Drafted, are_rows-put, are_rows-drop, stays-none, drafting-made}
 use Rattle.jv_live.specs.Steps.{keeping_session, ending_session, letting_go}
+use Rattle.std.proofs.lemmas.Option.{same_Some}
 
 -- a row that is a row is one at its key, whatever it is
 well_put : (q : RowKey) (good x : Cell) → IsRowAt q good → Some good ≡ Some x → IsRowAt q x
-well_put q good x is e = subst (IsRowAt q) (some_same good x e) is
+well_put q good x is e = subst (IsRowAt q) (same_Some good x e) is
 
 -- a change at a key, by what it does to rows
 module _ (known : RowMap) (was now : List Change) (bytes : ℕ → ℕ → ℕ) (t : Tree) (m : Minds known was bytes t) (q : RowKey) (stands : Option Cell)

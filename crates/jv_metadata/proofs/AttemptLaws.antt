@@ -22,7 +22,8 @@ use Rattle.jv_volume.specs.TreeOf.{tree_of}
 use Rattle.jv_links.specs.declared.fates.Removed.{Removed}
 use Rattle.jv_links.specs.Removals.{HoldsFiles, SaysSustained, kept_of, removed_in, renamed_in}
 use Rattle.jv_metadata.specs.declared.answers.Answer.{Answer}
-use Rattle.jv_metadata.specs.Attempts.{AnswersPlainly, mapped, SaysKept}
+use Rattle.jv_metadata.specs.Attempts.{AnswersPlainly, SaysKept}
+use Rattle.jv_model.specs.Optional.{mapped}
 
 -- ---- a call's transaction, with another answer
 

@@ -15,11 +15,6 @@ use Rattle.jv_volume.specs.Whole.{Whole}
 use Rattle.jv_links.specs.Removals.{HoldsFiles, KeepsAnew}
 use Rattle.jv_metadata.specs.declared.answers.Answer.{Answer}
 
--- a result with its value changed
-abbrev pub mapped : {A B E : Type 0} → (A → B) → Result A E → Result B E
-mapped f (Ok x) = Ok (f x)
-mapped f (Err fault) = Err fault
-
 -- an answer that keeps no file
 abbrev pub plain : Reply → Answer
 plain reply = record { reply = reply; kept = None }

@@ -1,7 +1,8 @@
 //! The answers of operations, by what their transactions return.
 ghost use Rattle.std.specs.Prelude.{◌≡◌, None, Some};
+ghost use Rattle.jv_model.specs.Optional.{mapped};
 ghost use Rattle.jv_links.specs.Removals.{kept_of};
-ghost use Rattle.jv_metadata.specs.Attempts.{mapped, plain};
+ghost use Rattle.jv_metadata.specs.Attempts.{plain};
 ghost use Rattle.jv_model.specs.declared.op.Reply.TheVariants as reply;
 
 use jv_links::{Fate, Removed};

@@ -3,6 +3,7 @@ pub mod PrintedExamples
 pub mod GrammarExamples
 pub mod ReplyTextExamples
 pub mod TestLaws
+pub mod ListLaws
 pub mod FiniteMapLaws
 pub mod ClientsLaws
 pub mod PendingLaws

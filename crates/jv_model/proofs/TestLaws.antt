@@ -1,11 +1,13 @@
--- What follows from a test, an order or an option whose value is known.
-use Rattle.std.proofs.Common.{◌≡◌, ℕ, ◌<◌, ◌≤◌, Bool, true, false, T, ◌&&◌, ◌||◌, IsTrue, if◌then◌else◌, List, [], ◌∷◌, Option, None, Some, refl, sym, subst, arith}
-use Rattle.std.specs.Prelude.{IfSome, IsSome, is_some, option_and_then}
+-- What follows from a test, an order, an option or an answer whose value is known.
+use Rattle.std.proofs.Common.{◌≡◌, ℕ, ◌<◌, ◌≤◌, Bool, true, false, T, ◌&&◌, ◌||◌, IsTrue, if◌then◌else◌, List, [], ◌∷◌, Option, None, Some, Ok, Err, refl, sym, subst, arith}
+use Rattle.std.specs.Prelude.{IfSome, IsSome, is_some, option_and_then, OnErr, Result}
 use Rattle.std.specs.declared.cmp.Ordering.{Ordering}
 use Rattle.std.specs.declared.cmp.Ordering.TheVariants.{Less, Equal, Greater}
 use Rattle.std.specs.Ordering.{is_eq, is_lt, nat_cmp}
 use Rattle.std.proofs.lemmas.Bool.{lt-ltb}
 use Rattle.jv_model.specs.Lists.{is_nil}
+use Rattle.jv_model.specs.declared.fault.Fault.{Fault}
+use Rattle.jv_model.specs.tree.Attempt.{◌>>=◌}
 
 -- ---- tests
 
@@ -72,14 +74,35 @@ pub none_unless : {A : Type 0} (o : Option A) → ((x : A) → o ≡ Some x → 
 none_unless None none = refl
 none_unless (Some x) none = absurd (none x refl)
 
-pub some_same : {A : Type 0} (x y : A) → Some x ≡ Some y → x ≡ y
-some_same x y e = cc
-
-pub known_is : {M : Type 0} (content : Option M) (m : M) (P : M → Type 0) → content ≡ Some m → IfSome content P → P m
-known_is None m P is h = absurd (cc)
-known_is (Some n) m P is h = let same : n ≡ m = cc in subst P same h
+pub of_known : {A : Type 0} (P : A → Type 0) (o : Option A) (x : A) → o ≡ Some x → IfSome o P → P x
+of_known P o x is h = subst (λ o. IfSome o P) is h
 
 pub then_all : {A B : Type 0} (o : Option A) (f : A → Option B) (P : B → Type 0) → ((a : A) → IfSome (f a) P)
     → IfSome (option_and_then f o) P
 then_all None f P h = tt
 then_all (Some a) f P h = h a
+
+pub if_some-by : {A : Type 0} (P : A → Type 0) (o : Option A) → ((x : A) → o ≡ Some x → P x) → IfSome o P
+if_some-by P None h = tt
+if_some-by P (Some x) h = h x refl
+
+-- ---- answers
+
+pub on_err : {A E : Type 0} (result : Result A E) (P : Type 0) → P → OnErr result P
+on_err (Ok x) P p = tt
+on_err (Err fault) P p = p
+
+pub same_Ok : {A E : Type 0} (x y : A) → ◌≡◌ {A = Result A E} (Ok x) (Ok y) → x ≡ y
+same_Ok x y e = cc
+
+pub same_Err : {A E : Type 0} (x y : E) → ◌≡◌ {A = Result A E} (Err x) (Err y) → x ≡ y
+same_Err x y e = cc
+
+-- a fault is the same one where other answers are awaited
+pub same_fault : {A B E : Type 0} (x y : E) → ◌≡◌ {A = Result A E} (Err x) (Err y) → ◌≡◌ {A = Result B E} (Err x) (Err y)
+same_fault x y e = cc
+
+-- one step after two is two steps after one
+pub bound : {A B C : Type 0} (r : Result A Fault) (f : A → Result B Fault) (g : B → Result C Fault) → (r >>= f) >>= g ≡ r >>= (λ x. f x >>= g)
+bound (Ok x) f g = refl
+bound (Err fault) f g = refl

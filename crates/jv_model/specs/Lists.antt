@@ -37,3 +37,9 @@ last_item (_ ∷ x ∷ xs) = last_item (x ∷ xs)
 abbrev pub numbered : {A : Type 0} → List A → ℕ → Option A
 numbered items zero = None
 numbered items (suc index) = slice_get items index
+
+-- a number of each item that is there
+abbrev pub numbers_of : {A : Type 0} → (A → ℕ) → List (Option A) → List ℕ
+numbers_of number [] = []
+numbers_of number (None ∷ items) = numbers_of number items
+numbers_of number (Some item ∷ items) = number item ∷ numbers_of number items

@@ -1,5 +1,5 @@
--- Steps that may have no value.
-use Rattle.std.specs.Prelude.{Bool, true, false, Option, None, Some, option_and_then}
+-- Steps that may have no value, and answers that may be faults.
+use Rattle.std.specs.Prelude.{Bool, true, false, Option, None, Some, option_and_then, Result, Ok, Err}
 
 -- the second step, if the first has a value
 infixl 10 ◌>>=◌
@@ -10,3 +10,8 @@ o >>= f = option_and_then f o
 abbrev pub provided : {T : Type 0} → Bool → T → Option T
 provided true value = Some value
 provided false value = None
+
+-- the value of an answer changed, or its fault
+abbrev pub mapped : {A B E : Type 0} → (A → B) → Result A E → Result B E
+mapped f (Ok x) = Ok (f x)
+mapped f (Err fault) = Err fault

@@ -1,4 +1,4 @@
-//! Byte strings.
+//! Byte strings, which are sequences of bytes, and copies of bytes.
 ghost use Rattle.std.specs.Prelude.{◌≡◌, IfOk};
 ghost use Rattle.jv_model.specs.Lists.{has_no_zero};
 

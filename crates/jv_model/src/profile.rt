@@ -1,5 +1,6 @@
 //! What a client has to know of an operation before its first step.
 ghost use Rattle.std.specs.Prelude.{◌≡◌};
+ghost use Rattle.jv_model.specs.client.OpForms.{is_read};
 ghost use Rattle.jv_model.specs.client.Profile.{profile, handle_of, of_mounted, of_any_client, flushing_all, opening, on_file, on_files, read_does, write_profile};
 
 use crate::limits::FILE_END;
@@ -85,6 +86,13 @@ const TRANSACTION: Profile = Profile {
 };
 
 impl Op {
+    /// Whether the operation reads a file's bytes.
+    pub fn is_read(&self) -> bool
+        ensures { result ≡ is_read self.now }
+    {
+        matches!(self, Op::Read { .. })
+    }
+
     /// The first handle that the operation names, 0 where it names none. A read asks for it at each of its steps, so it is
     /// found without the whole profile.
     pub fn handle(&self) -> u64

@@ -24,7 +24,7 @@ pub const TABLE_OF_SLICES: u8 = 5;
 /// Mounted clients, by session.
 pub const TABLE_OF_SESSIONS: u8 = 6;
 
-/// Files without a name that a session keeps, by session and inode.
+/// Files without an entry that a session keeps, by session and inode.
 pub const TABLE_OF_SUSTAINED: u8 = 7;
 
 /// Files that are gone, by inode.

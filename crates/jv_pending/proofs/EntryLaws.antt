@@ -1,7 +1,7 @@
 -- What a map's calls do to its list of runs.
 use Rattle.std.proofs.Common.{◌≡◌, ℕ, ◌+◌, ◌<◌, ◌≤◌, Bool, true, false, not, ◌&&◌, eqb, ltb, leb, cond, if◌then◌else◌, List, [], ◌∷◌, ◌++◌, Option, Some, None, refl, sym, ap, subst, ◌∙◌, ⊎_elim, arith}
 use Rattle.std.proofs.lemmas.Bool.{cases_lt, cases_order, cond-true, cond-false, le-ltb, le-leb, lt-leb, eq-eqb, ne_eqb}
-use Rattle.std.proofs.lemmas.Option.{none-some}
+use Rattle.std.proofs.lemmas.Option.{none-some, same_Some}
 use Rattle.std.specs.declared.cmp.Ordering.TheVariants.{Less, Equal, Greater}
 use Rattle.std.specs.declared.ops.Bound.TheVariants.{Included, Excluded, Unbounded}
 use Rattle.std.specs.Ordering.{is_eq, is_le, nat_cmp, ordering_then, match_ordering}
@@ -10,7 +10,7 @@ use Rattle.std.specs.BTreeMap.Range.{entries_between}
 use Rattle.std.proofs.lemmas.List.Elements.{filter-append}
 use Rattle.std.specs.Map.{lookup, remove_entry, set_value}
 use Rattle.jv_model.specs.declared.limits.TheConstants.{FILE_END}
-use Rattle.jv_model.proofs.TestLaws.{some_same, nat_less}
+use Rattle.jv_model.proofs.TestLaws.{nat_less}
 use Rattle.jv_pending.specs.declared.run.RunStart.{RunStart}
 use Rattle.jv_pending.specs.Runs.{Run, start_cmp, bytes_at, place_of, start_place, Rise, runs_before, runs_from, runs_within, with_runs, without_run, given_back}
 use Rattle.jv_pending.proofs.PartLaws.{before_yes, before_no, from_yes, from_no, before_none, from_all, Rise-from, whole, within_is, cut_before, cut_rest, cut_rise, with_before, with_from, with_here, with_rise, with_with}
@@ -126,7 +126,7 @@ module _ (k : RunStart) (file : k.from < FILE_END) where
       (λ same.
       let f : Some e.1 ≡ Some v = sym (ap (λ o. cond (is_eq o) (Some e.1) (lookup (is_at (start_cmp k)) es)) (starts_equal k e.0 file r.0 same)) ∙ h in
       from_yes (place_of k) e es (omega arith)
-      ∙ ap (λ (x : Run). x ∷ runs_from (place_of k) es) (pair_of e k v (sym (same_start k e.0 file r.0 same)) (some_same e.1 v f))
+      ∙ ap (λ (x : Run). x ∷ runs_from (place_of k) es) (pair_of e k v (sym (same_start k e.0 file r.0 same)) (same_Some e.1 v f))
       ∙ ap (λ (t : List Run). (k, v) ∷ t) (from_all (place_of k) (start_place e + 1) es (omega arith) r.2 ∙ sym (from_no (place_of k + 1) e es (omega arith) ∙ from_all (place_of k + 1) (start_place e + 1) es (omega arith) r.2)))
       (λ o. ⊎_elim
       (λ more.

@@ -2,10 +2,9 @@
 use Rattle.std.proofs.Common.{◌≡◌, ℕ, ◌+◌, ◌<◌, ◌≤◌, ltb, leb, cond, List, [], ◌∷◌, ◌++◌, Some, None, refl, sym, ap, subst, ◌∙◌, ⊎_elim, arith}
 use Rattle.std.proofs.lemmas.Bool.{cases_lt, cond-true, cond-false, lt-ltb, le-ltb, le-leb, lt-leb}
 use Rattle.std.proofs.lemmas.List.{append-nil}
-use Rattle.std.proofs.lemmas.Option.{none-some}
+use Rattle.std.proofs.lemmas.Option.{none-some, same_Some}
 use Rattle.std.proofs.lemmas.List.Elements.{filter-append}
 use Rattle.jv_model.specs.declared.limits.TheConstants.{FILE_END}
-use Rattle.jv_model.proofs.TestLaws.{some_same}
 use Rattle.jv_model.specs.Lists.{first_item, last_item}
 use Rattle.jv_pending.specs.Runs.{Run, Before, start_place, end_place, Rise, InOrder, runs_before, runs_from, runs_within, first_place, with_runs}
 
@@ -85,11 +84,6 @@ whole n low (x ∷ rs) r =
     (λ l. ap (λ (t : List Run). t ++ runs_from n (x ∷ rs)) (before_yes n x rs l) ∙ ap (λ (t : List Run). (x ∷ runs_before n rs) ++ t) (from_no n x rs l) ∙ ap (λ (t : List Run). x ∷ t) (whole n (start_place x + 1) rs r.2))
     (λ g. let s : Rise n (x ∷ rs) = (r.0, g, r.2) in ap (λ (t : List Run). t ++ runs_from n (x ∷ rs)) (before_none n n (x ∷ rs) (omega arith) s) ∙ from_all n n (x ∷ rs) (omega arith) s)
     (cases_lt (start_place x) n)
-
-pub last_end : (xs : List Run) (r : Run) → last_item (xs ++ r ∷ []) ≡ Some r
-last_end [] r = refl
-last_end (x ∷ []) r = refl
-last_end (x ∷ y ∷ xs) r = last_end (y ∷ xs) r
 
 pub Before-weaker : (m n : ℕ) (rs : List Run) → m ≤ n → Before m rs → Before n rs
 Before-weaker m n [] h b = tt
@@ -232,7 +226,7 @@ module _ (lo hi low : ℕ) (es : List Run) (h : lo ≤ hi) (e : Rise low es) whe
 -- the first run from a place on
 pub first_split : (xs : List Run) (r : Run) → Some r ≡ first_item xs → (t : List Run) × (xs ≡ r ∷ t)
 first_split [] r h = absurd (none-some r (sym h))
-first_split (x ∷ xs) r h = (xs, ap (λ (y : Run). y ∷ xs) (let q : Some r ≡ Some x = h in sym (some_same r x q)))
+first_split (x ∷ xs) r h = (xs, ap (λ (y : Run). y ∷ xs) (let q : Some r ≡ Some x = h in sym (same_Some r x q)))
 
 pub first_nothing : (xs : List Run) → None ≡ first_item xs → xs ≡ []
 first_nothing [] h = refl

@@ -2,10 +2,9 @@
 use Rattle.std.proofs.Common.{◌≡◌, ℕ, ◌+◌, ◌%◌, ◌<◌, ◌≤◌, true, false, not, cond, eqb, ◌==◌, List, [], ◌∷◌, length, Some, None, refl, sym, ap, subst, ◌∙◌, ⊎_elim, arith}
 use Rattle.std.proofs.lemmas.Bool.{cases_eq, cond-true, cond-false, cond_both, and_parts, eqb-true, eq-eqb, ne_eqb}
 use Rattle.std.proofs.lemmas.Bool.Decides.{nat_tests}
-use Rattle.std.proofs.lemmas.Option.{none-some}
+use Rattle.std.proofs.lemmas.Option.{none-some, same_Some}
 use Rattle.jv_model.specs.declared.limits.TheConstants.{WINDOW}
 use Rattle.jv_model.specs.client.Pending.{PendingByte, Segment, comes_before, all_after, is_rising, stands_at, is_in_range, without_range, pending_of, pending_of_others, pending_end, end_of, run_length, first_segment, byte_set, written}
-use Rattle.jv_model.proofs.TestLaws.{some_same}
 use Rattle.jv_model.proofs.PendingLaws.{no_first_segment}
 
 -- an inode's first segment is its own, and its first byte lies in it
@@ -21,7 +20,7 @@ own_segment i (b ∷ bytes) s h =
     ⊎_elim
     (λ e.
     let here = ap first_segment (cond-true (eqb b.inode i) (b ∷ pending_of i bytes) (pending_of i bytes) (eq-eqb b.inode i e)) in
-    sym (ap (λ (t : Segment). t.inode) (some_same _ s (sym here ∙ h))) ∙ e)
+    sym (ap (λ (t : Segment). t.inode) (same_Some _ s (sym here ∙ h))) ∙ e)
     (λ n. own_segment i bytes s (sym (ap first_segment (cond-false (eqb b.inode i) (b ∷ pending_of i bytes) (pending_of i bytes) (ne_eqb b.inode i n))) ∙ h))
     (cases_eq b.inode i)
 
@@ -32,7 +31,7 @@ stands_here b = grind (arith, nat_tests)
 pub segment-some : (bytes : List PendingByte) (s : Segment) → first_segment bytes ≡ Some s → 0 < s.len
 segment-some [] s h = absurd (none-some s h)
 segment-some (b ∷ bytes) s h =
-    let same = some_same _ s h in
+    let same = same_Some _ s h in
     let more : ℕ = run_length b.inode (b.position + 1) bytes in
     let ahead : ℕ = cond ((b.position + 1) % WINDOW == 0) 1 (1 + more) in
     let some : 0 < ahead = cond_both ((b.position + 1) % WINDOW == 0) 1 (1 + more) (λ n. 0 < n) (λ _. omega arith) (λ _. omega arith) in
@@ -54,7 +53,7 @@ length-without i (b ∷ bytes) s h =
     ⊎_elim
     (λ e.
     let here = ap first_segment (cond-true (eqb b.inode i) (b ∷ pending_of i bytes) (pending_of i bytes) (eq-eqb b.inode i e)) in
-    let same = some_same _ s (sym here ∙ h) in
+    let same = same_Some _ s (sym here ∙ h) in
     let inside = in_range s.inode s.from s.len b (ap (λ (t : Segment). t.inode) same) (ap (λ (t : Segment). t.from) same) l in
     let gone = ap length (cond-false (not (is_in_range s.inode s.from s.len b)) (b ∷ without_range s.inode s.from s.len bytes) (without_range s.inode s.from s.len bytes) (ap not inside)) in
     omega (arith, fewer s.inode s.from s.len bytes))
@@ -129,7 +128,7 @@ segment-ends i bytes s rising first = of_list (pending_of i bytes) (rises i byte
   where
     of_list : (bs : List PendingByte) → RiseFrom i 0 bs → first_segment bs ≡ Some s → s.from + s.len ≤ pending_end bs
     of_list [] r e = absurd (none-some s e)
-    of_list (b ∷ bs) r e = subst (λ (t : Segment). t.from + t.len ≤ pending_end (b ∷ bs)) (some_same _ s e)
+    of_list (b ∷ bs) r e = subst (λ (t : Segment). t.from + t.len ≤ pending_end (b ∷ bs)) (same_Some _ s e)
         (run_ends i b.inode 0 b.position b bs r (omega arith))
 
 -- the others' bytes stay

@@ -2,12 +2,11 @@
 use Rattle.std.proofs.Common.{◌≡◌, ℕ, ◌+◌, ◌%◌, ◌<◌, ◌≤◌, Bool, true, false, not, cond, eqb, List, [], ◌∷◌, ◌++◌, length, map, filter, Some, None, refl, sym, ap, subst, ◌∙◌, ⊎_elim, arith}
 use Rattle.std.proofs.lemmas.Bool.{cases_eq, cond-true, cond-false, eq-eqb, ne_eqb, and_from}
 use Rattle.std.proofs.lemmas.Bool.Decides.{nat_tests}
-use Rattle.std.proofs.lemmas.Option.{none-some}
+use Rattle.std.proofs.lemmas.Option.{none-some, same_Some}
 use Rattle.std.proofs.lemmas.List.{append-nil, length-append}
 use Rattle.std.proofs.lemmas.List.Elements.{filter-append}
 use Rattle.jv_model.specs.declared.limits.TheConstants.{FILE_END, WINDOW}
 use Rattle.jv_model.specs.client.Pending.{PendingByte, Segment, stands_at, comes_before, all_after, is_rising, is_in_range, without_range, pending_of, run_length, first_segment, bytes_in_range, pending_end}
-use Rattle.jv_model.proofs.TestLaws.{some_same}
 use Rattle.jv_model.specs.Lists.{first_item, last_item}
 use Rattle.jv_pending.specs.declared.run.RunStart.{RunStart}
 use Rattle.jv_pending.specs.Runs.{Run, place, place_of, placed, pending_bytes, bytes_at, end_of_run, start_place, end_place, segment_of_run, IsRun, InOrder, Rise, Before, runs_before, runs_from, without_run}
@@ -314,7 +313,7 @@ named start s rs o ei ef h =
       | None ↦ λ e. absurd (none-some s (sym (ap first_segment (own_none s.inode rs o (sym e))) ∙ h))
       | Some r ↦ λ e. ⊎_elim
           (λ same.
-          let g : segment_of_run r ≡ s = some_same (segment_of_run r) s (sym (own_first s.inode rs r o (sym e) same) ∙ h) in
+          let g : segment_of_run r ≡ s = same_Some (segment_of_run r) s (sym (own_first s.inode rs r o (sym e) same) ∙ h) in
           let i : r.0.inode ≡ start.inode = ap (λ (x : Segment). x.inode) g ∙ sym ei in
           let f : r.0.from ≡ start.from = ap (λ (x : Segment). x.from) g ∙ sym ef in
           subst (λ (k : RunStart). Named k s.len rs) (λ j. record { inode = i j; from = f j })

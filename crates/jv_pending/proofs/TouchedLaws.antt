@@ -1,11 +1,10 @@
 -- Which runs a write touches.
 use Rattle.std.proofs.Common.{◌≡◌, ℕ, ◌+◌, ◌-◌, ◌*◌, ◌<◌, ◌≤◌, ltb, leb, List, [], ◌∷◌, ◌++◌, length, take, drop, Some, None, unwrap_or, IfSome, IsSomeAnd, refl, sym, ap, subst, ◌∙◌, ⊎_elim, arith}
 use Rattle.std.proofs.lemmas.Bool.{cases_lt, cases_eq, cases_order}
-use Rattle.std.proofs.lemmas.Option.{none-some}
+use Rattle.std.proofs.lemmas.Option.{none-some, same_Some}
 use Rattle.std.proofs.lemmas.List.{append_assoc, append-nil, take_all}
 use Rattle.std.proofs.lemmas.List.Elements.{filter-append}
 use Rattle.jv_model.specs.declared.limits.TheConstants.{FILE_END}
-use Rattle.jv_model.proofs.TestLaws.{some_same}
 use Rattle.jv_model.specs.Lists.{first_item, last_item}
 use Rattle.jv_pending.specs.declared.run.RunStart.{RunStart}
 use Rattle.jv_pending.specs.Runs.{Run, place, place_of, start_place, end_place, end_of_run, gap, bytes_at, IsRun, InOrder, Rise, Before, EndBy, BeginBy, Reaches, IsFirst, IsTouched, runs_before, runs_from, runs_within, head_of, tail_of, joined_from}
@@ -17,7 +16,7 @@ use Rattle.jv_pending.proofs.EntryLaws.{present, absent, there}
 -- the last run
 pub last_split : (xs : List Run) (r : Run) → Some r ≡ last_item xs → (t : List Run) × (xs ≡ t ++ r ∷ [])
 last_split [] r h = absurd (none-some r (sym h))
-last_split (x ∷ []) r h = ([], ap (λ (y : Run). y ∷ []) (some_same x r (sym h)))
+last_split (x ∷ []) r h = ([], ap (λ (y : Run). y ∷ []) (same_Some x r (sym h)))
 last_split (x ∷ y ∷ xs) r h = let q = last_split (y ∷ xs) r h in (x ∷ q.0, ap (λ (t : List Run). x ∷ t) q.1)
 
 cons_none : (x : Run) (xs : List Run) → x ∷ xs ≡ [] → ⊥

@@ -3,7 +3,7 @@
 //! A call takes a time logarithmic in the number of runs. `write` takes one linear in its bytes more, amortized, in
 //! whatever order and across whatever borders bytes are written; bytes that join runs are moved a logarithmic number of
 //! times at most. `take` takes a time linear in its bytes, `clear` and `clear_all` one for each run that they take out.
-ghost use Rattle.std.specs.Prelude.{◌≡◌, ℕ, ◌+◌, ◌*◌, ◌<◌, ◌≤◌, ◌↔◌, [], length, Some, OnOk, OnErr, IfSome, IsErrOf, IsOk, IsOkUnless, IsTrue};
+ghost use Rattle.std.specs.Prelude.{◌≡◌, ◌+◌, ◌*◌, ◌<◌, ◌≤◌, ◌↔◌, [], length, Some, OnOk, OnErr, IfSome, IsErrOf, IsOk, IsOkUnless, IsTrue};
 ghost use Rattle.std.specs.Option.{option_map};
 ghost use Rattle.jv_model.specs.declared.limits.TheConstants.{FILE_END, WINDOW};
 ghost use Rattle.jv_model.specs.client.Pending.{written, first_segment_of, bytes_in_range, without_range, pending_of, pending_of_others, end_of, is_rising};

@@ -1,5 +1,5 @@
 //! Places of runs in their map: making one, and taking its run out and putting another in.
-ghost use Rattle.std.specs.Prelude.{◌≡◌, ℕ, ◌+◌, ◌<◌, ◌≤◌, ◌^◌, [], ◌∷◌, ◌++◌, length, take, List, max, OnOk, OnErr, IfOk, Some, unwrap_or, IsSome, if◌then◌else◌};
+ghost use Rattle.std.specs.Prelude.{◌≡◌, ◌+◌, ◌<◌, ◌≤◌, ◌^◌, [], ◌∷◌, ◌++◌, length, take, max, OnOk, OnErr, IfOk, Some, unwrap_or, IsSome, if◌then◌else◌};
 ghost use Rattle.jv_model.specs.declared.limits.TheConstants.{FILE_END};
 ghost use Rattle.jv_pending.specs.Runs.{place_of, bytes_at, Rise, without_run, runs_before, runs_from, with_runs, given_back};
 

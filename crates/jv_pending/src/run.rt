@@ -1,5 +1,5 @@
 //! Runs of pending bytes, and where to find them.
-ghost use Rattle.std.specs.Prelude.{◌≡◌, ℕ, ◌+◌, ◌*◌, ◌<◌, ◌≤◌, ◌^◌, ◌↔◌, length, Option, Some, None, IfSome, IsTrue};
+ghost use Rattle.std.specs.Prelude.{◌≡◌, ◌+◌, ◌*◌, ◌<◌, ◌≤◌, ◌^◌, length, Option, Some, None, IfSome};
 ghost use Rattle.std.specs.Option.{option_map};
 ghost use Rattle.jv_model.specs.client.Pending.{first_segment_of, end_of};
 ghost use Rattle.jv_model.specs.Lists.{first_item, last_item};

@@ -7,11 +7,10 @@
 //! window `write_window` joins the touched runs: `join_behind` moves the bytes behind the write into the run at its
 //! start, and `join_before` those before it into the last run, where that one is longer. So each byte is moved a
 //! logarithmic number of times at most.
-ghost use Rattle.std.specs.Prelude.{◌≡◌, ℕ, ◌+◌, ◌-◌, ◌<◌, ◌≤◌, ◌^◌, ◌%◌, [], ◌∷◌, ◌++◌, length, take, drop, List, OnOk, OnErr, IfOk, IfErr, Some, unwrap_or, IsSome, IfSome, IsSomeAnd};
-ghost use Rattle.std.specs.Option.{option_map};
+ghost use Rattle.std.specs.Prelude.{◌≡◌, ◌+◌, ◌-◌, ◌<◌, ◌≤◌, ◌^◌, ◌%◌, [], ◌∷◌, ◌++◌, length, take, OnOk, OnErr, IfOk, Some, unwrap_or, IsSome, IfSome};
 ghost use Rattle.jv_model.specs.declared.limits.TheConstants.{FILE_END};
 ghost use Rattle.jv_model.specs.client.Pending.{written};
-ghost use Rattle.jv_pending.specs.Runs.{place_of, bytes_at, gap, pending_bytes, InOrder, Rise, IsFirst, IsTouched, runs_before, runs_within, with_runs, tail_of, joined_behind, IsLonger, IsOnly, Starts, Writes};
+ghost use Rattle.jv_pending.specs.Runs.{place_of, bytes_at, gap, pending_bytes, InOrder, Rise, IsFirst, IsTouched, runs_within, with_runs, tail_of, joined_behind, IsLonger, IsOnly, Starts, Writes};
 
 use crate::place::{give_back, put_over, swap_bytes, take_run};
 use crate::run::{RunStart, Runs, count_bytes, last_before};

@@ -6,7 +6,7 @@ use Rattle.std.specs.Global.{Vec}
 use Rattle.std.specs.BTreeMap.{is_at}
 use Rattle.std.specs.Map.{lookup}
 use Rattle.std.proofs.lemmas.Nat.{div-add-mod', div-mul-add}
-use Rattle.std.proofs.lemmas.Bool.{cases_lt}
+use Rattle.std.proofs.lemmas.Bool.{cases_lt, or_right}
 use Rattle.std.proofs.lemmas.Bool.Decides.{nat_tests}
 use Rattle.std.proofs.lemmas.List.Elements.{All-cons, All-push}
 use Rattle.std.proofs.lemmas.List.Folds.{list_any-append}
@@ -48,11 +48,7 @@ any_grows : (p : Overlap → Bool) (xs : List Overlap) (o : Overlap) → list_an
 any_grows p xs o h = list_any-append p xs (o ∷ []) ∙ ap (λ x. x || list_any p (o ∷ [])) h
 
 any_last : (p : Overlap → Bool) (xs : List Overlap) (o : Overlap) → p o ≡ true → list_any p (xs ++ o ∷ []) ≡ true
-any_last p xs o h = list_any-append p xs (o ∷ []) ∙ ap (λ x. list_any p xs || (x || false)) h ∙ ends (list_any p xs)
-  where
-    ends : (x : Bool) → (x || true) ≡ true
-    ends true = refl
-    ends false = refl
+any_last p xs o h = list_any-append p xs (o ∷ []) ∙ ap (λ x. list_any p xs || (x || false)) h ∙ or_right (list_any p xs) true refl
 
 reaches_in : (n : ℕ) (o : Overlap) → o.start ≤ n → n < o.start + o.len → reaches n o ≡ true
 reaches_in n o low high = grind (arith, nat_tests)

@@ -27,7 +27,6 @@ use Rattle.jv_model.specs.client.Profile.{handle_of}
 use Rattle.jv_model.specs.journal.Reading.{asked_parts, reading}
 use Rattle.jv_model.specs.journal.State.{State, after_told, or_empty, with_look}
 use Rattle.jv_model.specs.journal.Steps.{file_in_use, is_failure, must_answer, window_to_look}
-use Rattle.jv_model.proofs.TestLaws.{known_is}
 use Rattle.jv_model.specs.tree.FileBytes.{length_seen}
 use Rattle.jv_outside.specs.Store.{Store}
 use Rattle.jv_volume.specs.TypedRows.{typed}
@@ -49,6 +48,7 @@ use Rattle.jv_steps.proofs.RefusalStepLaws.{goes-reading, goes-working}
 use Rattle.jv_steps.proofs.LookStepLaws.{look-step, look-refused_session, look-refused_node}
 use Rattle.jv_requests.specs.Request.{Request}
 use Rattle.jv_requests.proofs.StillLaws.{fault_of_rows, found-in, rows-failed, still-request}
+use Rattle.jv_model.proofs.TestLaws.{of_known}
 
 -- ---- what a session sees of a file
 
@@ -158,7 +158,7 @@ module _ (s : State) (client now : ℕ) (d : Doing) (busy : (s.clients client).d
 
       -- they are those of the window's list
       listed_here : view.list ≡ lists_of (typed has.rows) file.inode window
-      listed_here = known_is v.keeper.rows has.rows (λ known. view.list ≡ lists_of (typed known) file.inode window)
+      listed_here = of_known (λ known. view.list ≡ lists_of (typed known) file.inode window) v.keeper.rows has.rows
           has.rows_are looks.list
 
       -- and the records that it has show the file's bytes

@@ -22,7 +22,7 @@ use Rattle.jv_model.specs.rows.RowGrammar.{is_slice}
 use Rattle.jv_model.specs.rows.RowKeys.{RowMap, row_key, row_cmp}
 use Rattle.jv_model.specs.rows.RowPlaces.{slice_key, dead_key}
 use Rattle.jv_model.specs.Lists.{is_nil}
-use Rattle.jv_model.proofs.TestLaws.{and_false}
+use Rattle.jv_model.proofs.TestLaws.{and_false, if_some-by, of_known}
 use Rattle.jv_outside.specs.declared.batch.Change.{Change}
 use Rattle.jv_outside.specs.Holding.{Becomes}
 use Rattle.jv_outside.specs.Store.{Store, held}
@@ -35,7 +35,7 @@ use Rattle.jv_rows.specs.Drafts.{key_in, last_change, drafted, cell, RefusesCell
 use Rattle.jv_rows.specs.Transactions.{FaultCause}
 use Rattle.jv_rows.proofs.CountsLaws.{at_key}
 use Rattle.jv_rows.proofs.DraftLaws.{stored-below}
-use Rattle.jv_rows.proofs.TransactionLaws.{of_known, if_known, drafted-none}
+use Rattle.jv_rows.proofs.TransactionLaws.{drafted-none}
 
 -- ---- one slice
 
@@ -119,7 +119,7 @@ module _ (id gone added due : ℕ) (before after : Store) (changes changed : Lis
     rows_are = n.rows_are;
     opened_at = n.opened_at;
     counts = n.counts;
-    done = if_known (λ known. Recounted id gone added due (drafted changes known) (drafted changed known)) before.rows (λ known is.
+    done = if_some-by (λ known. Recounted id gone added due (drafted changes known) (drafted changed known)) before.rows (λ known is.
         let rows = drafted changes known in
         let m = may (may_become slice.count (recounted slice.count gone added)) (recounted slice.count gone added) count next in
         let left : drafted changed known ≡ counted id slice.size due rows (recounted slice.count gone added) =
@@ -147,7 +147,7 @@ module _ (id gone added due : ℕ) (before after : Store) (changes changed : Lis
     others = tt;
     refused = (
       refl,
-      if_known (λ known. IsFull id gone added (drafted changes known)) before.rows (λ known is. record {
+      if_some-by (λ known. IsFull id gone added (drafted changes known)) before.rows (λ known is. record {
         slice = slice;
         was = of_known (λ known. get (drafted changes known) (slice_key id) ≡ Some (Ok (OfSlice slice))) before.rows known is n.found;
         full = may_not (may_become slice.count (recounted slice.count gone added)) (recounted slice.count gone added) next;
@@ -200,7 +200,7 @@ module _ {A : Type 0} (row : A → Row) (is_allowed : A → Bool) (key : RowKey)
   same_fault : (fault : RowFault) → RefusesCell key [] before.rows fault → RefusesCell key changes before.rows fault
   same_fault (Bad at bytes) h = (
     h.0,
-    if_known (λ known. get (drafted changes known) key ≡ Some (Err bytes)) before.rows (λ known is.
+    if_some-by (λ known. get (drafted changes known) key ≡ Some (Err bytes)) before.rows (λ known is.
         same_cell known ∙ of_known (λ known. get (drafted [] known) key ≡ Some (Err bytes)) before.rows known is h.1),
   )
   same_fault Failed h = tt
@@ -212,7 +212,7 @@ module _ {A : Type 0} (row : A → Row) (is_allowed : A → Bool) (key : RowKey)
     rows_are = s.rows_are;
     opened_at = s.opened_at;
     counts = s.counts;
-    found = if_known (λ known. get (drafted changes known) key ≡ cell row found) before.rows (λ known is.
+    found = if_some-by (λ known. get (drafted changes known) key ≡ cell row found) before.rows (λ known is.
         same_cell known ∙ of_known (λ known. get (drafted [] known) key ≡ cell row found) before.rows known is s.found);
     allowed = s.allowed;
     refused = tt;
@@ -306,7 +306,7 @@ pub none_adjusted : (gone added : List Rec) (due : ℕ) (fewer more : Counts) (s
 none_adjusted gone added due fewer more start changes f m = record {
   stands = λ id. ToTake (f id) (m id);
   same = record { content_is = refl; opened_at = refl; calm = refl };
-  done = if_known (λ known. (id : ℕ) → IsTrue (is_named gone added id) → is_left fewer more id ≡ false
+  done = if_some-by (λ known. (id : ℕ) → IsTrue (is_named gone added id) → is_left fewer more id ≡ false
       → Recounted id (records_naming id gone) (records_naming id added) due (drafted changes known) (drafted changes known)) start.rows
       (λ known is id named left. absurd (true≢false (sym (stored_left id (records_naming id gone) (records_naming id added) named)
       ∙ sym (ap (λ o. is_some o || is_some (more id)) (f id) ∙ ap (λ o. is_some (stored_count gone id) || is_some o) (m id)) ∙ left)));
@@ -429,7 +429,7 @@ module _ (gone added : List Rec) (due id : ℕ) (fewer more fewer' more' : Count
   one_adjusted = record {
     stands = stands_next gone added due id fewer more fewer' more' start middle now changes between changed h left out_fewer out_more;
     same = record { content_is = r.rows_are ∙ h.same.content_is; opened_at = r.opened_at ∙ h.same.opened_at; calm = r.counts ∙ h.same.calm };
-    done = if_known (λ known. (q : ℕ) → IsTrue (is_named gone added q) → is_left fewer' more' q ≡ false
+    done = if_some-by (λ known. (q : ℕ) → IsTrue (is_named gone added q) → is_left fewer' more' q ≡ false
         → Recounted q (records_naming q gone) (records_naming q added) due (drafted changes known) (drafted changed known)) start.rows done_next;
     others = others_next;
   }
@@ -443,7 +443,7 @@ all_adjusted gone added due fewer more start now changes changed h none = record
   rows_are = h.same.content_is;
   opened_at = h.same.opened_at;
   counts = h.same.calm;
-  done = if_known (λ known. Adjusted gone added due (drafted changes known) (drafted changed known)) start.rows (λ known is. record {
+  done = if_some-by (λ known. Adjusted gone added due (drafted changes known) (drafted changed known)) start.rows (λ known is. record {
     named = λ id named. of_known (λ known. (q : ℕ) → IsTrue (is_named gone added q) → is_left fewer more q ≡ false
         → Recounted q (records_naming q gone) (records_naming q added) due (drafted changes known) (drafted changed known)) start.rows known is h.done id named (none_left id);
     others = λ key other. h.others known key (key_by (is_named gone added) (is_done gone added fewer more)
@@ -461,14 +461,14 @@ module _ (gone added : List Rec) (id : ℕ) (changes between : List Change) (row
       → RefusesRecount id (records_naming id gone) (records_naming id added) changes rows fault
   as_before (Refused fault) h = (
     h.0,
-    if_known (λ known. IsFull id (records_naming id gone) (records_naming id added) (drafted changes known)) rows (λ known is.
+    if_some-by (λ known. IsFull id (records_naming id gone) (records_naming id added) (drafted changes known)) rows (λ known is.
         let f = of_known (λ known. IsFull id (records_naming id gone) (records_naming id added) (drafted between known)) rows known is h.1 in
         record { slice = f.slice; was = sym (stands known) ∙ f.was; full = f.full }),
   )
   as_before (Moved list) h = absurd h
   as_before (OfRows (Bad at bytes)) h = (
     h.0,
-    if_known (λ known. IsNoRow (get (drafted changes known) (slice_key id)) bytes) rows (λ known is.
+    if_some-by (λ known. IsNoRow (get (drafted changes known) (slice_key id)) bytes) rows (λ known is.
         subst (λ c. IsNoRow c bytes) (stands known) (of_known (λ known. IsNoRow (get (drafted between known) (slice_key id)) bytes) rows known is h.1)),
   )
   as_before (OfRows Failed) h = tt

@@ -23,7 +23,7 @@ use Rattle.jv_model.specs.rows.RowFields.{◌>>=◌, whole}
 use Rattle.jv_model.specs.rows.RowGrammar.{record_at, record_bytes, records_at, is_list, list_bytes, list_of, row_of}
 use Rattle.jv_model.specs.rows.RowKeys.{RowMap}
 use Rattle.jv_model.specs.rows.RowPlaces.{list_key}
-use Rattle.jv_model.proofs.TestLaws.{some_of, and_false}
+use Rattle.jv_model.proofs.TestLaws.{some_of, and_false, if_some-by, of_known}
 use Rattle.jv_model.specs.Lists.{is_nil}
 use Rattle.jv_outside.specs.declared.batch.Change.{Change}
 use Rattle.jv_outside.specs.declared.batch.Change.TheVariants.{Put}
@@ -41,7 +41,6 @@ use Rattle.jv_rows.specs.Tables.{list_row}
 use Rattle.jv_rows.proofs.DraftLaws.{left_by, get-applied, spelled_cell, drafts_put}
 use Rattle.jv_rows.proofs.ExactListLaws.{list_exact}
 use Rattle.jv_rows.proofs.ReaderLaws.{some_is}
-use Rattle.jv_rows.proofs.TransactionLaws.{of_known, if_known}
 
 -- ---- records gone over one after the other
 
@@ -222,7 +221,7 @@ pub finds-stored : (changes : List Change) (key : RowKey) (before after : Store)
     → Finds before after result key → FindsLeft changes key before after result
 finds-stored changes key before after (Ok found) none f = (
   f.0,
-  if_known (λ known. found ≡ get (applied changes known) key) before.rows (λ known here. of_known (λ known. found ≡ get known key) before.rows known here f.1
+  if_some-by (λ known. found ≡ get (applied changes known) key) before.rows (λ known here. of_known (λ known. found ≡ get known key) before.rows known here f.1
       ∙ sym (get-applied changes known key ∙ ap (λ o. left_by o (get known key)) (sym none))),
 )
 finds-stored changes key before after (Err down) none f = f
@@ -231,7 +230,7 @@ pub finds-changed : (changes : List Change) (key : RowKey) (store : Store) (chan
     → found ≡ left_by (Some change) None → FindsLeft changes key store store (Ok found)
 finds-changed changes key store change found last is = (
   record { content_is = refl; opened_at = refl; calm = refl },
-  if_known (λ known. found ≡ get (applied changes known) key) store.rows (λ known here.
+  if_some-by (λ known. found ≡ get (applied changes known) key) store.rows (λ known here.
       is ∙ sym (get-applied changes known key ∙ ap (λ o. left_by o (get known key)) (sym last))),
 )
 
@@ -250,7 +249,7 @@ module _ (inode window : ℕ) (rec : Rec) (changes : List Change) where
     rows_are = f.0.content_is;
     opened_at = f.0.opened_at;
     counts = f.0.calm;
-    found = if_known (λ known. get (drafted changes known) key ≡ Some (Ok (OfList list))) before.rows (λ known here.
+    found = if_some-by (λ known. get (drafted changes known) key ≡ Some (Ok (OfList list))) before.rows (λ known here.
         there known (Some bytes) (of_known (λ known. Some bytes ≡ get (applied changes known) key) before.rows known here f.1)
         ∙ ap (λ c. Some c) (spelled_cell OfList list_of 4 list_row key refl bytes (Some list) r.found.0));
     allowed = r.found.1;
@@ -264,7 +263,7 @@ module _ (inode window : ℕ) (rec : Rec) (changes : List Change) where
     allowed = tt;
     refused = (
       r.refused.0,
-      if_known (λ known. get (drafted changes known) key ≡ Some (Err malformed)) before.rows (λ known here.
+      if_some-by (λ known. get (drafted changes known) key ≡ Some (Err malformed)) before.rows (λ known here.
           there known (Some bytes) (of_known (λ known. Some bytes ≡ get (applied changes known) key) before.rows known here f.1)
           ∙ ap (λ c. Some c) (spelled_cell OfList list_of 4 list_row key refl bytes None r.refused.2)
           ∙ ap (λ (b : List ℕ). Some (Err b)) (sym r.refused.1)),
@@ -288,7 +287,7 @@ module _ (inode window : ℕ) (rec : Rec) (changes : List Change) where
       rows_are = f.0.content_is;
       opened_at = f.0.opened_at;
       counts = f.0.calm;
-      found = if_known (λ known. get (drafted changes known) key ≡ None) before.rows (λ known here.
+      found = if_some-by (λ known. get (drafted changes known) key ≡ None) before.rows (λ known here.
           there known None (of_known (λ known. None ≡ get (applied changes known) key) before.rows known here f.1));
       allowed = tt;
       refused = tt;

@@ -24,7 +24,8 @@ use Rattle.jv_rows.specs.Transactions.{IsFor, Looks, Transacts}
 use Rattle.jv_rows.specs.Walks.{HasNodeRow, Comes}
 use Rattle.jv_rows.specs.declared.walking.Place.{Place}
 use Rattle.jv_rows.proofs.NeedingLaws.{session_is}
-use Rattle.jv_rows.proofs.TransactionLaws.{of_known, Past, past-start, past-as, past-looks, past-stops, transacts-exit}
+use Rattle.jv_rows.proofs.TransactionLaws.{Past, past-start, past-as, past-looks, past-stops, transacts-exit}
+use Rattle.jv_model.proofs.TestLaws.{of_known}
 
 -- the caller's session is the one that is asked for
 pub in_session-is : (who : Who) (caller : Caller) → IsFor who caller → (t : Tree) → in_session t caller ≡ session_is who.sid t

@@ -20,14 +20,11 @@ use Rattle.jv_rows.proofs.TransactionLaws.{Past, past-start}
 use Rattle.jv_rows.proofs.LooksLaws.{in_other_words, answered, refused, found_part, failed_part}
 use Rattle.jv_rows.proofs.StepLaws.{node_is}
 use Rattle.jv_rows.proofs.NamesLaws.{last_name_is, other_names_are}
+use Rattle.jv_model.proofs.TestLaws.{bound}
 
 -- an entry that isn't reached
 pub no_entry_place : {before after : Store} {asked : Tree → Result (ℕ × List ℕ) Fault} {fault : TxFault} → Looks before after (Err fault) asked → ComesToEntry before after (Err fault) asked
 no_entry_place looks = record { looks = looks; stands = tt; allowed = tt; directory = tt }
-
-bound : {A B C : Type 0} (found : Result A Fault) (f : A → Result B Fault) (g : B → Result C Fault) → ((found >>= f) >>= g) ≡ (found >>= λ x. f x >>= g)
-bound (Ok x) f g = refl
-bound (Err fault) f g = refl
 
 -- an entry of what is a directory or not, by a name that fits or doesn't
 abbrev entry_within : Bool → Bool → ℕ → List ℕ → Result EntryKey Fault

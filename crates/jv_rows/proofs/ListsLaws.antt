@@ -25,7 +25,7 @@ use Rattle.jv_rows.specs.Tables.{list_row}
 use Rattle.jv_rows.proofs.NextRowLaws.{word-less, word_below, IsRead, of_read}
 use Rattle.jv_rows.proofs.NumberedRowsLaws.{NumberedTable, number_at, HasNumber, has_number, read_place, read_row, read_cell, read_there, none_between}
 use Rattle.jv_rows.proofs.ScannedLaws.{off-scan}
-use Rattle.jv_rows.proofs.TransactionLaws.{if_known}
+use Rattle.jv_model.proofs.TestLaws.{if_some-by}
 
 -- the lists of files, by their windows
 abbrev lists : NumberedTable
@@ -76,7 +76,7 @@ list_is (Some records) row h = (records, cc)
 -- ---- the row wasn't read
 
 refuses : (last : Option RowKey) (before now : Store) (fault : RowFault) → RefusesScan before.rows 4 last 1 fault → RefusesList before.rows fault
-refuses last before now (Bad at bytes) h = if_known (λ known. get (typed known) at ≡ Some (Err bytes)) before.rows (off-scan 4 last 1 before now at bytes h)
+refuses last before now (Bad at bytes) h = if_some-by (λ known. get (typed known) at ≡ Some (Err bytes)) before.rows (off-scan 4 last 1 before now at bytes h)
 refuses last before now Failed h = tt
 refuses last before now Memory h = tt
 

@@ -5,6 +5,7 @@ use Rattle.std.specs.List.{onto_first}
 use Rattle.jv_model.specs.tree.Walk.{names_of, all_but_last, only_names}
 use Rattle.jv_model.specs.Lists.{parted, last_item}
 use Rattle.jv_rows.specs.Walks.{one_name}
+use Rattle.jv_model.proofs.ListLaws.{last_end}
 
 -- the names of a path that is left, behind the part of a name
 abbrev pub names_from : List ℕ → List ℕ → List (List ℕ)
@@ -46,13 +47,8 @@ names_from_start path = sym (from_parts path []) ∙ nothing_joined (parted 47 p
 
 -- ---- the last name
 
-last_in : (names : List (List ℕ)) (name : List ℕ) → last_item (names ++ name ∷ []) ≡ Some name
-last_in [] name = refl
-last_in (first ∷ []) name = refl
-last_in (first ∷ second ∷ names) name = last_in (second ∷ names) name
-
 pub last_name_is : {all : List (List ℕ)} (names : List (List ℕ)) (name : List ℕ) → all ≡ names ++ name ∷ [] → last_item all ≡ Some name
-last_name_is names name is = ap last_item is ∙ last_in names name
+last_name_is names name is = ap last_item is ∙ last_end names name
 
 others_in : (names : List (List ℕ)) (name : List ℕ) → all_but_last (names ++ name ∷ []) ≡ names
 others_in [] name = refl

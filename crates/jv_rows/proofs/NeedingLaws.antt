@@ -34,8 +34,9 @@ use Rattle.jv_rows.specs.Drafts.{Sees, Needs, IsNoRow, RefusesNeeded, drafted}
 use Rattle.jv_rows.specs.Readings.{ReadsRow}
 use Rattle.jv_rows.specs.Tables.{session_row}
 use Rattle.jv_rows.specs.Transactions.{is_needed, IsBad, Malformed, Lacks, BadFault, Looks}
-use Rattle.jv_rows.proofs.TransactionLaws.{FailsBy, Fails, of_known, if_known, fails-looks, fails-sees, stands-sees, as_stored}
+use Rattle.jv_rows.proofs.TransactionLaws.{FailsBy, Fails, fails-looks, fails-sees, stands-sees, as_stored}
 use Rattle.jv_rows.proofs.DraftLaws.{sees_stored}
+use Rattle.jv_model.proofs.TestLaws.{if_some-by, of_known}
 
 -- whether the session is there
 abbrev pub session_is : ℕ → Tree → Result (Unit {0}) Fault
@@ -72,7 +73,7 @@ module _ (sid : ℕ) (before after : Store) where
     agrees = λ known is whole bytes.
         let row = stands-sees OfSession is_session (session_key sid) [] before after (as_stored (session_key sid) before) None s known is in
         ap (λ o. require (is_some o) (Stale (GoneSession sid))) (no_session bytes (typed known) sid (ap (λ c. session_in (row_in c)) row));
-    bad = if_known (λ known. BadFault (typed known) (Refused (Stale (GoneSession sid)))) before.rows (λ known is. tt);
+    bad = if_some-by (λ known. BadFault (typed known) (Refused (Stale (GoneSession sid)))) before.rows (λ known is. tt);
   }
 
 -- ---- rows that each volume has

@@ -18,11 +18,10 @@ use Rattle.jv_model.specs.FiniteMap.{KeyOrder, Map, get, first_passing, first_wh
 use Rattle.jv_model.specs.rows.RowFields.{word, long}
 use Rattle.jv_model.specs.rows.RowGrammar.{row_of}
 use Rattle.jv_model.specs.rows.RowKeys.{RowMap, row_cmp, row_cmp_total}
-use Rattle.jv_model.proofs.TestLaws.{first_of_both, second_of_both, less_is, tie_is, nat_less}
+use Rattle.jv_model.proofs.TestLaws.{first_of_both, second_of_both, less_is, tie_is, nat_less, if_some-by, of_known}
 use Rattle.jv_outside.specs.Rows.{is_after, rows_after}
 use Rattle.jv_outside.specs.Store.{Store}
 use Rattle.jv_rows.specs.Scans.{row_then, rows_read, ScansRows}
-use Rattle.jv_rows.proofs.TransactionLaws.{of_known, if_known}
 
 -- ---- numbers and their bytes
 
@@ -224,7 +223,7 @@ module _ (tab : ℕ) (last : RowKey) (known : RowMap) (list : List (RowKey × Ro
 pub of_read : (P : RowMap → Type 0) (tab : ℕ) (last : RowKey) (before now : Store) (list : List (RowKey × Row))
     → ScansRows tab (Some last) 1 before now (Ok list) → (list ≡ [] → ⊥)
     → ((known : RowMap) (e : RowKey × List ℕ) → IsRead tab last known list e → P known) → IfSome before.rows P
-of_read P tab last before now list s some h = if_known P before.rows (λ known is. by_read known (reads-one tab last known list before now s is))
+of_read P tab last before now list s some h = if_some-by P before.rows (λ known is. by_read known (reads-one tab last known list before now s is))
   where
     by_read : (known : RowMap) → ReadsOne tab last known list → P known
     by_read known (NoRow first none) = absurd (some none)

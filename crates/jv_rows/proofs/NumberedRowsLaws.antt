@@ -12,7 +12,7 @@ use Rattle.jv_model.specs.declared.row.Row.{Row}
 use Rattle.jv_model.specs.declared.row.RowKey.{RowKey}
 use Rattle.jv_model.specs.FiniteMap.{get}
 use Rattle.jv_model.proofs.FiniteMapLaws.{first_where-found}
-use Rattle.jv_model.proofs.TestLaws.{known_is, none_unless}
+use Rattle.jv_model.proofs.TestLaws.{none_unless, of_known}
 use Rattle.jv_model.specs.rows.RowGrammar.{row_of}
 use Rattle.jv_model.specs.rows.RowKeys.{RowMap, row_key, row_cmp}
 use Rattle.jv_outside.specs.Store.{Store}
@@ -170,7 +170,7 @@ module _ (table : NumberedTable) (owner : ℕ) (last : Option ℕ) (known : RowM
       spells = ap (λ b. if b then Some n else None) (eq-eqb (length e.0.b) table.width wide)
 
       e_is : at n ≡ e.0
-      e_is = read_key n owner_is (known_is (number_in table e.0.b) n (λ m. e.0.b ≡ table.bytes_of m) spells spelled)
+      e_is = read_key n owner_is (of_known (λ m. e.0.b ≡ table.bytes_of m) (number_in table e.0.b) n spells spelled)
 
       number_is : number_at table owner last e.0 ≡ Some n
       number_is = ap (λ b. if b then if_past last (number_in table e.0.b) else None) (eq-eqb e.0.a owner owner_is) ∙ ap (if_past last) spells
@@ -178,7 +178,7 @@ module _ (table : NumberedTable) (owner : ℕ) (last : Option ℕ) (known : RowM
 
       not_between : ⊥
       not_between =
-          let has = known_is (number_at table owner last e.0) n (HasNumber table owner last e.0) number_is (has_number table owner last e.0 spelled) in
+          let has = of_known (HasNumber table owner last e.0) (number_at table owner last e.0) n number_is (has_number table owner last e.0 spelled) in
           let before : j < n = ltb-true j n (sym (ap (λ o. is_ahead o j) number_is) ∙ ahead) in
           not_behind (at j) e.0 (subst (λ k. row_cmp (at j) k ≡ Less) e_is (key-less table owner j n before has.small)) least
 

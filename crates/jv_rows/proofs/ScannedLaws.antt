@@ -18,7 +18,7 @@ use Rattle.jv_model.specs.declared.row.RowKey.{RowKey}
 use Rattle.jv_model.specs.FiniteMap.{KeyOrder, Map, get}
 use Rattle.jv_model.specs.rows.RowGrammar.{row_of}
 use Rattle.jv_model.specs.rows.RowKeys.{RowMap, row_key, row_cmp}
-use Rattle.jv_model.proofs.TestLaws.{first_of_both, second_of_both}
+use Rattle.jv_model.proofs.TestLaws.{first_of_both, second_of_both, of_known, same_Err}
 use Rattle.jv_model.proofs.FiniteMapLaws.{find-below_all, found_here}
 use Rattle.jv_outside.specs.Rows.{is_after, rows_after}
 use Rattle.jv_outside.specs.Store.{Store}
@@ -28,7 +28,8 @@ use Rattle.jv_volume.proofs.StoredLaws.{whole-typed}
 use Rattle.jv_volume.proofs.TypedLaws.{get-typed}
 use Rattle.jv_rows.specs.Scans.{row_then, rows_read, RefusesScan, ScansRows}
 use Rattle.jv_rows.specs.Transactions.{Malformed}
-use Rattle.jv_rows.proofs.TransactionLaws.{of_known, Fails, FailsBy}
+use Rattle.jv_rows.proofs.TransactionLaws.{Fails, FailsBy}
+use Rattle.jv_model.proofs.ListLaws.{all_filter}
 
 -- ---- keys in their order
 
@@ -73,26 +74,15 @@ module _ {K X : Type 0} (order : KeyOrder K) where
 -- ---- a scan that failed
 
 module _ {A : Type 0} (P : A → Type 0) where
-  all_kept : (b : Bool) (x : A) (xs : List A) → P x → AllByRecursion P xs → AllByRecursion P (cond b (x ∷ xs) xs)
-  all_kept true x xs p all = (p, all)
-  all_kept false x xs p all = all
-
-  all_filter : (test : A → Bool) (xs : List A) → AllByRecursion P xs → AllByRecursion P (filter test xs)
-  all_filter test [] all = tt
-  all_filter test (x ∷ xs) all = all_kept (test x) x (filter test xs) all.0 (all_filter test xs all.1)
-
   all_take : (n : ℕ) (xs : List A) → AllByRecursion P xs → AllByRecursion P (take n xs)
   all_take zero xs all = tt
   all_take (suc n) [] all = tt
   all_take (suc n) (x ∷ xs) all = (all.0, all_take n xs all.1)
 
-same_err : {A E : Type 0} (x y : E) → ◌≡◌ {A = Result A E} (Err x) (Err y) → x ≡ y
-same_err x y e = cc
-
 module _ (P : RowKey × List ℕ → Type 0) (off : RowKey × List ℕ) where
   off_at : (r : RowKey × List ℕ) (o : Option Row) (others : Result (List (RowKey × Row)) (RowKey × List ℕ)) → P r → (others ≡ Err off → P off)
       → row_then r.0 r.1 o others ≡ Err off → P off
-  off_at r None others p later e = subst P (same_err (r.0, r.1) off e) p
+  off_at r None others p later e = subst P (same_Err (r.0, r.1) off e) p
   off_at r (Some found) (Ok rest) p later e = absurd (true≢false (ap is_ok e))
   off_at r (Some found) (Err x) p later e = later e
 

@@ -33,16 +33,9 @@ use Rattle.jv_volume.proofs.StoredLaws.{whole-typed}
 use Rattle.jv_volume.proofs.QuietLaws.{quiet-none}
 use Rattle.jv_rows.specs.Drafts.{drafted, cell, Sees, RefusesCell}
 use Rattle.jv_rows.specs.Transactions.{FaultCause, TransactionCounts, IsBad, Malformed, BadFault, Agrees, Looks, Landed, Lands, Transacts}
+use Rattle.jv_model.proofs.TestLaws.{of_known, if_some-by}
 
 -- ---- known rows
-
--- what holds of rows where they are known, of those that are known
-pub of_known : (P : RowMap → Type 0) (rows : Option RowMap) (known : RowMap) → rows ≡ Some known → IfSome rows P → P known
-of_known P rows known is h = subst (λ o. IfSome o P) is h
-
-pub if_known : (P : RowMap → Type 0) (rows : Option RowMap) → ((known : RowMap) → rows ≡ Some known → P known) → IfSome rows P
-if_known P None f = tt
-if_known P (Some known) f = f known refl
 
 -- rows without changes
 pub drafted-none : (known : RowMap) → drafted [] known ≡ typed known
@@ -141,7 +134,7 @@ module _ {A : Type 0} (before after : Store) (act : Tree → Result A Fault) whe
     opened_at = f.opened_at;
     counts = f.cause;
     agrees = λ known is whole bytes. agrees_failed fault f.why known is whole (act (tree_of bytes (typed known)));
-    bad = if_known (λ known. BadFault (typed known) fault) before.rows (bad_failed fault f.why);
+    bad = if_some-by (λ known. BadFault (typed known) fault) before.rows (bad_failed fault f.why);
   }
 
 module _ {A : Type 0} (before middle after : Store) (act rest : Tree → Result A Fault) (p : Past before middle act rest) where
@@ -191,7 +184,7 @@ module _ {A : Type 0} (before after : Store) (act : Tree → Result A Fault) whe
     opened_at = p.opened_at;
     counts = p.calm;
     agrees = λ known is whole bytes. p.goes_on known is whole bytes;
-    bad = if_known (λ known. BadFault (typed known) (Refused fault)) before.rows (λ known is. tt);
+    bad = if_some-by (λ known. BadFault (typed known) (Refused fault)) before.rows (λ known is. tt);
   }
 
 -- a reading that fails at an exit by `?`

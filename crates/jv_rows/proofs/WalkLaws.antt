@@ -32,18 +32,19 @@ use Rattle.jv_rows.specs.Drafts.{Sees}
 use Rattle.jv_rows.specs.Transactions.{NamesNone, Lacks, Looks, names, is_needed}
 use Rattle.jv_rows.specs.Walks.{HasNodeRow, HasEdgeRow, Comes}
 use Rattle.jv_rows.specs.declared.walking.Place.{Place}
-use Rattle.jv_rows.proofs.TransactionLaws.{Past, of_known, if_known}
+use Rattle.jv_rows.proofs.TransactionLaws.{Past}
 use Rattle.jv_rows.proofs.LooksLaws.{last_part, answered, finds_bad, not_read, was_read, stands_there}
+use Rattle.jv_model.proofs.TestLaws.{if_some-by, of_known}
 
 -- ---- rows that were read
 
 pub has_node_row : {inode : ℕ} {node : NodeRow} {before after : Store} → Sees OfNode is_node (node_key inode) [] before after (Ok (Some node)) → HasNodeRow after inode node
 has_node_row {inode = inode} {node = node} {before = before} {after = after} r =
-    if_known _ after.rows (λ known is. stands_there OfNode is_node (node_key inode) before after (Some node) r known (sym r.rows_are ∙ is))
+    if_some-by _ after.rows (λ known is. stands_there OfNode is_node (node_key inode) before after (Some node) r known (sym r.rows_are ∙ is))
 
 pub has_edge_row : {dir : ℕ} {name : List ℕ} {edge : Edge} {before after : Store} → Sees OfEdge is_edge (edge_key dir name) [] before after (Ok (Some edge)) → HasEdgeRow after dir name edge
 has_edge_row {dir = dir} {name = name} {edge = edge} {before = before} {after = after} r =
-    if_known _ after.rows (λ known is. stands_there OfEdge is_edge (edge_key dir name) before after (Some edge) r known (sym r.rows_are ∙ is))
+    if_some-by _ after.rows (λ known is. stands_there OfEdge is_edge (edge_key dir name) before after (Some edge) r known (sym r.rows_are ∙ is))
 
 -- ---- a part of a walk that reaches a node
 
@@ -142,7 +143,7 @@ pub lacks_top : {before after : Store} (inode : ℕ) → IsTrue (is_top inode) �
     → Comes before after (Err (OfRows (Bad (node_key inode) []))) (λ t. Ok inode)
 lacks_top {before = before} {after = after} inode top r =
     failed_to_come (finds_bad (node_key inode) [] (was_read OfNode is_node (node_key inode) before after None (λ t. Ok inode) r)
-    (if_known _ before.rows (λ known is. Lacks (needs_top inode top) (stands_there OfNode is_node (node_key inode) before after None r known is) refl))
+    (if_some-by _ before.rows (λ known is. Lacks (needs_top inode top) (stands_there OfNode is_node (node_key inode) before after None r known is) refl))
     (λ known is whole. has_top known whole inode top (stands_there OfNode is_node (node_key inode) before after None r known is)))
 
 -- the node of an entry is absent
@@ -150,7 +151,7 @@ pub names_none : {before after : Store} (dir : ℕ) (name : List ℕ) (edge : Ed
     → Comes before after (Err (OfRows (Bad (edge_key dir name) (edge_bytes edge)))) (λ t. Ok edge.inode)
 names_none {before = before} {after = after} dir name edge there r =
     failed_to_come (finds_bad (edge_key dir name) (edge_bytes edge) (was_read OfNode is_node (node_key edge.inode) before after None (λ t. Ok edge.inode) r)
-    (if_known _ before.rows (λ known is. NamesNone (OfEdge edge) (node_key edge.inode) (of_known _ before.rows known is there) refl
+    (if_some-by _ before.rows (λ known is. NamesNone (OfEdge edge) (node_key edge.inode) (of_known _ before.rows known is there) refl
     (names_it (node_key edge.inode)) (stands_there OfNode is_node (node_key edge.inode) before after None r known is)))
     (λ known is whole. has_named known whole (record { dir = dir; name = name }) edge (of_known _ before.rows known is there) (stands_there OfNode is_node (node_key edge.inode) before after None r known is)))
 
@@ -162,7 +163,7 @@ pub lacks_parent : {before after : Store} (inode : ℕ) (node : NodeRow) → Has
     → Comes before after (Err (OfRows (Bad (node_key inode) (node_bytes node)))) (λ t. Ok node.parent)
 lacks_parent {before = before} {after = after} inode node there directory r =
     failed_to_come (finds_bad (node_key inode) (node_bytes node) (was_read OfNode is_node (node_key node.parent) before after None (λ t. Ok node.parent) r)
-    (if_known _ before.rows (λ known is. NamesNone (OfNode node) (node_key node.parent) (of_known _ before.rows known is there) refl
+    (if_some-by _ before.rows (λ known is. NamesNone (OfNode node) (node_key node.parent) (of_known _ before.rows known is there) refl
     (names_parent inode node directory) (stands_there OfNode is_node (node_key node.parent) before after None r known is)))
     (λ known is whole. has_parent known whole inode node (of_known _ before.rows known is there) directory (stands_there OfNode is_node (node_key node.parent) before after None r known is)))
 
@@ -178,5 +179,5 @@ no_parent {before = before} {after = after} inode node parent there directory r 
       counts = l.calm;
       agrees = λ known is whole bytes. absurd (has_directory known whole inode node parent (of_known _ before.rows known is there) directory
           (stands_there OfNode is_node (node_key node.parent) before after (Some parent) r known is) leaf);
-      bad = if_known _ before.rows (λ known is. tt);
+      bad = if_some-by _ before.rows (λ known is. tt);
     })

@@ -23,11 +23,11 @@ use Rattle.jv_rows.specs.Readings.{RowCause}
 use Rattle.jv_volume.specs.TypedRows.{Rows, typed}
 use Rattle.jv_volume.specs.TreeOf.{tree_of}
 use Rattle.jv_volume.specs.Whole.{Whole, Quiet}
+use Rattle.jv_model.specs.Optional.{mapped}
 
 -- whether there was an answer
 abbrev pub without_answer : {A : Type 0} → Result A TxFault → Result (Unit {0}) TxFault
-without_answer (Ok x) = Ok tt
-without_answer (Err fault) = Err fault
+without_answer result = mapped (λ x. tt) result
 
 -- in whose name the model's transaction is made: the session, the moment, and the open files of one
 -- who asks

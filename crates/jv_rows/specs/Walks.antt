@@ -19,6 +19,7 @@ use Rattle.jv_rows.specs.declared.walking.EntryPlace.{EntryPlace}
 use Rattle.jv_rows.specs.declared.walking.Leg.{Leg}
 use Rattle.jv_rows.specs.declared.walking.Leg.TheVariants.{Ends, Follows}
 use Rattle.jv_volume.specs.TypedRows.{typed}
+use Rattle.jv_model.specs.Optional.{mapped}
 
 -- where the rows are known, the row of a node stands at its inode
 abbrev pub HasNodeRow : Store → ℕ → Node → Type 0
@@ -30,16 +31,11 @@ abbrev pub HasEdgeRow : Store → ℕ → List ℕ → Edge → Type 0
 HasEdgeRow store dir name edge =
     IfSome store.rows (λ known. get (typed known) (edge_key dir name) ≡ Some (Ok (OfEdge edge)))
 
--- the inode of a place
-abbrev pub inode_in : Result Place TxFault → Result ℕ TxFault
-inode_in (Ok place) = Ok place.inode
-inode_in (Err fault) = Err fault
-
 -- A part of a walk that reaches a node: over whole rows it is the model's, and its row, one that
 -- the grammar allows, stands there.
 pub record Comes (before after : Store) (result : Result Place TxFault)
     (finds : Tree → Result ℕ Fault) : Type 0 where
-  pub looks : Looks before after (inode_in result) finds
+  pub looks : Looks before after (mapped (λ (place : Place). place.inode) result) finds
   pub stands : IfOk result (λ place. HasNodeRow after place.inode place.node)
   pub allowed : IfOk result (λ place. IsTrue (is_node place.node))
 
@@ -93,16 +89,15 @@ entry_pair t path = do
   at ← entry_of t path
   Ok (pair_in at)
 
--- the directory and the name of an entry
-abbrev pub entry_in : Result EntryPlace TxFault → Result (ℕ × List ℕ) TxFault
-entry_in (Ok entry) = Ok (entry.dir.inode, entry.name)
-entry_in (Err fault) = Err fault
+-- the directory's inode, and the entry's name
+abbrev pub pair_found : EntryPlace → ℕ × List ℕ
+pair_found entry = (entry.dir.inode, entry.name)
 
 -- A walk to an entry, whether that is there or not: over whole rows it is the model's, and its
 -- directory's row, one that the grammar allows, stands there.
 pub record ComesToEntry (before after : Store) (result : Result EntryPlace TxFault)
     (finds : Tree → Result (ℕ × List ℕ) Fault) : Type 0 where
-  pub looks : Looks before after (entry_in result) finds
+  pub looks : Looks before after (mapped pair_found result) finds
   pub stands : IfOk result (λ entry. HasNodeRow after entry.dir.inode entry.dir.node)
   pub allowed : IfOk result (λ entry. IsTrue (is_node entry.dir.node))
   pub directory : IfOk result (λ entry. entry.dir.node.kind ≡ 2)

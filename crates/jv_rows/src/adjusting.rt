@@ -1,5 +1,5 @@
 //! Counts of slices, brought in line with records that went and came.
-ghost use Rattle.std.specs.Prelude.{◌≡◌, ℕ, ◌||◌, true, if◌then◌else◌, is_some, None, Some, MatchOption, OnOk, IfOk, IsTrue};
+ghost use Rattle.std.specs.Prelude.{◌≡◌, ℕ, ◌||◌, if◌then◌else◌, is_some, None, Some, MatchOption, OnOk, IfOk, IsTrue};
 ghost use Rattle.std.specs.Ordering.{nat_cmp};
 ghost use Rattle.std.specs.BTreeMap.{get};
 ghost use Rattle.jv_model.specs.declared.row.Row.TheVariants.{OfSlice};

@@ -1,5 +1,5 @@
 //! One more record in the list of a window: its bytes go behind those of the row, which are gone over and not made a list.
-ghost use Rattle.std.specs.Prelude.{◌≡◌, ◌++◌, ◌∷◌, [], IfOk, OnOk, OnErr, IsTrue};
+ghost use Rattle.std.specs.Prelude.{◌≡◌, ◌++◌, ◌∷◌, [], IfOk, OnOk, OnErr};
 ghost use Rattle.jv_model.specs.declared.tables.TheConstants.{TABLE_OF_LISTS};
 ghost use Rattle.jv_model.specs.blocks.Slices.{IsRecord};
 ghost use Rattle.jv_model.specs.rows.RowGrammar.{record_bytes, list_of};

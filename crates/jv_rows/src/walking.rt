@@ -1,6 +1,6 @@
 //! Walks through a volume's rows (POSIX.1-2017, 4.13 "Pathname Resolution"). Each component costs one reading of an edge
 //! and one of a node.
-ghost use Rattle.std.specs.Prelude.{◌≡◌, true, ◌≤◌, ◌++◌, ◌&&◌, ◌||◌, ◌==◌, not, if◌then◌else◌, length, drop, Ok, IfOk, OnOk, OnErr, IsTrue};
+ghost use Rattle.std.specs.Prelude.{◌≡◌, true, ◌≤◌, ◌++◌, ◌&&◌, ◌||◌, ◌==◌, not, length, drop, Ok, IfOk, OnOk, IsTrue};
 ghost use Rattle.jv_model.specs.declared.fault.Fault.TheVariants.{NotFound};
 ghost use Rattle.jv_model.specs.declared.fault.RowFault.TheVariants.{Bad};
 ghost use Rattle.jv_model.specs.declared.fault.TxFault.TheVariants.{Rows as OfRows};

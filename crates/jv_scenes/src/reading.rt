@@ -1,4 +1,4 @@
-//! Reads scenes.
+//! Scenes, read from their lines, and why a line is none of theirs.
 use crate::device::WorldDevice;
 use crate::scene::{Altered, Fragment, Further, Repeat, Scene, SweepRun, Words};
 use jv_model::{Bytes, ClientId, LAST_MOMENT, Moment, Name, RowKey, Sequence, copied};

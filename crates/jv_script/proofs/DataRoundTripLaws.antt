@@ -10,7 +10,7 @@ use Rattle.std.proofs.lemmas.List.Splits.{slice_split_at, slice_split_none}
 use Rattle.std.proofs.lemmas.List.Sums.{AllPass-from_list_all}
 use Rattle.jv_model.specs.declared.limits.TheConstants.{MAX_DATA}
 use Rattle.jv_model.specs.script.Spelling.{is_decimal_digit, is_hex_digit, bytes_of_digits}
-use Rattle.jv_model.specs.script.Printed.{hex_digit, hex_pair, ByteRun, with_byte, runs_of, DataPart, Plain, Repeated, with_short, parts_of, part_text, data_text}
+use Rattle.jv_model.specs.script.Printed.{hex_digit, hex_pair, ByteRepeat, with_byte, repeats_of, DataPart, Plain, Repeated, with_short, parts_of, part_text, data_text}
 use Rattle.jv_model.specs.script.Grammar.{is_pairs, repeated_of, part_of, part_bytes, all_parts_of, data_of}
 use Rattle.jv_model.specs.Lists.{parted}
 use Rattle.jv_script.specs.Reading.{bytes_after}
@@ -106,10 +106,10 @@ parts_read part (next ∷ parts) (sound, others) =
 
 -- bytes are those of their parts
 
-abbrev run_bytes : List ByteRun → List ℕ
+abbrev run_bytes : List ByteRepeat → List ℕ
 run_bytes runs = flat_map (λ run. replicate run.count run.byte) runs
 
-with_byte-bytes : (byte : ℕ) (runs : List ByteRun) → run_bytes (with_byte byte runs) ≡ byte ∷ run_bytes runs
+with_byte-bytes : (byte : ℕ) (runs : List ByteRepeat) → run_bytes (with_byte byte runs) ≡ byte ∷ run_bytes runs
 with_byte-bytes byte [] = refl
 with_byte-bytes byte (run ∷ runs) = by_test (byte == run.byte) refl
   where
@@ -119,16 +119,16 @@ with_byte-bytes byte (run ∷ runs) = by_test (byte == run.byte) refl
         ap (λ (n : ℕ). replicate n byte ++ run_bytes runs) counted ∙ ap (λ (b : ℕ). byte ∷ replicate run.count b ++ run_bytes runs) (eqb-true byte run.byte same)
     by_test false other = refl
 
-runs_of-bytes : (bytes : List ℕ) → run_bytes (runs_of bytes) ≡ bytes
-runs_of-bytes [] = refl
-runs_of-bytes (byte ∷ bytes) = with_byte-bytes byte (runs_of bytes) ∙ ap (λ (bytes : List ℕ). byte ∷ bytes) (runs_of-bytes bytes)
+repeats_of-bytes : (bytes : List ℕ) → run_bytes (repeats_of bytes) ≡ bytes
+repeats_of-bytes [] = refl
+repeats_of-bytes (byte ∷ bytes) = with_byte-bytes byte (repeats_of bytes) ∙ ap (λ (bytes : List ℕ). byte ∷ bytes) (repeats_of-bytes bytes)
 
 with_short-bytes : (bytes : List ℕ) (parts : List DataPart) → flat_map part_bytes (with_short bytes parts) ≡ bytes ++ flat_map part_bytes parts
 with_short-bytes bytes [] = refl
 with_short-bytes bytes (Plain more ∷ parts) = append_assoc bytes more (flat_map part_bytes parts)
 with_short-bytes bytes (Repeated run ∷ parts) = refl
 
-parts_of-bytes : (runs : List ByteRun) → flat_map part_bytes (parts_of runs) ≡ run_bytes runs
+parts_of-bytes : (runs : List ByteRepeat) → flat_map part_bytes (parts_of runs) ≡ run_bytes runs
 parts_of-bytes [] = refl
 parts_of-bytes (run ∷ runs) = by_test (nat_le 4 run.count) ∙ ap (λ (bytes : List ℕ). replicate run.count run.byte ++ bytes) (parts_of-bytes runs)
   where
@@ -138,16 +138,16 @@ parts_of-bytes (run ∷ runs) = by_test (nat_le 4 run.count) ∙ ap (λ (bytes :
 
 -- and the parts are sound
 
-unfoldable AreSoundRuns : ℕ → List ByteRun → Type 0
+unfoldable AreSoundRuns : ℕ → List ByteRepeat → Type 0
 AreSoundRuns most [] = Unit {0}
 AreSoundRuns most (run ∷ runs) = (IsByte run.byte × (0 < run.count) × (run.count ≤ most)) × AreSoundRuns most runs
 
-longer : (most : ℕ) (runs : List ByteRun) → AreSoundRuns most runs → AreSoundRuns (suc most) runs
+longer : (most : ℕ) (runs : List ByteRepeat) → AreSoundRuns most runs → AreSoundRuns (suc most) runs
 unfolding AreSoundRuns
 longer most [] sound = tt
 longer most (run ∷ runs) ((byte, some, few), others) = ((byte, some, omega arith), longer most runs others)
 
-with_byte-sound : (most byte : ℕ) (runs : List ByteRun) → IsByte byte → AreSoundRuns most runs → AreSoundRuns (suc most) (with_byte byte runs)
+with_byte-sound : (most byte : ℕ) (runs : List ByteRepeat) → IsByte byte → AreSoundRuns most runs → AreSoundRuns (suc most) (with_byte byte runs)
 unfolding AreSoundRuns
 with_byte-sound most byte [] is sound = ((is, omega arith, omega arith), tt)
 with_byte-sound most byte (run ∷ runs) is ((first, some, few), others) = by_test (byte == run.byte)
@@ -156,10 +156,10 @@ with_byte-sound most byte (run ∷ runs) is ((first, some, few), others) = by_te
     by_test true = ((is, omega arith, omega arith), longer most runs others)
     by_test false = ((is, omega arith, omega arith), ((first, some, omega arith), longer most runs others))
 
-runs_sound : (bytes : List ℕ) → All IsByte bytes → AreSoundRuns (length bytes) (runs_of bytes)
+runs_sound : (bytes : List ℕ) → All IsByte bytes → AreSoundRuns (length bytes) (repeats_of bytes)
 unfolding AreSoundRuns
 runs_sound [] all = tt
-runs_sound (byte ∷ bytes) all = with_byte-sound (length bytes) byte (runs_of bytes) (all 0 0 (omega arith)) (runs_sound bytes (rest_bytes byte bytes all))
+runs_sound (byte ∷ bytes) all = with_byte-sound (length bytes) byte (repeats_of bytes) (all 0 0 (omega arith)) (runs_sound bytes (rest_bytes byte bytes all))
 
 all_replicated : (n byte : ℕ) → IsByte byte → All IsByte (replicate n byte)
 all_replicated zero byte is k d below = absurd (omega arith)
@@ -177,7 +177,7 @@ with_short-sound bytes [] all some sound = ((all, some), tt)
 with_short-sound bytes (Plain more ∷ parts) all some ((more_all, more_some), others) = ((all_appended bytes more all more_all, omega (arith, length-append bytes more)), others)
 with_short-sound bytes (Repeated run ∷ parts) all some sound = ((all, some), sound)
 
-parts_sound : (most : ℕ) (runs : List ByteRun) → most < 2 ^ 64 → AreSoundRuns most runs → AreSoundParts (parts_of runs)
+parts_sound : (most : ℕ) (runs : List ByteRepeat) → most < 2 ^ 64 → AreSoundRuns most runs → AreSoundParts (parts_of runs)
 unfolding AreSoundParts IsSoundPart AreSoundRuns
 parts_sound most [] small sound = tt
 parts_sound most (run ∷ runs) small ((byte, some, few), others) = by_test (nat_le 4 run.count) (parts_sound most runs small others)
@@ -214,4 +214,4 @@ data_read_again [] all few = refl
 data_read_again (byte ∷ bytes) all few =
     let whole = byte ∷ bytes in
     ap data_of (text_of whole (omega arith))
-    ∙ joined_read (parts_of (runs_of whole)) whole (parts_sound (length whole) (runs_of whole) (omega arith) (runs_sound whole all)) (parts_of-bytes (runs_of whole) ∙ runs_of-bytes whole) (omega arith) few
+    ∙ joined_read (parts_of (repeats_of whole)) whole (parts_sound (length whole) (repeats_of whole) (omega arith) (runs_sound whole all)) (parts_of-bytes (repeats_of whole) ∙ repeats_of-bytes whole) (omega arith) few

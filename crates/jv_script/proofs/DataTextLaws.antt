@@ -3,7 +3,7 @@ use Rattle.std.proofs.Common.{nat_le, ◌≡◌, ℕ, ◌<◌, ◌==◌, Bool, t
 use Rattle.std.specs.List.{flat_map}
 use Rattle.std.proofs.lemmas.Bool.{ne_eqb}
 use Rattle.std.proofs.lemmas.List.{append-nil, append_assoc}
-use Rattle.jv_model.specs.script.Printed.{hex_pair, ByteRun, runs_of, DataPart, Plain, Repeated, with_short, parts_of, part_text}
+use Rattle.jv_model.specs.script.Printed.{hex_pair, ByteRepeat, repeats_of, DataPart, Plain, Repeated, with_short, parts_of, part_text}
 use Rattle.jv_script.specs.Printing.{joint, joined, parts_text, rest_text}
 use Rattle.jv_script.proofs.RepeatLaws.{with_byte-first}
 
@@ -14,10 +14,10 @@ at_start (Plain bytes ∷ parts) = refl
 at_start (Repeated run ∷ parts) = refl
 
 -- bytes of which some are there have a part
-some_parts : (bytes : List ℕ) → 0 < length bytes → (part : DataPart) × (parts : List DataPart) × (parts_of (runs_of bytes) ≡ part ∷ parts)
+some_parts : (bytes : List ℕ) → 0 < length bytes → (part : DataPart) × (parts : List DataPart) × (parts_of (repeats_of bytes) ≡ part ∷ parts)
 some_parts [] some = absurd (omega arith)
 some_parts (byte ∷ bytes) some =
-    let first = with_byte-first byte (runs_of bytes) in
+    let first = with_byte-first byte (repeats_of bytes) in
     let (part, parts, are) = of_run (record { byte = byte; count = first.0 }) first.1 in
     (part, parts, ap parts_of first.3 ∙ are)
   where
@@ -26,7 +26,7 @@ some_parts (byte ∷ bytes) some =
     after_short bytes (Plain more ∷ parts) = (Plain (bytes ++ more), parts, refl)
     after_short bytes (Repeated run ∷ parts) = (Plain bytes, Repeated run ∷ parts, refl)
 
-    of_run : (run : ByteRun) (runs : List ByteRun) → (part : DataPart) × (parts : List DataPart) × (parts_of (run ∷ runs) ≡ part ∷ parts)
+    of_run : (run : ByteRepeat) (runs : List ByteRepeat) → (part : DataPart) × (parts : List DataPart) × (parts_of (run ∷ runs) ≡ part ∷ parts)
     of_run run runs = by_test (nat_le 4 run.count)
       where
         by_test : (v : Bool) → (part : DataPart) × (parts : List DataPart) × (cond v (Repeated run ∷ parts_of runs) (with_short (replicate run.count run.byte) (parts_of runs)) ≡ part ∷ parts)
@@ -34,18 +34,18 @@ some_parts (byte ∷ bytes) some =
         by_test false = after_short (replicate run.count run.byte) (parts_of runs)
 
 -- a part, and the text of the bytes after it
-joined_before : (part : DataPart) (bytes : List ℕ) → joined (part ∷ parts_of (runs_of bytes)) ≡ part_text part ++ (joint (not (length bytes == 0)) ++ rest_text bytes false)
+joined_before : (part : DataPart) (bytes : List ℕ) → joined (part ∷ parts_of (repeats_of bytes)) ≡ part_text part ++ (joint (not (length bytes == 0)) ++ rest_text bytes false)
 joined_before part [] = sym (append-nil (part_text part))
 joined_before part (byte ∷ bytes) =
     let (next, parts, are) = some_parts (byte ∷ bytes) (omega arith) in
     let some : length (byte ∷ bytes) == 0 ≡ false = ne_eqb (length (byte ∷ bytes)) 0 (λ e. absurd (omega (arith, e))) in
     rw some
     (ap (λ (parts : List DataPart). joined (part ∷ parts)) are
-    ∙ sym (ap (λ (text : List ℕ). part_text part ++ 43 ∷ text) (at_start (parts_of (runs_of (byte ∷ bytes))) ∙ ap joined are)))
+    ∙ sym (ap (λ (text : List ℕ). part_text part ++ 43 ∷ text) (at_start (parts_of (repeats_of (byte ∷ bytes))) ∙ ap joined are)))
 
 -- a long repeat is printed, after a plain part or not
-pub long_printed : (old first new bytes rest : List ℕ) (run : ByteRun) (inside : Bool) → first ≡ old ++ joint inside → new ≡ first ++ part_text (Repeated run) ++ joint (not (length rest == 0))
-    → parts_of (runs_of bytes) ≡ Repeated run ∷ parts_of (runs_of rest) → new ++ rest_text rest false ≡ old ++ rest_text bytes inside
+pub long_printed : (old first new bytes rest : List ℕ) (run : ByteRepeat) (inside : Bool) → first ≡ old ++ joint inside → new ≡ first ++ part_text (Repeated run) ++ joint (not (length rest == 0))
+    → parts_of (repeats_of bytes) ≡ Repeated run ∷ parts_of (repeats_of rest) → new ++ rest_text rest false ≡ old ++ rest_text bytes inside
 long_printed old first new bytes rest run inside opened repeated parts =
     let after = joint (not (length rest == 0)) in
     let more = rest_text rest false in
@@ -56,12 +56,12 @@ long_printed old first new bytes rest run inside opened repeated parts =
     ∙ ap (λ (text : List ℕ). old ++ text) (ap (λ (text : List ℕ). joint inside ++ text) (sym (joined_before (Repeated run) rest))
     ∙ sym (ap (λ (parts : List DataPart). parts_text parts inside) parts ∙ opened_by inside))
   where
-    opened_by : (inside : Bool) → parts_text (Repeated run ∷ parts_of (runs_of rest)) inside ≡ joint inside ++ joined (Repeated run ∷ parts_of (runs_of rest))
+    opened_by : (inside : Bool) → parts_text (Repeated run ∷ parts_of (repeats_of rest)) inside ≡ joint inside ++ joined (Repeated run ∷ parts_of (repeats_of rest))
     opened_by true = refl
     opened_by false = refl
 
 -- the rest of a plain part is printed
-pub plain_printed : (old first new bytes plain rest : List ℕ) → first ≡ old ++ flat_map hex_pair plain → new ≡ first ++ joint (not (length rest == 0)) → parts_of (runs_of bytes) ≡ Plain plain ∷ parts_of (runs_of rest)
+pub plain_printed : (old first new bytes plain rest : List ℕ) → first ≡ old ++ flat_map hex_pair plain → new ≡ first ++ joint (not (length rest == 0)) → parts_of (repeats_of bytes) ≡ Plain plain ∷ parts_of (repeats_of rest)
     → (was : Bool) → new ++ rest_text rest false ≡ old ++ rest_text bytes was
 plain_printed old first new bytes plain rest printed closed parts was =
     let after = joint (not (length rest == 0)) in

@@ -4,43 +4,43 @@ use Rattle.std.specs.List.{flat_map, join_with_byte}
 use Rattle.std.proofs.lemmas.Bool.{eq-eqb, eqb-true, ne_eqb, le-leb, lt-leb, cases_lt, false≢true, false_from_ne_true}
 use Rattle.std.proofs.lemmas.List.{append-nil, append_assoc, take-append-drop, length-take, length-take-le, length-drop, length-replicate, get_or-take, get_or-drop, get_or-replicate, drop-drop}
 use Rattle.std.proofs.lemmas.Grind.{same_number_lists}
-use Rattle.jv_model.specs.script.Printed.{ByteRun, with_byte, runs_of, DataPart, Plain, Repeated, with_short, parts_of, part_text, data_text}
+use Rattle.jv_model.specs.script.Printed.{ByteRepeat, with_byte, repeats_of, DataPart, Plain, Repeated, with_short, parts_of, part_text, data_text}
 use Rattle.jv_script.specs.Printing.{IsFirstRepeat, IsFrontCount, begins_long, HasNoLongBefore}
 
 -- one more byte in front makes a run of that byte the first
-pub with_byte-first : (byte : ℕ) (runs : List ByteRun) → (count : ℕ) × (more : List ByteRun) × (1 ≤ count) × (with_byte byte runs ≡ record { byte = byte; count = count } ∷ more)
+pub with_byte-first : (byte : ℕ) (runs : List ByteRepeat) → (count : ℕ) × (more : List ByteRepeat) × (1 ≤ count) × (with_byte byte runs ≡ record { byte = byte; count = count } ∷ more)
 with_byte-first byte [] = (1, [], omega arith, refl)
 with_byte-first byte (run ∷ runs) = either (eqb byte run.byte)
   where
-    either : (v : Bool) → (count : ℕ) × (more : List ByteRun) × (1 ≤ count) × (cond v (record { byte = byte; count = run.count + 1 } ∷ runs) (record { byte = byte; count = 1 } ∷ run ∷ runs) ≡ record { byte = byte; count = count } ∷ more)
+    either : (v : Bool) → (count : ℕ) × (more : List ByteRepeat) × (1 ≤ count) × (cond v (record { byte = byte; count = run.count + 1 } ∷ runs) (record { byte = byte; count = 1 } ∷ run ∷ runs) ≡ record { byte = byte; count = count } ∷ more)
     either true = (run.count + 1, runs, omega arith, refl)
     either false = (1, run ∷ runs, omega arith, refl)
 
 -- a byte before another one is a run of its own
-runs_of_next : (b : ℕ) (ys : List ℕ) → (0 < length ys → get_or ys 0 0 ≢ b) → runs_of (b ∷ ys) ≡ record { byte = b; count = 1 } ∷ runs_of ys
-runs_of_next b [] other = refl
-runs_of_next b (y ∷ ys) other =
-    let first = with_byte-first y (runs_of ys) in
+repeats_of_next : (b : ℕ) (ys : List ℕ) → (0 < length ys → get_or ys 0 0 ≢ b) → repeats_of (b ∷ ys) ≡ record { byte = b; count = 1 } ∷ repeats_of ys
+repeats_of_next b [] other = refl
+repeats_of_next b (y ∷ ys) other =
+    let first = with_byte-first y (repeats_of ys) in
     let apart : with_byte b (record { byte = y; count = first.0 } ∷ first.1) ≡ record { byte = b; count = 1 } ∷ record { byte = y; count = first.0 } ∷ first.1 =
     rw (ne_eqb b y (λ e. other (omega arith) (sym e))) refl in
-    ap (with_byte b) first.3 ∙ apart ∙ ap (λ (rs : List ByteRun). record { byte = b; count = 1 } ∷ rs) (sym first.3)
+    ap (with_byte b) first.3 ∙ apart ∙ ap (λ (rs : List ByteRepeat). record { byte = b; count = 1 } ∷ rs) (sym first.3)
 
 -- equal bytes before another one are one run
-runs_of_same : (b n : ℕ) (ys : List ℕ) → (0 < length ys → get_or ys 0 0 ≢ b) → runs_of (replicate (suc n) b ++ ys) ≡ record { byte = b; count = suc n } ∷ runs_of ys
-runs_of_same b zero ys other = runs_of_next b ys other
-runs_of_same b (suc n) ys other =
-    let one_more : with_byte b (record { byte = b; count = suc n } ∷ runs_of ys) ≡ record { byte = b; count = suc n + 1 } ∷ runs_of ys = rw (eq-eqb b b refl) refl in
+repeats_of_same : (b n : ℕ) (ys : List ℕ) → (0 < length ys → get_or ys 0 0 ≢ b) → repeats_of (replicate (suc n) b ++ ys) ≡ record { byte = b; count = suc n } ∷ repeats_of ys
+repeats_of_same b zero ys other = repeats_of_next b ys other
+repeats_of_same b (suc n) ys other =
+    let one_more : with_byte b (record { byte = b; count = suc n } ∷ repeats_of ys) ≡ record { byte = b; count = suc n + 1 } ∷ repeats_of ys = rw (eq-eqb b b refl) refl in
     let counted : suc n + 1 ≡ suc (suc n) = omega arith in
-    ap (with_byte b) (runs_of_same b n ys other) ∙ one_more ∙ ap (λ (count : ℕ). record { byte = b; count = count } ∷ runs_of ys) counted
+    ap (with_byte b) (repeats_of_same b n ys other) ∙ one_more ∙ ap (λ (count : ℕ). record { byte = b; count = count } ∷ repeats_of ys) counted
 
 -- the same for the first of a list
-runs_of_front : (b n : ℕ) (bytes : List ℕ) → 0 < n → take n bytes ≡ replicate n b → (n < length bytes → get_or bytes n 0 ≢ b) → runs_of bytes ≡ record { byte = b; count = n } ∷ runs_of (drop n bytes)
-runs_of_front b zero bytes some same other = absurd (omega arith)
-runs_of_front b (suc n) bytes some same other =
+repeats_of_front : (b n : ℕ) (bytes : List ℕ) → 0 < n → take n bytes ≡ replicate n b → (n < length bytes → get_or bytes n 0 ≢ b) → repeats_of bytes ≡ record { byte = b; count = n } ∷ repeats_of (drop n bytes)
+repeats_of_front b zero bytes some same other = absurd (omega arith)
+repeats_of_front b (suc n) bytes some same other =
     let cut : bytes ≡ replicate (suc n) b ++ drop (suc n) bytes = sym (take-append-drop (suc n) bytes) ∙ ap (λ front. front ++ drop (suc n) bytes) same in
     let place : suc n + 0 ≡ suc n = omega arith in
     let moved : get_or (drop (suc n) bytes) 0 0 ≡ get_or bytes (suc n) 0 = get_or-drop (suc n) bytes 0 0 ∙ ap (λ (i : ℕ). get_or bytes i 0) place in
-    ap runs_of cut ∙ runs_of_same b n (drop (suc n) bytes) (λ left e. other (omega (arith, length-drop (suc n) bytes)) (sym moved ∙ e))
+    ap repeats_of cut ∙ repeats_of_same b n (drop (suc n) bytes) (λ left e. other (omega (arith, length-drop (suc n) bytes)) (sym moved ∙ e))
 
 -- equal bytes from the first on, and another byte after them
 pub first_repeat : (bytes : List ℕ) (n : ℕ) → 0 < length bytes → n ≤ length bytes → ((k : ℕ) → k < n → get_or bytes k 0 ≡ get_or bytes 0 0) → (n < length bytes → get_or bytes n 0 ≢ get_or bytes 0 0) → IsFirstRepeat bytes n
@@ -52,30 +52,30 @@ first_repeat bytes (suc n) nonempty within each other =
     same_number_lists (take (suc n) bytes) (replicate (suc n) b) lengths (λ k below.
     let in_run : k < suc n = omega (arith, length-take (suc n) bytes) in
     get_or-take (suc n) bytes k 0 in_run ∙ each k in_run ∙ sym (get_or-replicate (suc n) k b 0 in_run)) in
-    record { some = omega arith; within = within; same = same; runs = runs_of_front b (suc n) bytes (omega arith) same other }
+    record { some = omega arith; within = within; same = same; runs = repeats_of_front b (suc n) bytes (omega arith) same other }
 
 -- a long repeat is the first part
-pub long_part : (bytes : List ℕ) (n : ℕ) → IsFirstRepeat bytes n → 4 ≤ n → parts_of (runs_of bytes) ≡ Repeated (record { byte = get_or bytes 0 0; count = n }) ∷ parts_of (runs_of (drop n bytes))
+pub long_part : (bytes : List ℕ) (n : ℕ) → IsFirstRepeat bytes n → 4 ≤ n → parts_of (repeats_of bytes) ≡ Repeated (record { byte = get_or bytes 0 0; count = n }) ∷ parts_of (repeats_of (drop n bytes))
 long_part bytes n first long = ap parts_of first.runs ∙ rw (le-leb 4 n long) refl
 
-with_byte-same : (a n : ℕ) (more : List ByteRun) → with_byte a (record { byte = a; count = n } ∷ more) ≡ record { byte = a; count = n + 1 } ∷ more
+with_byte-same : (a n : ℕ) (more : List ByteRepeat) → with_byte a (record { byte = a; count = n } ∷ more) ≡ record { byte = a; count = n + 1 } ∷ more
 with_byte-same a n more = rw (eq-eqb a a refl) refl
 
-abbrev first_count : List ByteRun → ℕ
+abbrev first_count : List ByteRepeat → ℕ
 first_count [] = 0
 first_count (run ∷ _) = run.count
 
-abbrev first_byte : List ByteRun → ℕ
+abbrev first_byte : List ByteRepeat → ℕ
 first_byte [] = 0
 first_byte (run ∷ _) = run.byte
 
 -- four equal bytes begin a run of four or more
-four_counted : (a : ℕ) (ys : List ℕ) → 4 ≤ first_count (runs_of (a ∷ a ∷ a ∷ a ∷ ys))
+four_counted : (a : ℕ) (ys : List ℕ) → 4 ≤ first_count (repeats_of (a ∷ a ∷ a ∷ a ∷ ys))
 four_counted a ys =
-    let (n, more, some, first) = with_byte-first a (runs_of ys) in
+    let (n, more, some, first) = with_byte-first a (repeats_of ys) in
     let second = ap (with_byte a) first ∙ with_byte-same a n more in
     let third = ap (with_byte a) second ∙ with_byte-same a (n + 1) more in
-    let fourth : runs_of (a ∷ a ∷ a ∷ a ∷ ys) ≡ record { byte = a; count = n + 1 + 1 + 1 } ∷ more = ap (with_byte a) third ∙ with_byte-same a (n + 1 + 1) more in
+    let fourth : repeats_of (a ∷ a ∷ a ∷ a ∷ ys) ≡ record { byte = a; count = n + 1 + 1 + 1 } ∷ more = ap (with_byte a) third ∙ with_byte-same a (n + 1 + 1) more in
     omega (arith, ap first_count fourth)
 
 -- bytes that are equal by the test
@@ -91,7 +91,7 @@ all_equal a b c d same = by_tests (a == b) (b == c) (c == d) refl refl refl same
     by_tests true false w first second third same = absurd (false≢true same)
     by_tests false v w first second third same = absurd (false≢true same)
 
-long_counted : (bytes : List ℕ) → begins_long bytes ≡ true → 4 ≤ first_count (runs_of bytes)
+long_counted : (bytes : List ℕ) → begins_long bytes ≡ true → 4 ≤ first_count (repeats_of bytes)
 long_counted [] long = absurd (false≢true long)
 long_counted (a ∷ []) long = absurd (false≢true long)
 long_counted (a ∷ b ∷ []) long = absurd (false≢true long)
@@ -103,28 +103,28 @@ pub long_first : (bytes : List ℕ) (n : ℕ) → begins_long bytes ≡ true →
 long_first bytes n long first = omega (arith, long_counted bytes long, ap first_count first.runs)
 
 -- the bytes of the first run are equal
-run_equal : (bytes : List ℕ) (byte n : ℕ) (more : List ByteRun) → runs_of bytes ≡ record { byte = byte; count = n } ∷ more → (k : ℕ) → k < n → (k < length bytes) × (get_or bytes k 0 ≡ byte)
-run_equal [] byte n more e k below = absurd (omega (arith, ap (λ (runs : List ByteRun). length runs) e))
-run_equal (x ∷ xs) byte n more e k below = by_runs (λ run runs whole k below. run_equal xs run.byte run.count runs whole k below) (runs_of xs) refl e
+run_equal : (bytes : List ℕ) (byte n : ℕ) (more : List ByteRepeat) → repeats_of bytes ≡ record { byte = byte; count = n } ∷ more → (k : ℕ) → k < n → (k < length bytes) × (get_or bytes k 0 ≡ byte)
+run_equal [] byte n more e k below = absurd (omega (arith, ap (λ (runs : List ByteRepeat). length runs) e))
+run_equal (x ∷ xs) byte n more e k below = by_runs (λ run runs whole k below. run_equal xs run.byte run.count runs whole k below) (repeats_of xs) refl e
   where
-    alone : (rest : List ByteRun) → record { byte = x; count = 1 } ∷ rest ≡ record { byte = byte; count = n } ∷ more → (k < length (x ∷ xs)) × (get_or (x ∷ xs) k 0 ≡ byte)
+    alone : (rest : List ByteRepeat) → record { byte = x; count = 1 } ∷ rest ≡ record { byte = byte; count = n } ∷ more → (k < length (x ∷ xs)) × (get_or (x ∷ xs) k 0 ≡ byte)
     alone rest e =
         let zero_th : k ≡ 0 = omega (arith, ap first_count e) in
         (omega arith, ap (λ (k : ℕ). get_or (x ∷ xs) k 0) zero_th ∙ ap first_byte e)
 
-    joined : (run : ByteRun) (runs : List ByteRun) → ((k : ℕ) → k < run.count → (k < length xs) × (get_or xs k 0 ≡ run.byte)) → x ≡ run.byte → record { byte = x; count = run.count + 1 } ∷ runs ≡ record { byte = byte; count = n } ∷ more → (k : ℕ) → k < n
+    joined : (run : ByteRepeat) (runs : List ByteRepeat) → ((k : ℕ) → k < run.count → (k < length xs) × (get_or xs k 0 ≡ run.byte)) → x ≡ run.byte → record { byte = x; count = run.count + 1 } ∷ runs ≡ record { byte = byte; count = n } ∷ more → (k : ℕ) → k < n
         → (k < length (x ∷ xs)) × (get_or (x ∷ xs) k 0 ≡ byte)
     joined run runs each same e zero below = (omega arith, ap first_byte e)
     joined run runs each same e (suc k) below =
         let (within, is) = each k (omega (arith, ap first_count e)) in
         (omega arith, is ∙ sym same ∙ ap first_byte e)
 
-    by_test : (v : Bool) (run : ByteRun) (runs : List ByteRun) → ((k : ℕ) → k < run.count → (k < length xs) × (get_or xs k 0 ≡ run.byte)) → x == run.byte ≡ v
+    by_test : (v : Bool) (run : ByteRepeat) (runs : List ByteRepeat) → ((k : ℕ) → k < run.count → (k < length xs) × (get_or xs k 0 ≡ run.byte)) → x == run.byte ≡ v
         → cond v (record { byte = x; count = run.count + 1 } ∷ runs) (record { byte = x; count = 1 } ∷ run ∷ runs) ≡ record { byte = byte; count = n } ∷ more → (k < length (x ∷ xs)) × (get_or (x ∷ xs) k 0 ≡ byte)
     by_test true run runs each same e = joined run runs each (eqb-true x run.byte same) e k below
     by_test false run runs each same e = alone (run ∷ runs) e
 
-    by_runs : ((run : ByteRun) (runs : List ByteRun) → runs_of xs ≡ run ∷ runs → (k : ℕ) → k < run.count → (k < length xs) × (get_or xs k 0 ≡ run.byte)) → (runs : List ByteRun) → runs_of xs ≡ runs → with_byte x runs ≡ record { byte = byte; count = n } ∷ more
+    by_runs : ((run : ByteRepeat) (runs : List ByteRepeat) → repeats_of xs ≡ run ∷ runs → (k : ℕ) → k < run.count → (k < length xs) × (get_or xs k 0 ≡ run.byte)) → (runs : List ByteRepeat) → repeats_of xs ≡ runs → with_byte x runs ≡ record { byte = byte; count = n } ∷ more
         → (k < length (x ∷ xs)) × (get_or (x ∷ xs) k 0 ≡ byte)
     by_runs again [] whole e = alone [] e
     by_runs again (run ∷ runs) whole e = by_test (x == run.byte) run runs (again run runs whole) refl e
@@ -145,7 +145,7 @@ with_short-append xs ys (Plain more ∷ parts) = ap (λ (bytes : List ℕ). Plai
 with_short-append xs ys (Repeated run ∷ parts) = refl
 
 -- one more byte before a run that stays short goes into the part after it
-short_more : (b y n : ℕ) (more : List ByteRun) → (b ≡ y → n < 3) → parts_of (with_byte b (record { byte = y; count = n } ∷ more)) ≡ with_short (b ∷ []) (parts_of (record { byte = y; count = n } ∷ more))
+short_more : (b y n : ℕ) (more : List ByteRepeat) → (b ≡ y → n < 3) → parts_of (with_byte b (record { byte = y; count = n } ∷ more)) ≡ with_short (b ∷ []) (parts_of (record { byte = y; count = n } ∷ more))
 short_more b y n more short = by_test (b == y) refl
   where
     by_test : (v : Bool) → b == y ≡ v → parts_of (cond v (record { byte = b; count = n + 1 } ∷ more) (record { byte = b; count = 1 } ∷ record { byte = y; count = n } ∷ more)) ≡ with_short (b ∷ []) (parts_of (record { byte = y; count = n } ∷ more))
@@ -157,26 +157,26 @@ short_more b y n more short = by_test (b == y) refl
     by_test false other = refl
 
 -- a byte that begins no long run goes into the part after it
-pub short_first : (b : ℕ) (ys : List ℕ) → begins_long (b ∷ ys) ≡ false → parts_of (runs_of (b ∷ ys)) ≡ with_short (b ∷ []) (parts_of (runs_of ys))
+pub short_first : (b : ℕ) (ys : List ℕ) → begins_long (b ∷ ys) ≡ false → parts_of (repeats_of (b ∷ ys)) ≡ with_short (b ∷ []) (parts_of (repeats_of ys))
 short_first b [] short = refl
 short_first b (y ∷ ys) short =
-    let (n, more, some, first) = with_byte-first y (runs_of ys) in
+    let (n, more, some, first) = with_byte-first y (repeats_of ys) in
     let fewer : b ≡ y → n < 3 = λ same. elim (cases_lt n 3) [
       | inl less ↦ less
       | inr ge ↦ absurd (false≢true (sym short ∙ three_equal b (y ∷ ys) (λ k below. let (within, is) = run_equal (y ∷ ys) y n more first k (omega arith) in (within, is ∙ sym same))))
     ] in
-    ap (λ (runs : List ByteRun). parts_of (with_byte b runs)) first ∙ short_more b y n more fewer ∙ ap (λ (runs : List ByteRun). with_short (b ∷ []) (parts_of runs)) (sym first)
+    ap (λ (runs : List ByteRepeat). parts_of (with_byte b runs)) first ∙ short_more b y n more fewer ∙ ap (λ (runs : List ByteRepeat). with_short (b ∷ []) (parts_of runs)) (sym first)
 
 -- bytes that begin no long repeat, before one or the end, are the first part
 pub plain_part : (n : ℕ) (bytes : List ℕ) → 0 < n → n ≤ length bytes → HasNoLongBefore n bytes → (n < length bytes → begins_long (drop n bytes) ≡ true)
-    → parts_of (runs_of bytes) ≡ Plain (take n bytes) ∷ parts_of (runs_of (drop n bytes))
+    → parts_of (repeats_of bytes) ≡ Plain (take n bytes) ∷ parts_of (repeats_of (drop n bytes))
 plain_part zero bytes some within short ends = absurd (omega arith)
 plain_part (suc n) [] some within short ends = absurd (omega arith)
 plain_part (suc zero) (b ∷ []) some within short ends = refl
 plain_part (suc zero) (b ∷ y ∷ ys) some within short ends =
-    short_first b (y ∷ ys) (short 0 (omega arith)) ∙ before_long (runs_of (y ∷ ys)) (long_counted (y ∷ ys) (ends (omega arith)))
+    short_first b (y ∷ ys) (short 0 (omega arith)) ∙ before_long (repeats_of (y ∷ ys)) (long_counted (y ∷ ys) (ends (omega arith)))
   where
-    before_long : (runs : List ByteRun) → 4 ≤ first_count runs → with_short (b ∷ []) (parts_of runs) ≡ Plain (b ∷ []) ∷ parts_of runs
+    before_long : (runs : List ByteRepeat) → 4 ≤ first_count runs → with_short (b ∷ []) (parts_of runs) ≡ Plain (b ∷ []) ∷ parts_of runs
     before_long [] long = absurd (omega arith)
     before_long (run ∷ runs) long = rw (le-leb 4 run.count long) refl
 plain_part (suc (suc n)) (b ∷ ys) some within short ends =
@@ -184,7 +184,7 @@ plain_part (suc (suc n)) (b ∷ ys) some within short ends =
     short_first b ys (short 0 (omega arith)) ∙ ap (with_short (b ∷ [])) later
 
 -- bytes of which some were there, by their parts
-pub text_of : (bytes : List ℕ) → 0 < length bytes → data_text bytes ≡ join_with_byte 43 (map part_text (parts_of (runs_of bytes)))
+pub text_of : (bytes : List ℕ) → 0 < length bytes → data_text bytes ≡ join_with_byte 43 (map part_text (parts_of (repeats_of bytes)))
 unfolding data_text
 text_of [] some = absurd (omega arith)
 text_of (byte ∷ bytes) some = refl

@@ -3,14 +3,14 @@ use Rattle.std.specs.Prelude.{Bool, true, false, ◌&&◌, ◌==◌, ◌≡◌, 
 use Rattle.std.specs.List.{join_with_byte}
 use Rattle.jv_model.specs.declared.op.Reply.{Reply}
 use Rattle.jv_model.specs.declared.op.Reply.TheVariants as reply
-use Rattle.jv_model.specs.script.Printed.{DataPart, Plain, Repeated, runs_of, parts_of, part_text}
+use Rattle.jv_model.specs.script.Printed.{DataPart, Plain, Repeated, repeats_of, parts_of, part_text}
 
 -- the first n bytes are equal, and the next one, if any, is another
 pub record IsFirstRepeat (bytes : List ℕ) (n : ℕ) : Type 0 where
   pub some : 0 < n
   pub within : n ≤ length bytes
   pub same : take n bytes ≡ replicate n (slice_index bytes 0)
-  pub runs : runs_of bytes ≡ record { byte = slice_index bytes 0; count = n } ∷ runs_of
+  pub runs : repeats_of bytes ≡ record { byte = slice_index bytes 0; count = n } ∷ repeats_of
       (drop n bytes)
 
 -- the first four bytes are equal: a long repeat begins there
@@ -32,7 +32,8 @@ HasNoLongBefore n bytes = (k : ℕ) → k < n → begins_long (drop k bytes) ≡
 pub record IsPlainFront (bytes : List ℕ) (n : ℕ) : Type 0 where
   pub some : 0 < n
   pub within : n ≤ length bytes
-  pub parts : parts_of (runs_of bytes) ≡ Plain (take n bytes) ∷ parts_of (runs_of (drop n bytes))
+  pub parts : parts_of (repeats_of bytes)
+      ≡ Plain (take n bytes) ∷ parts_of (repeats_of (drop n bytes))
 
 -- a `+`, where one is needed
 abbrev pub joint : Bool → List ℕ
@@ -50,7 +51,7 @@ parts_text parts _ = joined parts
 
 -- the text of the bytes to come
 abbrev pub rest_text : List ℕ → Bool → List ℕ
-rest_text bytes is_inside = parts_text (parts_of (runs_of bytes)) is_inside
+rest_text bytes is_inside = parts_text (parts_of (repeats_of bytes)) is_inside
 
 -- the bytes before the rest were appended to a text, which was within a plain part or not, and now
 -- is or not

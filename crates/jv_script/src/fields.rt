@@ -1,5 +1,5 @@
 //! Clients, numbers and modes, read.
-ghost use Rattle.std.specs.Prelude.{◌≡◌, ◌-◌, ◌<◌, ◌≤◌, ◌^◌, if◌then◌else◌, Some, None, IfSome};
+ghost use Rattle.std.specs.Prelude.{◌≡◌, ◌-◌, ◌<◌, ◌≤◌, if◌then◌else◌, Some, None, IfSome};
 ghost use Rattle.std.specs.List.{list_all};
 ghost use Rattle.jv_model.specs.script.Spelling.{client_of, mode_of, number_of, length_of, is_numeral, is_decimal_digit, is_octal_digit};
 ghost use Rattle.jv_model.specs.script.Grammar.{number_up_to, seconds_of};
@@ -46,7 +46,7 @@ fn octal_value(digit: u8) -> Option<u16>
 
 /// A decimal number without leading zeros, of 64 bits at most.
 #[tactic(auto, unfolding(jv_model::specs::script::Spelling::number_of))]
-pub fn number(digits: &[u8]) -> Option<u64>
+pub(crate) fn number(digits: &[u8]) -> Option<u64>
     ensures { result ≡ number_of digits.now }
 {
     if !is_numeral(digits) {

@@ -21,7 +21,7 @@ mod word_cuts;
 
 pub use bad_line::BadLine;
 pub use data::read_data;
-pub use fields::{is_numeral, number};
+pub use fields::is_numeral;
 pub use hex_text::hex_pair;
 pub use laws::{
     data_is_read_again, names_are_read_again, paths_are_read_again, targets_are_read_again,

@@ -1,5 +1,5 @@
 //! Printed answers.
-ghost use Rattle.std.specs.Prelude.{◌≡◌, true, ◌∷◌, ◌++◌, codes, IfOk, OnOk};
+ghost use Rattle.std.specs.Prelude.{◌≡◌, true, ◌++◌, codes, IfOk, OnOk};
 ghost use Rattle.jv_model.specs.script.Printed.{data_text, ok_text};
 ghost use Rattle.jv_model.specs.script.ReplyText.{reply_text, printed_line};
 ghost use Rattle.jv_script.specs.Printing.{is_counts};

@@ -63,10 +63,6 @@ module _ {X : Type 0} where
   set_own (z ∷ zs) zero x y e = same_Some x y e
   set_own (z ∷ zs) (suc i) x y e = set_own zs i x y e
 
-  pub if_some-by : (P : X → Type 0) (o : Option X) → ((x : X) → o ≡ Some x → P x) → IfSome o P
-  if_some-by P None h = tt
-  if_some-by P (Some x) h = h x refl
-
 -- slices in flight still have numbers of their own where the one that changed has another number than the rest
 module _ (clients : List ClientValue) (i : ℕ) (new : ClientValue) (h : AreApart clients)
     (rest : (k : ℕ) (c : ClientValue) → (k ≡ i → ⊥) → slice_get clients k ≡ Some c → 0 < in_flight c

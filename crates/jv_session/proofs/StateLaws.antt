@@ -23,7 +23,8 @@ use Rattle.jv_client.proofs.HeldLaws.{holds-later}
 use Rattle.jv_client.proofs.KeptLaws.{client-stays}
 use Rattle.jv_session.specs.Stands.{IsState, IsClientAt}
 use Rattle.jv_session.specs.InLine.{at_moment}
-use Rattle.jv_session.proofs.MemberLaws.{apart_set, each-set, if_some-by}
+use Rattle.jv_session.proofs.MemberLaws.{apart_set, each-set}
+use Rattle.jv_model.proofs.TestLaws.{if_some-by}
 
 -- one of them, at its place
 pub client_at : (start : Start) (g : Known) (q : State) (clients : List ClientValue) (v : Shared) (k : ℕ)

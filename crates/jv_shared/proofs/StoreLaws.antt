@@ -8,7 +8,6 @@ use Rattle.jv_model.specs.declared.slice.Rec.{Rec}
 use Rattle.jv_model.specs.rows.RowKeys.{RowMap}
 use Rattle.jv_model.specs.blocks.Slices.{block_at, block_count}
 use Rattle.jv_model.specs.tree.Tree.{Content, Tree, content_at}
-use Rattle.jv_model.proofs.TestLaws.{known_is}
 use Rattle.jv_model.specs.blocks.BlockNames.{name_in}
 use Rattle.jv_outside.specs.Blocks.{staged_at}
 use Rattle.jv_outside.specs.Objects.{ObjectMap, bytes_at}
@@ -29,6 +28,7 @@ use Rattle.jv_shared.proofs.DirectLaws.{has_named-there, looked_has}
 use Rattle.jv_shared.proofs.SeenLaws.{looked_shows, named_there}
 use Rattle.jv_shared.proofs.SettingLaws.{setting_length}
 use Rattle.jv_shared.proofs.KeepingLaws.{shows-keeps}
+use Rattle.jv_model.proofs.TestLaws.{of_known}
 
 -- a block of a depot has the numbers of one
 pub present_block : (setting : Setting) (objects : ObjectMap) (b : BlockId) (bytes : List ℕ) → blocks_in setting objects b ≡ Some bytes
@@ -113,7 +113,7 @@ module _ (t : Tree) (g : Known) (v : Shared) (s : HasStore t g v) where
       by_since (Some since) e =
           let staged : IsSome (staged_since client (name_in v.yard.setting b) v.yard.staged) = ap is_some e in
           let found : value ≡ staged_at client (name_in v.yard.setting b) s.staged =
-          known_is v.yard.shelf.content s.staged (λ some. value ≡ staged_at client (name_in v.yard.setting b) some) s.staged_are
+          of_known (λ some. value ≡ staged_at client (name_in v.yard.setting b) some) v.yard.shelf.content s.staged s.staged_are
           (subst (λ o. IsBlockBy o v.yard client (name_in v.yard.setting b) value) e read) in
           found ∙ sym (by_copy staged (staged_at client (name_in v.yard.setting b) s.staged) refl
           (s.kept.there s.staged s.staged_are client (name_in v.yard.setting b) low staged))

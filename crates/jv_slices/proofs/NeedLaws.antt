@@ -3,7 +3,7 @@ use Rattle.std.proofs.Common.{◌≡◌, ℕ, zero, suc, ◌+◌, ◌-◌, ◌/�
 use Rattle.std.specs.Prelude.{◌&&◌, ◌||◌, ◌==◌, All}
 use Rattle.std.specs.List.{list_any, flat_map, range_with_len, IsDistinct}
 use Rattle.std.specs.Cmp.{IsEquivalence, nat_eq_equiv}
-use Rattle.std.proofs.lemmas.Bool.{cases_Bool, cases_lt, and_parts, eqb-true}
+use Rattle.std.proofs.lemmas.Bool.{cases_Bool, cases_lt, and_parts, eqb-true, or_right}
 use Rattle.std.proofs.lemmas.Map.Keys.{IsDistinct-push}
 use Rattle.std.proofs.lemmas.Map.Steps.{list_any_congr}
 use Rattle.std.proofs.lemmas.Map.Views.{Contains-from_any}
@@ -133,16 +133,12 @@ needs_are_few block list from to pieces wide plan =
 any_in_range : (id size block start n index : ℕ) → start ≤ index → index < start + n → list_any (is_same_block (block_at id size block index)) (map (block_at id size block) (range_with_len start n)) ≡ true
 any_in_range id size block start zero index low high = absurd (omega arith)
 any_in_range id size block start (suc n) index low high =
-    ⊎_elim (λ (later : start < index). on (is_same_block (block_at id size block index) (block_at id size block start)) (any_in_range id size block (start + 1) n index (omega arith) (omega arith)))
+    ⊎_elim (λ (later : start < index). or_right (is_same_block (block_at id size block index) (block_at id size block start)) _ (any_in_range id size block (start + 1) n index (omega arith) (omega arith)))
     (λ (here : index ≤ start).
     let same : index ≡ start = omega arith in
     let first : is_same_block (block_at id size block index) (block_at id size block start) ≡ true = ap (λ (i : ℕ). is_same_block (block_at id size block index) (block_at id size block i)) (sym same) ∙ same_self (block_at id size block index) in
     ap (λ b. b || list_any (is_same_block (block_at id size block index)) (map (block_at id size block) (range_with_len (start + 1) n))) first)
     (cases_lt start index)
-  where
-    on : (x : Bool) {y : Bool} → y ≡ true → (x || y) ≡ true
-    on true e = refl
-    on false e = e
 
 has_byte : (block : ℕ) (pieces : List Piece) (k : ℕ) (piece : Piece) (b : BlockId) → slice_get pieces k ≡ Some piece → list_any (is_same_block b) (blocks_of_piece block piece) ≡ true → list_any (is_same_block b) (flat_map (blocks_of_piece block) pieces) ≡ true
 has_byte block [] k piece b e h = let never : ⊥ = cc in absurd never
@@ -153,11 +149,7 @@ has_byte block (p ∷ ps) zero piece b e h =
     ∙ ap (λ x. x || list_any (is_same_block b) (flat_map (blocks_of_piece block) ps)) front
 has_byte block (p ∷ ps) (suc k) piece b e h =
     ap (list_any (is_same_block b)) (flat_map-cons (blocks_of_piece block) p ps) ∙ list_any-append (is_same_block b) (blocks_of_piece block p) (flat_map (blocks_of_piece block) ps)
-    ∙ on (list_any (is_same_block b) (blocks_of_piece block p)) (has_byte block ps k piece b e h)
-  where
-    on : (x : Bool) {y : Bool} → y ≡ true → (x || y) ≡ true
-    on true e = refl
-    on false e = e
+    ∙ or_right (list_any (is_same_block b) (blocks_of_piece block p)) _ (has_byte block ps k piece b e h)
 
 pub needs_have_each_byte : NeedsHaveEachByte
 needs_have_each_byte block pieces k piece id size at n wide there spot below =

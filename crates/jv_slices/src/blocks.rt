@@ -1,7 +1,6 @@
 //! Blocks of slices, and which of them pieces need.
-ghost use Rattle.std.specs.Prelude.{◌≡◌, ℕ, ◌<◌, ◌≤◌, ◌/◌, ◌+◌, ◌-◌, ◌++◌, ◌↔◌, [], All, IfOk, IsNone, IsTrue, OnOk, not, sum, fold};
+ghost use Rattle.std.specs.Prelude.{◌≡◌, ◌<◌, ◌/◌, ◌+◌, ◌-◌, ◌↔◌, [], All, IfOk, IsNone, IsTrue, OnOk, not, sum, fold};
 ghost use Rattle.std.specs.List.{list_any};
-ghost use Rattle.jv_model.specs.declared.slice.BlockId.{BlockId as BlockSeen};
 ghost use Rattle.jv_slices.specs.Listing.{AreFew, ListsIn};
 ghost use Rattle.jv_model.specs.blocks.Slices.{IsPart, is_same_block, block_count, block_length, block_lengths, needed_blocks, with_block, blocks_of_piece};
 

@@ -1,5 +1,5 @@
 //! What records show of a range, as stretches of positions.
-ghost use Rattle.std.specs.Prelude.{◌≡◌, ◌≢◌, ◌↔◌, ℕ, [], ◌∷◌, ◌+◌, ◌-◌, ◌<◌, ◌≤◌, false, IsTrue, All, drop, filter, length, Option, OnOk, IfOk, slice_index_or};
+ghost use Rattle.std.specs.Prelude.{◌≡◌, ◌≢◌, ◌↔◌, ℕ, ◌+◌, ◌-◌, ◌<◌, ◌≤◌, false, IsTrue, All, drop, filter, length, Option, OnOk, IfOk, slice_index_or};
 ghost use Rattle.std.specs.Option.{option_or};
 ghost use Rattle.jv_model.specs.declared.slice.Rec.{Rec as RecSeen};
 ghost use Rattle.jv_model.specs.blocks.Slices.{IsRecord, visible};

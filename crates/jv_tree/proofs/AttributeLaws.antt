@@ -21,7 +21,7 @@ use Rattle.jv_model.specs.tree.Changes.{status_changed, put_node}
 use Rattle.jv_model.specs.tree.Reading.{with_attributes, chmod, chown, utimes}
 use Rattle.jv_model.specs.tree.Tree.{Tree, Node, in_trash, node_at, parent_of, kind_space}
 use Rattle.jv_model.specs.tree.Walk.{inode_by, inode_of}
-use Rattle.jv_model.proofs.TestLaws.{some_same}
+use Rattle.jv_model.proofs.TestLaws.{of_known}
 use Rattle.jv_outside.specs.declared.batch.Change.{Change}
 use Rattle.jv_outside.specs.Rows.{applied}
 use Rattle.jv_outside.specs.Store.{Store, Commits}
@@ -43,9 +43,10 @@ use Rattle.jv_rows.specs.Drafts.{Drafts, drafted}
 use Rattle.jv_rows.specs.Transactions.{IsFor, Transacts, Always, Landed}
 use Rattle.jv_rows.specs.Walks.{Comes}
 use Rattle.jv_rows.specs.declared.walking.Place.{Place}
-use Rattle.jv_rows.proofs.TransactionLaws.{of_known, Past, FailsBy, past-start, past-as, past-fails, transacts-refused, transacts-exit}
+use Rattle.jv_rows.proofs.TransactionLaws.{Past, FailsBy, past-start, past-as, past-fails, transacts-refused, transacts-exit}
 use Rattle.jv_rows.proofs.ArrivalLaws.{past-place, stops-place}
 use Rattle.jv_tree.specs.Attributes.{changeable_inode, HasPut, PutsNode, IsNotBad}
+use Rattle.std.proofs.lemmas.Option.{same_Some}
 
 -- ---- a row that was put
 
@@ -140,7 +141,7 @@ module _ (rows : Rows) (whole : Whole rows) (inode : ℕ) (row new : NodeRow) (t
   pub changed-whole : Whole changed_rows
   changed-whole = record {
     cells = rows-alter rows (node_key inode) (Some (Ok (OfNode new))) whole.cells
-        (λ x e. subst (λ c. IsRowAt (node_key inode) c) (some_same (Ok (OfNode new)) x e) (record { key_is = refl; cell_is = refl }));
+        (λ x e. subst (λ c. IsRowAt (node_key inode) c) (same_Some (Ok (OfNode new)) x e) (record { key_is = refl; cell_is = refl }));
     stored = stored-change_node no_bytes rows inode row new whole.stored there
         (is.row_is row.nlink (no_bytes inode) (subst (λ l. IsNodeRow l (no_bytes inode) row) (sym has.links) has.row_is)) is.kind
         (ap kind_space (is.kind_is (no_bytes inode)));

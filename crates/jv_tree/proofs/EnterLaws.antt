@@ -25,7 +25,7 @@ use Rattle.jv_rows.specs.Drafts.{drafted, cell, Drafts, Needs}
 use Rattle.jv_rows.specs.Transactions.{BadFault, Transacts}
 use Rattle.jv_rows.specs.Walks.{HasNodeRow}
 use Rattle.jv_rows.proofs.NeedingLaws.{SettingNeeded, CountersNeeded, fails-needed, stands-needs}
-use Rattle.jv_rows.proofs.TransactionLaws.{Past, Fails, past-start, past-calm, past-fails, fails-looks, transacts-refused, transacts-commits, drafted-none, of_known, if_known, none_kept}
+use Rattle.jv_rows.proofs.TransactionLaws.{Past, Fails, past-start, past-calm, past-fails, fails-looks, transacts-refused, transacts-commits, drafted-none, none_kept}
 use Rattle.jv_volume.specs.TypedRows.{Cell, Rows, typed}
 use Rattle.jv_volume.specs.Views.{row_in, setting_in, setting_at, counters_in, counters_at, node_in, node_row_at}
 use Rattle.jv_volume.specs.TreeOf.{tree_of}
@@ -34,6 +34,7 @@ use Rattle.jv_volume.proofs.MadeRowsLaws.{made_rows}
 use Rattle.jv_tree.specs.Entering.{IsFreePlace, IsNewKind, place_of, new_row, enter, has_room, one_more}
 use Rattle.jv_tree.proofs.EnteringLaws.{enter-full, enter-linked_full, enter-done, whole-entered, quiet-entered}
 use Rattle.jv_volume.specs.Stored.{links_by, directory_touched}
+use Rattle.jv_model.proofs.TestLaws.{if_some-by, of_known}
 
 -- one more change that was made
 pub was_drafted : {E : Type 0} (key : RowKey) (stands : Option Cell) (before after : List Change) (result : Result (Unit {0}) E) → result ≡ Ok tt
@@ -50,7 +51,7 @@ refused-ready ready before after reply act rest p fault h = record {
   counts = p.calm;
   undone = p.rows_are;
   lands = h;
-  bad = if_known (λ known. BadFault (typed known) (Refused fault)) before.rows (λ known is. tt);
+  bad = if_some-by (λ known. BadFault (typed known) (Refused fault)) before.rows (λ known is. tt);
 }
 
 module _ (before : Store) (changes : List Change) (none : changes ≡ []) (now mode : ℕ) (place : EntryPlace) (kind : Kind) (reply : ℕ → Reply) where

@@ -12,16 +12,16 @@ use Rattle.jv_model.specs.declared.row.RowKey.{RowKey}
 use Rattle.jv_model.specs.rows.RowGrammar.{row_of, edge_of}
 use Rattle.jv_model.specs.rows.RowKeys.{RowMap}
 use Rattle.jv_model.specs.rows.RowPlaces.{edge_key}
-use Rattle.jv_model.proofs.TestLaws.{some_same}
+use Rattle.jv_model.proofs.TestLaws.{if_some-by, of_known}
 use Rattle.jv_outside.specs.Rows.{rows_after}
 use Rattle.jv_outside.specs.Store.{Store}
 use Rattle.jv_rows.specs.Scans.{row_then, rows_read, ScansRows}
 use Rattle.jv_rows.specs.Tables.{edge_row}
-use Rattle.jv_rows.proofs.TransactionLaws.{of_known, if_known}
 use Rattle.jv_tree.specs.Directories.{last_of, is_entry, entry_then, entries_within, all_within}
 use Rattle.jv_tree.proofs.DirectoryLaws.{edge_then, entries_from, edges_after, IsReadSoFar, IsReadTo}
 use Rattle.jv_tree.proofs.EdgeOrderLaws.{behind, Chain, last_or, IsAtMost, chain-behind, last-above, chain-table, suffix, behind-again}
 use Rattle.jv_rows.proofs.ScannedLaws.{number-rises}
+use Rattle.std.proofs.lemmas.Option.{same_Some}
 
 -- ---- the last row of a list
 
@@ -34,7 +34,7 @@ last_is (x ∷ y ∷ page) r (suc i) len is = last_is (y ∷ page) r i (omega (a
 
 last_of-from : (k : RowKey) (list : List (RowKey × Row)) (key : RowKey) → last_of list ≡ Some key → last_or k list ≡ key
 last_of-from k [] key e = absurd (true≢false (sym (ap is_some e)))
-last_of-from k (r ∷ []) key e = some_same r.0 key e
+last_of-from k (r ∷ []) key e = same_Some r.0 key e
 last_of-from k (r ∷ x ∷ rows) key e = last_of-from r.0 (x ∷ rows) key e
 
 last_some : (r : RowKey × Row) (rows : List (RowKey × Row)) → is_some (last_of (r ∷ rows)) ≡ true
@@ -68,7 +68,7 @@ record EdgeRead (bytes : List ℕ) (row : Row) : Type 0 where
 
 edge_by : (bytes : List ℕ) (row : Row) (o : Option Edge) → edge_of bytes ≡ o → option_map OfEdge o ≡ Some row → EdgeRead bytes row
 edge_by bytes row None e h = absurd (true≢false (sym (ap is_some h)))
-edge_by bytes row (Some edge) e h = record { edge = edge; spelled = e; is = sym (some_same (OfEdge edge) row h) }
+edge_by bytes row (Some edge) e h = record { edge = edge; spelled = e; is = sym (same_Some (OfEdge edge) row h) }
 
 -- a row of the table of edges is an edge
 edge_is : (key : RowKey) (bytes : List ℕ) (row : Row) → key.tab ≡ TABLE_OF_EDGES → row_of key.tab bytes ≡ Some row → EdgeRead bytes row
@@ -223,7 +223,7 @@ read-start dir name entries start no_name none = record {
   rows_are = refl;
   opened_at = refl;
   calm = refl;
-  so_far = if_known (λ known. IsReadSoFar known dir (record { tab = TABLE_OF_EDGES; a = dir; b = name }) entries) start.rows (λ known is. record {
+  so_far = if_some-by (λ known. IsReadSoFar known dir (record { tab = TABLE_OF_EDGES; a = dir; b = name }) entries) start.rows (λ known is. record {
     table = refl;
     number = refl;
     parts = λ i. sym none i ++ entries_from dir (edges_after (record { tab = TABLE_OF_EDGES; a = dir; b = sym no_name i }) known);
@@ -244,7 +244,7 @@ module _ (dir n : ℕ) (start now after : Store) (last : RowKey) (entries new : 
     rows_are = scan.rows_are ∙ so_far.rows_are;
     opened_at = scan.opened_at ∙ so_far.opened_at;
     calm = scan.counts ∙ so_far.calm;
-    so_far = if_known (λ known. IsReadSoFar known dir key new) start.rows (λ known is.
+    so_far = if_some-by (λ known. IsReadSoFar known dir key new) start.rows (λ known is.
         subst (IsReadSoFar known dir key) (sym adds) (so_far-more dir n known last entries list (reached known is) (read_known known is) key last_key all));
   }
 

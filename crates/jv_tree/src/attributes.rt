@@ -1,5 +1,5 @@
 //! Changes of attributes, by POSIX.1-2017's "fchmodat", "fchownat" and "utimensat".
-ghost use Rattle.std.specs.Prelude.{◌≡◌, ◌≤◌, IsTrue};
+ghost use Rattle.std.specs.Prelude.{◌≤◌, IsTrue};
 ghost use Rattle.jv_model.specs.declared.limits.TheConstants.{MAX_MODE};
 ghost use Rattle.jv_model.specs.declared.op.Reply.TheVariants as reply;
 ghost use Rattle.jv_model.specs.tree.Caller.{Caller};

@@ -12,7 +12,8 @@ use Rattle.jv_model.specs.tree.Walk.{is_dot, is_dot_dot, names_of, entry_of, onl
 use Rattle.jv_model.specs.tree.Making.{may_be_new, new_place}
 use Rattle.jv_model.specs.Lists.{is_nil, parted, last_item, has_no_zero}
 use Rattle.jv_volume.specs.TypedRows.{is_entry_name}
-use Rattle.jv_volume.proofs.WalkShapeLaws.{went_on, required, was_some, same_Ok, above, of_dir, of_length, of_name}
+use Rattle.jv_volume.proofs.WalkShapeLaws.{went_on, required, was_some, above, of_dir, of_length, of_name}
+use Rattle.jv_model.proofs.TestLaws.{same_Ok}
 
 -- no slash, and no byte 0
 abbrev is_plain : List ℕ → Bool

@@ -44,6 +44,7 @@ pub mod TableStepLaws
 pub mod SelectOrderLaws
 pub mod ReadLaws
 pub mod ReleaseLaws
+pub mod ListSumLaws
 pub mod QuietLaws
 pub mod SeenLaws
 pub mod FilesLaws

@@ -1,8 +1,8 @@
 -- Finite maps: entries by key, and what a map of changed values answers.
 use Rattle.std.proofs.Common.{◌≡◌, ◌≢◌, ℕ, ◌+◌, Bool, true, false, cond, T, ◌&&◌, List, [], ◌∷◌, map, Option, None, Some, option_map, refl, sym, ap, subst, ◌∙◌, arith}
 use Rattle.std.specs.Ordering.{eq_by_cmp, is_lt}
-use Rattle.std.specs.FinMap.Entries.{find, below_all, is_sorted}
-use Rattle.jv_model.specs.FiniteMap.{KeyOrder, Map, get, insert, remove, alter, sum_over, total_over}
+use Rattle.std.specs.FinMap.Entries.{find, below_all, is_sorted, where_key}
+use Rattle.jv_model.specs.FiniteMap.{KeyOrder, Map, get, insert, remove, alter, sum_over, total_over, retain_keys}
 use Rattle.jv_model.proofs.FiniteMapLaws.{share, get-alter, same_maps, sum-insert, sum-remove}
 use Rattle.jv_volume.proofs.ShapeMapLaws.{tied_here, tied_same}
 pub use Rattle.jv_volume.proofs.ShapeMapLaws.{get-alter-here, get-alter-apart}
@@ -142,3 +142,26 @@ module _ {K X : Type 0} (order : KeyOrder K) (m : Map order X) where
 
   pub remove-absent : (k : K) → get m k ≡ None → remove m k ≡ m
   remove-absent k none = alter-same k None none
+
+-- ---- a sum over some of the entries
+
+module _ {K X : Type 0} (order : KeyOrder K) (f : K → X → ℕ) (test : K → Bool) (nothing : (k : K) (x : X) → test k ≡ false → f k x ≡ 0) where
+  total-where_at : (e : K × X) (es : List (K × X)) (b : Bool) → test e.0 ≡ b → total_over f (where_key order.cmp test es) ≡ total_over f es
+      → total_over f (cond b (e ∷ where_key order.cmp test es) (where_key order.cmp test es)) ≡ f e.0 e.1 + total_over f es
+  total-where_at e es true t rest = omega (arith, rest)
+  total-where_at e es false t rest = omega (arith, rest, nothing e.0 e.1 t)
+
+  total-where : (es : List (K × X)) → total_over f (where_key order.cmp test es) ≡ total_over f es
+  total-where [] = refl
+  total-where (e ∷ es) = total-where_at e es (test e.0) refl (total-where es)
+
+  -- a function that is 0 elsewhere has the sum of the entries whose keys pass
+  pub sum-retain_keys : (m : Map order X) → sum_over f (retain_keys test m) ≡ sum_over f m
+  unfolding sum_over retain_keys
+  sum-retain_keys m = total-where m.list
+
+-- a sum with another value at one key
+pub sum-alter : {K X : Type 0} (order : KeyOrder K) (f : K → X → ℕ) (m : Map order X) (k : K) (x : Option X)
+    → sum_over f (alter m k x) + share f k (get m k) ≡ sum_over f m + share f k x
+sum-alter order f m k None = let without = sum-remove order f m k in omega (arith, without)
+sum-alter order f m k (Some x) = sum-insert order f m k x

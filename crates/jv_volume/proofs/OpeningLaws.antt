@@ -24,9 +24,10 @@ use Rattle.jv_model.specs.client.OpForms.{opens_file}
 use Rattle.jv_volume.specs.Shape.{Regular, Shape, WholeShape, form_of, is_there, is_dir, shape_of}
 use Rattle.jv_volume.specs.Holding.{IsHoldable}
 use Rattle.jv_volume.proofs.ShapeMapLaws.{get-inserted, shape-put_entry, is_directory-form}
-use Rattle.jv_volume.proofs.WalkShapeLaws.{went_on, required, same_Ok, onwards, root_directory, path_named}
+use Rattle.jv_volume.proofs.WalkShapeLaws.{went_on, required, onwards, root_directory, path_named}
 use Rattle.jv_volume.proofs.OperationShapeLaws.{is_entered}
 use Rattle.jv_volume.proofs.ReplyLaws.{opens_none}
+use Rattle.jv_model.proofs.TestLaws.{same_Ok}
 
 -- where a followed walk leads
 

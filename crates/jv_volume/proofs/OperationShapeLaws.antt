@@ -22,7 +22,8 @@ use Rattle.jv_volume.proofs.SameShapeLaws.{whole_as, whole-attributes, shape-tru
 use Rattle.jv_volume.proofs.EnteredShapeLaws.{whole-with_next}
 use Rattle.jv_volume.proofs.LinkedShapeLaws.{whole-linked}
 use Rattle.jv_volume.proofs.SessionShapeLaws.{whole-with_session, whole-kept_alive, whole-without_session, whole-released}
-use Rattle.jv_volume.proofs.WalkShapeLaws.{went_on, required, was_some, same_Ok, path_named, IsNewPlace, is_new_place}
+use Rattle.jv_volume.proofs.WalkShapeLaws.{went_on, required, was_some, path_named, IsNewPlace, is_new_place}
+use Rattle.jv_model.proofs.TestLaws.{same_Ok}
 
 -- a refused operation leaves the tree
 pub whole_outcome : (t : Tree) (r : Result Outcome Fault) → WholeShape (shape_of t) → ((d : Outcome) → r ≡ Ok d → WholeShape (shape_of d.tree))

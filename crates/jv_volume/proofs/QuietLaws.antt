@@ -21,6 +21,7 @@ use Rattle.jv_volume.specs.Slices.{listed, records_naming, named_by, count_in, W
 use Rattle.jv_volume.specs.Whole.{is_of_slices, Quiet, SlicesStay}
 use Rattle.jv_volume.proofs.MapLaws.{get-alter-here}
 use Rattle.jv_volume.proofs.ShapeMapLaws.{tied_apart}
+use Rattle.jv_volume.proofs.ListSumLaws.{is_list_key, sum_of, sum-lists, named-lists, listed-lists}
 
 -- ---- changes that are quiet
 
@@ -50,53 +51,21 @@ quiet-put_counters rows before c there same = record {
       ∙ sym (ap (λ o. (or_no_counters o).slice) there);
 }
 
--- ---- a sum over some of the entries
-
-module _ {K X : Type 0} (order : KeyOrder K) (f : K → X → ℕ) (test : K → Bool) (nothing : (k : K) (x : X) → test k ≡ false → f k x ≡ 0) where
-  total-where_at : (e : K × X) (es : List (K × X)) (b : Bool) → test e.0 ≡ b → total_over f (where_key order.cmp test es) ≡ total_over f es
-      → total_over f (cond b (e ∷ where_key order.cmp test es) (where_key order.cmp test es)) ≡ f e.0 e.1 + total_over f es
-  total-where_at e es true t rest = omega (arith, rest)
-  total-where_at e es false t rest = omega (arith, rest, nothing e.0 e.1 t)
-
-  total-where : (es : List (K × X)) → total_over f (where_key order.cmp test es) ≡ total_over f es
-  total-where [] = refl
-  total-where (e ∷ es) = total-where_at e es (test e.0) refl (total-where es)
-
-  -- a function that is 0 elsewhere has the sum of the entries whose keys pass
-  pub sum-retain_keys : (m : Map order X) → sum_over f (retain_keys test m) ≡ sum_over f m
-  unfolding sum_over retain_keys
-  sum-retain_keys m = total-where m.list
-
 -- ---- what quiet changes keep
-
-abbrev is_list_key : RowKey → Bool
-is_list_key key = key.tab == TABLE_OF_LISTS
 
 of_lists : (key : RowKey) → is_list_key key ≡ true → IsTrue (is_of_slices key.tab)
 of_lists key is = ap (λ b. b || (key.tab == TABLE_OF_SLICES) || (key.tab == TABLE_OF_DEAD)) is
 
 module _ (rows after : Rows) (stay : SlicesStay rows after) where
-  kept_lists : retain_keys is_list_key after ≡ retain_keys is_list_key rows
-  kept_lists = same_maps (retain_keys is_list_key after) (retain_keys is_list_key rows) (λ key.
-      get-retain_keys after is_list_key key ∙ by_table key (is_list_key key) refl ∙ sym (get-retain_keys rows is_list_key key))
-    where
-      by_table : (key : RowKey) (b : Bool) → is_list_key key ≡ b → cond b (get after key) None ≡ cond b (get rows key) None
-      by_table key true e = stay key (of_lists key e)
-      by_table key false e = refl
+  same_lists : (key : RowKey) → is_list_key key ≡ true → get after key ≡ get rows key
+  same_lists key is = stay key (of_lists key is)
 
   -- a sum over lists stays
-  pub sum-stay : (f : List Rec → ℕ) → f [] ≡ 0 → sum_over (λ key cell. f (listed key (Some cell))) after ≡ sum_over (λ key cell. f (listed key (Some cell))) rows
-  sum-stay f none =
-      sym (sum-retain_keys row_key (λ key cell. f (listed key (Some cell))) is_list_key nothing after)
-      ∙ ap (sum_over (λ key cell. f (listed key (Some cell)))) kept_lists
-      ∙ sum-retain_keys row_key (λ key cell. f (listed key (Some cell))) is_list_key nothing rows
-    where
-      nothing : (key : RowKey) (cell : Cell) → is_list_key key ≡ false → f (listed key (Some cell)) ≡ 0
-      nothing key cell other = ap (λ b. f (if b then records_in (row_in (Some cell)) else [])) other ∙ none
+  pub sum-stay : (f : List Rec → ℕ) → f [] ≡ 0 → sum_of f after ≡ sum_of f rows
+  sum-stay f none = sum-lists rows after same_lists f none
 
   pub named_by-stay : (id : ℕ) → named_by after id ≡ named_by rows id
-  unfolding named_by
-  named_by-stay id = sum-stay (records_naming id) refl
+  named_by-stay id = named-lists rows after same_lists id
 
   pub slice_row-stay : (id : ℕ) → slice_row_at after id ≡ slice_row_at rows id
   slice_row-stay id = ap (λ c. slice_in (row_in c)) (stay (slice_key id) refl)
@@ -110,12 +79,7 @@ module _ (rows after : Rows) (stay : SlicesStay rows after) where
   lists_of-stay inode window = ap (λ c. if nat_lt window (2 ^ 32) then records_in (row_in c) else []) (stay (list_key inode window) refl)
 
   listed-stay : (key : RowKey) → listed key (get after key) ≡ listed key (get rows key)
-  listed-stay key = by_table (is_list_key key) refl
-    where
-      by_table : (b : Bool) → is_list_key key ≡ b → (if b then records_in (row_in (get after key)) else [])
-          ≡ (if b then records_in (row_in (get rows key)) else [])
-      by_table true e = ap (λ c. records_in (row_in c)) (stay key (of_lists key e))
-      by_table false e = refl
+  listed-stay key = listed-lists rows after same_lists key
 
 module _ (rows after : Rows) (q : Quiet rows after) where
   -- slices stay whole

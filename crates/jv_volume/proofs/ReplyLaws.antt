@@ -32,6 +32,7 @@ use Rattle.jv_model.specs.tree.TreeAct.{tree_act}
 use Rattle.jv_model.specs.journal.Steps.{is_device_or_memory}
 use Rattle.jv_model.specs.client.OpForms.{is_mount_op, opens_file}
 use Rattle.jv_volume.proofs.WalkShapeLaws.{onwards}
+use Rattle.jv_model.proofs.TestLaws.{same_Err}
 
 -- The refusals of operations on the tree. One by a session that is gone is by the caller's.
 abbrev pub is_of_tree : Caller → Fault → Bool
@@ -58,9 +59,6 @@ module _ {who : Caller} where
   refuses-err : {A : Type 0} (fault : Fault) → IsTrue (is_of_tree who fault) → Refuses who {A = A} (Err fault)
   refuses-err {A = A} fault may =
       record { by = λ other e. ap (is_of_tree who) (sym (same_Err {A = A} fault other e)) ∙ may }
-    where
-      same_Err : {A : Type 0} (x y : Fault) → ◌≡◌ {A = Result A Fault} (Err x) (Err y) → x ≡ y
-      same_Err x y e = cc
 
   refuses-require : (b : Bool) (fault : Fault) → IsTrue (is_of_tree who fault) → Refuses who (require b fault)
   refuses-require true fault may = refuses-ok tt

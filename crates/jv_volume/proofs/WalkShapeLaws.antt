@@ -10,7 +10,7 @@ use Rattle.jv_model.specs.tree.Attempt.{◌>>=◌, require, some_or}
 use Rattle.jv_model.specs.tree.Tree.{Tree, EntryKey, node_at, parent_at, is_directory}
 use Rattle.jv_model.specs.tree.Walk.{is_absolute, names_of, is_dot, is_dot_dot, is_trash, named_from, stepped, way_on, walk_names, walk, inode_by, all_but_last, entry_of}
 use Rattle.jv_model.specs.tree.Making.{may_be_new, new_place}
-use Rattle.jv_model.proofs.TestLaws.{none_if}
+use Rattle.jv_model.proofs.TestLaws.{none_if, same_Ok}
 use Rattle.jv_model.specs.Lists.{last_item}
 use Rattle.jv_volume.specs.Shape.{Dir, is_dir, shape_of, is_top, WholeShape}
 use Rattle.jv_volume.proofs.ShapeMapLaws.{IsNamed, form-parent, is_directory-form}
@@ -32,10 +32,6 @@ required false fault u h = absurd (cc)
 pub was_some : {A : Type 0} (o : Option A) (fault : Fault) (x : A) → some_or o fault ≡ Ok x → o ≡ Some x
 was_some None fault x h = absurd (cc)
 was_some (Some a) fault x h = (let same : a ≡ x = cc in ap Some same)
-
--- answers that are the same have one value
-pub same_Ok : {A : Type 0} (x y : A) → ◌≡◌ {A = Result A Fault} (Ok x) (Ok y) → x ≡ y
-same_Ok x y h = cc
 
 -- where walks lead
 

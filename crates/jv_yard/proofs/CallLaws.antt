@@ -4,7 +4,6 @@ use Rattle.jv_model.specs.declared.limits.TheConstants.{LAST_CLIENT}
 use Rattle.jv_model.specs.declared.setting.Setting.{Setting}
 use Rattle.jv_model.specs.declared.slice.BlockId.{BlockId}
 use Rattle.jv_model.specs.blocks.BlockNames.{IsBlock, name_in}
-use Rattle.jv_model.proofs.TestLaws.{known_is}
 use Rattle.jv_outside.specs.declared.parcel.Parcel.{Parcel}
 use Rattle.jv_outside.specs.Holding.{Holding}
 use Rattle.jv_outside.specs.Objects.{ObjectMap, bytes_at}
@@ -14,13 +13,14 @@ use Rattle.jv_yard.specs.BlockCalls.{IsBlockOf, IsBlockBy, IsBlockParcel, IsPut}
 use Rattle.jv_yard.specs.Staging.{staged_since}
 use Rattle.jv_yard.specs.Starting.{IsStarted}
 use Rattle.jv_yard.specs.YardValue.{YardValue, IsKept, NamesBlock}
+use Rattle.jv_model.proofs.TestLaws.{of_known}
 
 -- a yard that was started
 pub IsKept-started : (setting : Setting) (depot : Holding ObjectMap) (shelf : Holding StagedMap) (yard : YardValue) → IsStarted setting depot shelf yard → IsKept yard
 IsKept-started setting depot shelf yard h = record {
   names = λ client name low staged. subst (λ (s : Setting). NamesBlock s name) (sym h.setting_is) ((h.staged_are client low).names name staged);
   there = λ blocks known client name low staged.
-      known_is shelf.content blocks _ (sym (ap (λ (s : Holding StagedMap). s.content) h.shelf_same) ∙ known) (h.staged_are client low).only name staged;
+      of_known _ shelf.content blocks (sym (ap (λ (s : Holding StagedMap). s.content) h.shelf_same) ∙ known) (h.staged_are client low).only name staged;
 }
 
 -- a yard with the same setting, shelf and staged blocks
@@ -45,10 +45,10 @@ module _ (yard : YardValue) (objects : ObjectMap) (blocks : StagedMap) (client :
   none_by : (since : Option ℕ) → staged_since client name yard.staged ≡ since → (IsSome since → IsSome (staged_at client name blocks)) → IsBlockBy since yard client name value
       → (value ≡ None) ↔ ((since ≡ None) × (bytes_at name objects ≡ None))
   none_by None is there read =
-      let found : value ≡ bytes_at name objects = known_is yard.depot.content objects (λ some. value ≡ bytes_at name some) depot read in
+      let found : value ≡ bytes_at name objects = of_known (λ some. value ≡ bytes_at name some) yard.depot.content objects depot read in
       ((λ none. (refl, sym found ∙ none)), (λ both. found ∙ both.1))
   none_by (Some at) is there read =
-      let found : value ≡ staged_at client name blocks = known_is yard.shelf.content blocks (λ some. value ≡ staged_at client name some) shelf read in
+      let found : value ≡ staged_at client name blocks = of_known (λ some. value ≡ staged_at client name some) yard.shelf.content blocks shelf read in
       let some : is_some (staged_at client name blocks) ≡ true = there refl in
       ((λ none. let gone : is_some (staged_at client name blocks) ≡ false = ap is_some (sym found ∙ none) in absurd (cc)), (λ both. absurd (let h = both.0 in cc)))
 

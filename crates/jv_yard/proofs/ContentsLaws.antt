@@ -11,7 +11,7 @@ use Rattle.jv_model.specs.blocks.BlockNames.{IsBlock, name_in}
 use Rattle.jv_model.specs.blocks.Slices.{is_same_block}
 use Rattle.jv_model.specs.FiniteMap.{text_key, get}
 use Rattle.jv_model.proofs.FiniteMapLaws.{get-insert}
-use Rattle.jv_model.proofs.TestLaws.{tie_is, known_is}
+use Rattle.jv_model.proofs.TestLaws.{tie_is, of_known}
 use Rattle.jv_outside.specs.declared.parcel.Parcel.{Parcel}
 use Rattle.jv_outside.specs.Objects.{ObjectMap, bytes_at, with_object}
 use Rattle.jv_outside.specs.Parcels.{StandsFor}
@@ -121,5 +121,5 @@ pub read-depot : (yard : YardValue) (objects : ObjectMap) (client : ℕ) (b : Bl
 read-depot yard objects client b value known is unstaged read =
     let name = name_in yard.setting b in
     let found = subst (λ since. IsBlockBy since yard client name value) unstaged read in
-    known_is yard.depot.content objects (λ some. value ≡ bytes_at name some) known found
+    of_known (λ some. value ≡ bytes_at name some) yard.depot.content objects known found
     ∙ ap (λ t. if t then bytes_at name objects else None) (sym (is_block-passes yard.setting.block b is))

@@ -5,13 +5,14 @@ use Rattle.std.proofs.lemmas.List.Elements.{All-nil, All-append, Contains-append
 use Rattle.jv_model.specs.declared.limits.TheConstants.{LAST_CLIENT}
 use Rattle.jv_model.specs.declared.setting.Setting.{Setting}
 use Rattle.jv_model.specs.FiniteMap.{get}
-use Rattle.jv_model.proofs.TestLaws.{some_of, some_same}
+use Rattle.jv_model.proofs.TestLaws.{some_of}
 use Rattle.jv_outside.specs.Objects.{ObjectMap, bytes_at}
 use Rattle.jv_outside.specs.Blocks.{StagedMap, staged_at}
 use Rattle.jv_yard.specs.declared.note.Note.{Note}
 use Rattle.jv_yard.specs.Staging.{staged_since}
 use Rattle.jv_yard.specs.YardValue.{YardValue, IsKept, NamesBlock}
 use Rattle.jv_yard.specs.Later.{HasPublish, Contents, contents_of, WasStaged, IsCopy, AreAlike, IsPublishedFrom, ContentsLater, Later}
+use Rattle.std.proofs.lemmas.Option.{same_Some}
 
 -- ---- options
 
@@ -59,7 +60,7 @@ module _ (v w : Contents) (back : StagedBack v w) (vw : IsPublishedFrom v w) whe
       inr (record { client = staged.client; is = ap is_some staged.is; bytes_are = staged.bytes_are })
   object_back name bytes at is (inr found) =
       let left = vw.kept name found.0.0 found.0.1 found.1 in
-      let same : found.0.0 ≡ bytes = ap (λ (object : List ℕ × ℕ). object.0) (some_same (found.0.0, left.now) (bytes, at) (sym left.is ∙ is)) in
+      let same : found.0.0 ≡ bytes = ap (λ (object : List ℕ × ℕ). object.0) (same_Some (found.0.0, left.now) (bytes, at) (sym left.is ∙ is)) in
       inl (bytes_by name v.objects found.0.0 found.0.1 found.1 ∙ ap Some same)
 
   copy_back : (name bytes : List ℕ) → IsCopy w name bytes → IsCopy v name bytes
@@ -99,7 +100,7 @@ module _ (v w x : Contents) (back_vw : StagedBack v w) (back_wx : StagedBack w x
   new_both name bytes at none is (inr found) =
       let first = vw.new name found.0.0 found.0.1 none found.1 in
       let left = wx.kept name found.0.0 found.0.1 found.1 in
-      let same = some_same (found.0.0, left.now) (bytes, at) (sym left.is ∙ is) in
+      let same = same_Some (found.0.0, left.now) (bytes, at) (sym left.is ∙ is) in
       subst (λ (object : List ℕ × ℕ). WasStaged v name object.0 object.1) same (staged_either name found.0.0 found.0.1 left.now first left.since)
 
   gone_both : (client : ℕ) (name bytes : List ℕ) → IsSome (staged_since client name v.staged) → staged_since client name x.staged ≡ None
@@ -208,7 +209,7 @@ module _ (before after : YardValue) (objects : ObjectMap) (blocks : StagedMap) (
   there_later : ContentsLater (contents_of objects blocks before) after → IsKept before → (now : StagedMap) → after.shelf.content ≡ Some now
       → (client : ℕ) (name : List ℕ) → client ≤ LAST_CLIENT → IsSome (staged_since client name after.staged) → IsSome (staged_at client name now)
   there_later contents kept now known client name low is =
-      let same = some_same contents.blocks now (sym contents.blocks_are ∙ known) in
+      let same = same_Some contents.blocks now (sym contents.blocks_are ∙ known) in
       ap (λ (m : StagedMap). is_some (staged_at client name m)) (sym same)
       ∙ ap is_some (contents.published.staged client name is)
       ∙ kept.there blocks known_blocks client name low (staged_before client name is)

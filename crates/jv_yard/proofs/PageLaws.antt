@@ -12,7 +12,7 @@ use Rattle.std.specs.Cmp.Lexicographic.{slice_cmp}
 use Rattle.jv_model.specs.declared.setting.Setting.{Setting}
 use Rattle.jv_model.specs.FiniteMap.{text_key, empty_map, get, insert}
 use Rattle.jv_model.proofs.FiniteMapLaws.{get-empty_map, get-insert}
-use Rattle.jv_model.proofs.TestLaws.{tie_is, less_is, first_of_both, second_of_both, some_of, known_is}
+use Rattle.jv_model.proofs.TestLaws.{tie_is, less_is, first_of_both, second_of_both, some_of, if_some-by, of_known}
 use Rattle.jv_outside.specs.Holding.{Holding}
 use Rattle.jv_outside.specs.Blocks.{StagedMap, staged_cmp, staged_key, staged_at, names_after}
 use Rattle.jv_outside.specs.Objects.{is_later}
@@ -21,6 +21,7 @@ use Rattle.jv_yard.specs.Pages.{AddsNames, next_after}
 use Rattle.jv_yard.specs.Starting.{IsFound}
 use Rattle.jv_yard.specs.Staging.{ClientStaging, by_client}
 use Rattle.jv_yard.specs.YardValue.{NamesBlock}
+use Rattle.jv_model.proofs.ListLaws.{get_front, get_end}
 
 -- ---- what a page adds
 
@@ -248,11 +249,6 @@ goes_on_at : (names : List (List ℕ)) (last : List ℕ) (short : Bool) → (if 
 goes_on_at names last true is = absurd (cc)
 goes_on_at names last false is = last_in names _ last is
 
--- a fact of known content
-if_known : {M : Type 0} (content : Option M) (P : M → Type 0) → ((m : M) → content ≡ Some m → P m) → IfSome content P
-if_known None P h = tt
-if_known (Some m) P h = h m refl
-
 module _ (setting : Setting) (content : Option StagedMap) (client : ℕ) (last : Option (List ℕ)) (names : List (List ℕ)) (found after : ClientStaging)
     (page : (blocks : StagedMap) → content ≡ Some blocks → names ≡ names_after client last PAGE blocks)
     (so_far : IsFoundSoFar setting content client last found) (adds : AddsNames setting names found after) where
@@ -296,8 +292,8 @@ module _ (setting : Setting) (content : Option StagedMap) (client : ℕ) (last :
   found-all is = record {
     first = λ name at h. first_by name at h (adds.others name);
     names = λ name h. names_by name h (adds.others name);
-    only = if_known content _ (λ blocks known name h. only_by blocks known name h (adds.others name));
-    all = if_known content _ (λ blocks known name named there. all_by blocks known name named there (inl (ends_at names _ refl is)) _ refl);
+    only = if_some-by _ content (λ blocks known name h. only_by blocks known name h (adds.others name));
+    all = if_some-by _ content (λ blocks known name named there. all_by blocks known name named there (inl (ends_at names _ refl is)) _ refl);
   }
 
 module _ (setting : Setting) (start before : Holding StagedMap) (client : ℕ) (last asked : Option (List ℕ)) (names : List (List ℕ)) (found after : ClientStaging)
@@ -305,7 +301,7 @@ module _ (setting : Setting) (start before : Holding StagedMap) (client : ℕ) (
     (so_far : IsFoundSoFar setting start.content client last found) (adds : AddsNames setting names found after) where
   page_is : (blocks : StagedMap) → start.content ≡ Some blocks → names ≡ names_after client last PAGE blocks
   page_is blocks known =
-      known_is before.content blocks (λ some. names ≡ names_after client asked PAGE some) (ap (λ (h : Holding StagedMap). h.content) same ∙ known) listed
+      of_known (λ some. names ≡ names_after client asked PAGE some) before.content blocks (ap (λ (h : Holding StagedMap). h.content) same ∙ known) listed
       ∙ ap (λ name. names_after client name PAGE blocks) from
 
   -- a page that isn't the last one
@@ -324,15 +320,6 @@ module _ (setting : Setting) (start before : Holding StagedMap) (client : ℕ) (
 
 -- ---- one client after another
 
-slice_get-front : {A : Type 0} (xs : List A) (x : A) (k : ℕ) → k < length xs → slice_get (xs ++ x ∷ []) k ≡ slice_get xs k
-slice_get-front [] x k below = absurd (omega (arith, below))
-slice_get-front (y ∷ ys) x zero below = refl
-slice_get-front (y ∷ ys) x (suc k) below = let less : k < length ys = omega (arith, below) in slice_get-front ys x k less
-
-slice_get-end : {A : Type 0} (xs : List A) (x : A) → slice_get (xs ++ x ∷ []) (length xs) ≡ Some x
-slice_get-end [] x = refl
-slice_get-end (y ∷ ys) x = slice_get-end ys x
-
 split : (n k : ℕ) → n < k + 1 → (n < k) ⊎ (n ≡ k)
 split n k below = elim (nat_lt n k) as (λ b. nat_lt n k ≡ b → (n < k) ⊎ (n ≡ k)) [
   | true ↦ λ is. inl (ltb-true _ _ is)
@@ -347,10 +334,10 @@ module _ (setting : Setting) (content : Option StagedMap) (clients : List Client
       elim (split client k below) as (λ _. IsFound setting content client (by_client (clients ++ one ∷ []) client)) [
         | inl less ↦
             let inside : client < length clients = omega arith in
-            let same = ap (λ found_at. unwrap_or found_at (empty_map {order = text_key})) (slice_get-front clients one client inside) in
+            let same = ap (λ found_at. unwrap_or found_at (empty_map {order = text_key})) (get_front clients (one ∷ []) client inside) in
             subst (IsFound setting content client) (sym same) (before client less)
         | inr is ↦
             let place : client ≡ length clients = is ∙ sym long in
-            let same = ap (λ n. by_client (clients ++ one ∷ []) n) place ∙ ap (λ found_at. unwrap_or found_at (empty_map {order = text_key})) (slice_get-end clients one) in
+            let same = ap (λ n. by_client (clients ++ one ∷ []) n) place ∙ ap (λ found_at. unwrap_or found_at (empty_map {order = text_key})) (get_end clients one) in
             subst (IsFound setting content client) (sym same) (subst (λ n. IsFound setting content n one) (sym is) found)
       ]

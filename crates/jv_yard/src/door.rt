@@ -1,5 +1,5 @@
 //! What has the yard between lines. With threads that upload, a step will take it from there and give it back.
-ghost use Rattle.std.specs.Prelude.{◌≡◌, None, Some, IsSome, IfSome};
+ghost use Rattle.std.specs.Prelude.{◌≡◌, None, Some, IsSome};
 ghost use Rattle.std.specs.Option.{option_map};
 ghost use Rattle.jv_yard.specs.Doors.{IsTaken};
 

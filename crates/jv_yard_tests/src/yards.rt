@@ -1,4 +1,4 @@
-ghost use Rattle.std.specs.Prelude.{◌≡◌, ◌<◌, ◌≤◌, IfOk};
+ghost use Rattle.std.specs.Prelude.{◌<◌, ◌≤◌, IfOk};
 ghost use Rattle.jv_yard.specs.BlockCalls.{IsBlockParcel};
 ghost use Rattle.jv_model.specs.declared.limits.TheConstants.{LAST_CLIENT, MAX_BLOCKS};
 

@@ -1,8 +1,7 @@
 ghost use Rattle.std.specs.Prelude.{◌≡◌, ◌≤◌, IfOk, IfErr, map, string_bytes, codes};
 ghost use Rattle.std.specs.Option.{option_copied};
-ghost use Rattle.clap.specs.Words.{fault_of, first_of, found_of, rows_of, subcommand_rows_of};
+ghost use Rattle.clap.specs.Words.{first_of, found_of, rows_of, subcommand_rows_of};
 ghost use Rattle.jv_cmd.specs.declared.words.read.BadValue.TheVariants as bad;
-ghost use Rattle.jv_cmd.specs.Program.{program_app};
 ghost use Rattle.jv_cmd.specs.Values.{block_size_of, number_within, place_of};
 ghost use Rattle.jv_cmd.specs.Words.{Answers, Parses, Reads, Refuses, asked, command_at, format_in, has_text, options_in, seed_of, session_in, setting_in, setting_fields_in, stored_setting_in, value_in, where_allowed};
 

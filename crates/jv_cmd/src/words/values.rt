@@ -1,7 +1,5 @@
-ghost use Rattle.std.specs.Prelude.{◌≤◌, IfSome, ◌≡◌, ◌||◌, ◌==◌, if◌then◌else◌, take, ◌-◌, length, option_map};
-ghost use Rattle.std.specs.List.{list_all};
-ghost use Rattle.std.specs.Option.{option_copied};
-ghost use Rattle.jv_model.specs.script.Spelling.{is_numeral, is_decimal_digit};
+ghost use Rattle.std.specs.Prelude.{◌≤◌, IfSome, ◌≡◌, ◌||◌, ◌-◌, length, option_map};
+ghost use Rattle.jv_model.specs.script.Spelling.{is_numeral};
 ghost use Rattle.jv_model.specs.rows.RowGrammar.{is_block_length};
 ghost use Rattle.jv_cmd.specs.Values.{number_of_digits, number_within, digits_of, unit_of, block_size_of, place_of};
 

@@ -7,7 +7,8 @@ use Rattle.jv_model.specs.declared.profile.Does.{Does}
 use Rattle.jv_model.specs.tree.Tree.{Content}
 use Rattle.jv_model.specs.client.Pending.{PendingByte}
 use Rattle.jv_model.specs.client.Origins.{Origin, Owed}
-use Rattle.jv_model.specs.Lists.{is_among}
+use Rattle.jv_model.specs.Lists.{is_among, numbers_of}
+use Rattle.std.specs.Option.{option_map_or}
 
 -- an open file: its inode, and the number of the entry that opened it
 pub record OpenFile : Type 0 where
@@ -82,7 +83,7 @@ pub record ModelClient : Type 0 where
   pub session : Option ℕ
   pub writeback : Bool
   pub handles : List (Option OpenFile)
-  pub sustained : List ℕ  -- inodes that an unlink or a rename of this mount took the last name of, while they were open
+  pub sustained : List ℕ  -- inodes that an unlink or a rename of this mount took the last entry of, while they were open
   pub views : List View  -- the latest first
   pub pending : List PendingByte
   pub doing : Option Doing
@@ -133,8 +134,7 @@ with_file handle file handles = if nat_le handle (length handles)
 
 -- the inode of an open file, 0 for none
 abbrev pub inode_in : Option OpenFile → ℕ
-inode_in None = 0
-inode_in (Some file) = file.inode
+inode_in file = option_map_or (λ (file : OpenFile). file.inode) file 0
 
 -- the inode that a handle of the client names, 0 for none
 abbrev pub inode_at : ModelClient → ℕ → ℕ
@@ -142,9 +142,7 @@ inode_at c handle = inode_in (file_of c.handles handle)
 
 -- the inodes of all open files
 abbrev pub held_inodes : List (Option OpenFile) → List ℕ
-held_inodes [] = []
-held_inodes (None ∷ files) = held_inodes files
-held_inodes (Some file ∷ files) = file.inode ∷ held_inodes files
+held_inodes files = numbers_of (λ (file : OpenFile). file.inode) files
 
 -- Whether a handle is the client's last one on a file that it removed itself while it had it open.
 abbrev pub is_last_of_removed : ModelClient → ℕ → Bool

@@ -69,7 +69,7 @@ state_at_start tree = record {
   dropped = [];
 }
 
-abbrev pub with_client : (ℕ → ModelClient) → ℕ → ModelClient → ℕ → ModelClient
+abbrev pub with_client : {C : Type 0} → (ℕ → C) → ℕ → C → ℕ → C
 with_client clients at c = λ q. if q == at then c else clients q
 
 abbrev pub set_client : State → ℕ → ModelClient → State
@@ -102,7 +102,7 @@ caller c client now o = record {
 abbrev pub transacted : State → ℕ → ℕ → Op → Outcome
 transacted s client now o = tree_act s.tree (caller (s.clients client) client now o) o
 
--- the client's open files that its own transaction took the last name of
+-- the client's open files that its own transaction took the last entry of
 abbrev pub newly_sustained : Tree → Tree → ModelClient → List ℕ
 newly_sustained before after c =
     filter (λ inode. is_sustained after (session_of c) inode

@@ -19,26 +19,26 @@ abbrev pub hex_pair : ℕ → List ℕ
 hex_pair byte = hex_digit (byte / 16) ∷ hex_digit (byte % 16) ∷ []
 
 -- a maximal run of equal bytes
-pub record ByteRun : Type 0 where
+pub record ByteRepeat : Type 0 where
   pub byte : ℕ
   pub count : ℕ
 
 -- the runs after one more byte in front
-abbrev pub with_byte : ℕ → List ByteRun → List ByteRun
+abbrev pub with_byte : ℕ → List ByteRepeat → List ByteRepeat
 with_byte byte [] = record { byte = byte; count = 1 } ∷ []
 with_byte byte (run ∷ runs) = (if byte == run.byte
     then record { byte = byte; count = run.count + 1 } ∷ runs
     else record { byte = byte; count = 1 } ∷ run ∷ runs)
 
 -- bytes as their maximal runs
-abbrev pub runs_of : List ℕ → List ByteRun
-runs_of [] = []
-runs_of (byte ∷ bytes) = with_byte byte (runs_of bytes)
+abbrev pub repeats_of : List ℕ → List ByteRepeat
+repeats_of [] = []
+repeats_of (byte ∷ bytes) = with_byte byte (repeats_of bytes)
 
 -- a part of printed bytes: plain digits, or a byte and how often it stands
 pub data DataPart : Type 0 where
   Plain : List ℕ → DataPart
-  Repeated : ByteRun → DataPart
+  Repeated : ByteRepeat → DataPart
 
 -- the parts after one more short run in front, which goes into a plain part that is first
 abbrev pub with_short : List ℕ → List DataPart → List DataPart
@@ -47,7 +47,7 @@ with_short bytes (Plain more ∷ parts) = Plain (bytes ++ more) ∷ parts
 with_short bytes (Repeated run ∷ parts) = Plain bytes ∷ Repeated run ∷ parts
 
 -- a run of four or more is a part of its own, and shorter ones that stand side by side are one part
-abbrev pub parts_of : List ByteRun → List DataPart
+abbrev pub parts_of : List ByteRepeat → List DataPart
 parts_of [] = []
 parts_of (run ∷ runs) = (if nat_le 4 run.count
     then Repeated run ∷ parts_of runs
@@ -61,7 +61,7 @@ part_text (Repeated run) = hex_pair run.byte ++ 120 ∷ decimal run.count
 -- bytes as DATA: `-` for none, else the parts joined by `+`
 unfoldable pub data_text : List ℕ → List ℕ
 data_text [] = codes "-"
-data_text (byte ∷ bytes) = join_with_byte 43 (map part_text (parts_of (runs_of (byte ∷ bytes))))
+data_text (byte ∷ bytes) = join_with_byte 43 (map part_text (parts_of (repeats_of (byte ∷ bytes))))
 
 abbrev pub device_name : Device → List ℕ
 device_name Keeper = codes "keeper"

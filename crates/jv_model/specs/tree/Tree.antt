@@ -1,6 +1,6 @@
 -- The tree of a file system (POSIX.1-2017, 4.6 "File Hierarchy" and 4.9 "File Times Update", and
 -- "Directory" of chapter 3): nodes by inode, and one map of all entries, keyed by directory and
--- name. Sessions, and files that stay without a name while a session has them open, are JuiceFS's
+-- name. Sessions, and files that stay without an entry while a session has them open, are JuiceFS's
 -- ("Sessions" of its internals).
 use Rattle.std.specs.Prelude.{ℕ, ◌+◌, ◌-◌, ◌*◌, ◌/◌, max, Bool, ◌&&◌, ◌||◌, not, ◌==◌, nat_lt, nat_le, if◌then◌else◌, List, []}
 use Rattle.std.specs.Prelude.{◌∷◌, is_some, Option, None, Some}

@@ -1,10 +1,11 @@
 use Rattle.std.proofs.Common.{◌+◌, ◌-◌, ◌∙◌, ◌++◌, ℕ, List, [], ◌∷◌, length, drop, is_some, ap, sym, subst, arith}
-use Rattle.jv_model.proofs.TestLaws.{some_of, some_same}
+use Rattle.jv_model.proofs.TestLaws.{some_of}
 use Rattle.jv_pending.specs.Runs.{place_of, bytes_at, Rise, with_runs}
 use Rattle.jv_pending.proofs.PartLaws.{with_with}
 use Rattle.jv_pending.proofs.TouchedLaws.{last_file, last_there, tail_there}
 use Rattle.jv_pending.proofs.EntryLaws.{one_rises, swap_rises, swap_over, put_there, put_back, kept_there}
 use Rattle.jv_pending.proofs.write.join_before.Goals as goal
+use Rattle.std.proofs.lemmas.Option.{same_Some}
 
 pub swap_bytes-run-requires-clause-file : goal.swap_bytes-run-requires-clause-file
 swap_bytes-run-requires-clause-file c =
@@ -20,7 +21,7 @@ pub write_before-requires-clause-within : goal.write_before-requires-clause-with
 write_before-requires-clause-within c =
     let l = c.requires.last in
     let there = last_there (place_of c.args.write.now.end) c.args.runs.now.entries (c.args.last, l.bytes) c.requires.rise l.is_last in
-    let e = ap length (some_same c.swap_bytes-run.result l.bytes (sym c.swap_bytes-run.ensures.bytes ∙ there)) in
+    let e = ap length (same_Some c.swap_bytes-run.result l.bytes (sym c.swap_bytes-run.ensures.bytes ∙ there)) in
     let m = l.longer in
     let to = c.to.ensures in
     omega arith
@@ -74,7 +75,7 @@ returns-in-Ok-clause-ok c =
     let b = l.behind in
     let f = last_file high rs (c.args.last, l.bytes) c.requires.rise l.is_last in
     let up = f.1 in
-    let was = some_same c.swap_bytes-run.result l.bytes (sym c.swap_bytes-run.ensures.bytes ∙ last_there high rs (c.args.last, l.bytes) c.requires.rise l.is_last) in
+    let was = same_Some c.swap_bytes-run.result l.bytes (sym c.swap_bytes-run.ensures.bytes ∙ last_there high rs (c.args.last, l.bytes) c.requires.rise l.is_last) in
     let to : ℕ = c.args.write.now.from + length c.args.write.now.bytes.now in
     let put = c.write_before.new.self in
     c.put_over.ensures

@@ -5,8 +5,9 @@ use Rattle.jv_cache.specs.Cached.{Cached}
 use Rattle.jv_client.specs.declared.doing.Progress.TheVariants.{Reading}
 use Rattle.jv_client.specs.ClientValue.{ClientValue}
 use Rattle.jv_client.specs.Reading.{IsCachedAs, IsMade, next_of, put_at}
-use Rattle.jv_client.proofs.ReadingLaws.{ahead-cached, begins-none, begins-some, on_err, same-cached}
+use Rattle.jv_client.proofs.ReadingLaws.{ahead-cached, begins-none, begins-some, same-cached}
 use Rattle.jv_client.proofs.client.Client.begin_reading.Goals as goal
+use Rattle.jv_model.proofs.TestLaws.{on_err}
 
 pub returns-in_err-fetch-clause-err : goal.returns-in_err-fetch-clause-err
 returns-in_err-fetch-clause-err c = on_err c.from_residual.result _ (same-cached c.args.self.now)

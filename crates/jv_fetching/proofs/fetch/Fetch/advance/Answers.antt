@@ -2,9 +2,10 @@ use Rattle.std.proofs.Common.{Option, Some, None, subst, sym}
 use Rattle.jv_fetching.specs.declared.need.Need.{Need}
 use Rattle.jv_fetching.specs.Inside.{GoesTo, Stops}
 use Rattle.jv_fetching.specs.Calls.{FindsAll}
-use Rattle.jv_fetching.proofs.CacheLaws.{finds_none, on_err}
+use Rattle.jv_fetching.proofs.CacheLaws.{finds_none}
 use Rattle.jv_fetching.proofs.GoingLaws.{asks_nothing, asks_to, finds_to, goes_twice, nothing_left}
 use Rattle.jv_fetching.proofs.fetch.Fetch.advance.Goals as goal
+use Rattle.jv_model.proofs.TestLaws.{on_err}
 
 pub returns-in-Some-clause-asks : goal.returns-in-Some-clause-asks
 returns-in-Some-clause-asks c =

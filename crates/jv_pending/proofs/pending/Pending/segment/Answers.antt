@@ -1,7 +1,6 @@
 use Rattle.std.proofs.Common.{◌≡◌, ◌∙◌, true, length, ap, sym, subst}
 use Rattle.std.specs.Option.{option_copied}
 use Rattle.jv_model.specs.client.Pending.{first_segment, pending_of, bytes_in_range, is_rising}
-use Rattle.jv_model.proofs.TestLaws.{some_same}
 use Rattle.jv_pending.specs.At.{segment_at}
 use Rattle.jv_pending.specs.Held.{PendingValue}
 use Rattle.jv_pending.specs.Runs.{pending_bytes}
@@ -9,6 +8,7 @@ use Rattle.jv_pending.proofs.OutcomeLaws.{some_copied}
 use Rattle.jv_pending.proofs.SegmentRunLaws.{named, named_bytes, rising}
 use Rattle.jv_pending.proofs.OrderLaws.{Rises-runs}
 use Rattle.jv_pending.proofs.pending.Pending.segment.Goals as goal
+use Rattle.std.proofs.lemmas.Option.{same_Some}
 
 pub unwrap-requires : goal.unwrap-requires
 unwrap-requires c =
@@ -24,7 +24,7 @@ returns-clause-bytes c =
     let n = named start (segment_at at) rs c.self.invariant.order c.of.ensures.inode c.of.ensures.from
     (ap (λ (v : PendingValue). first_segment (pending_of at.inode v.bytes)) c.self.view_is ∙ c.requires) in
     c.as_slice.ensures
-    ∙ some_same c.unwrap.result.now n.bytes (sym (ap option_copied c.unwrap.ensures) ∙ c.get.ensures.value ∙ n.found)
+    ∙ same_Some c.unwrap.result.now n.bytes (sym (ap option_copied c.unwrap.ensures) ∙ c.get.ensures.value ∙ n.found)
     ∙ sym (named_bytes start at.len rs c.self.invariant.order n)
     ∙ ap (λ i. bytes_in_range i start.from at.len (pending_bytes rs)) c.of.ensures.inode
     ∙ ap (λ p. bytes_in_range at.inode p at.len (pending_bytes rs)) c.of.ensures.from
@@ -35,7 +35,7 @@ returns-clause-len c =
     let at = c.args.at in
     let n = named c.of.result (segment_at at) c.self.inside.runs.entries c.self.invariant.order c.of.ensures.inode c.of.ensures.from
     (ap (λ (v : PendingValue). first_segment (pending_of at.inode v.bytes)) c.self.view_is ∙ c.requires) in
-    ap length (c.as_slice.ensures ∙ some_same c.unwrap.result.now n.bytes (sym (ap option_copied c.unwrap.ensures) ∙ c.get.ensures.value ∙ n.found)) ∙ n.len_is
+    ap length (c.as_slice.ensures ∙ same_Some c.unwrap.result.now n.bytes (sym (ap option_copied c.unwrap.ensures) ∙ c.get.ensures.value ∙ n.found)) ∙ n.len_is
 
 pub returns-clause-rising : goal.returns-clause-rising
 returns-clause-rising c =

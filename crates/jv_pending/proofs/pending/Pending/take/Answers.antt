@@ -1,6 +1,5 @@
 use Rattle.std.proofs.Common.{◌≡◌, ◌∙◌, ℕ, List, is_some, length, ap, sym, subst, arith}
 use Rattle.jv_model.specs.client.Pending.{PendingByte, first_segment, pending_of, bytes_in_range, without_range}
-use Rattle.jv_model.proofs.TestLaws.{some_same}
 use Rattle.jv_pending.specs.At.{segment_at}
 use Rattle.jv_pending.specs.Held.{PendingValue}
 use Rattle.jv_pending.specs.Runs.{Run, InOrder, pending_bytes}
@@ -9,6 +8,7 @@ use Rattle.jv_pending.proofs.EntryLaws.{removed}
 use Rattle.jv_pending.proofs.SegmentRunLaws.{named, named_bytes, taken_order, taken, taken_count}
 use Rattle.jv_pending.proofs.SegmentLaws.{length-without}
 use Rattle.jv_pending.proofs.pending.Pending.take.Goals as goal
+use Rattle.std.proofs.lemmas.Option.{same_Some}
 
 pub unwrap-run-requires : goal.unwrap-run-requires
 unwrap-run-requires c =
@@ -21,7 +21,7 @@ overflow_sub-self c =
     let rs = c.self.inside.runs.entries in
     let n = named c.of.result (segment_at c.args.at) rs c.self.invariant.order c.of.ensures.inode c.of.ensures.from
     (ap (λ (v : PendingValue). first_segment (pending_of c.args.at.inode v.bytes)) c.self.view_is ∙ c.requires) in
-    let e = ap length (some_same c.unwrap-run.result n.bytes (sym c.unwrap-run.ensures ∙ c.remove.ensures.value ∙ n.found)) in
+    let e = ap length (same_Some c.unwrap-run.result n.bytes (sym c.unwrap-run.ensures ∙ c.remove.ensures.value ∙ n.found)) in
     let h = c.self.invariant.count in
     let l = c.len.ensures.length in
     omega (arith, taken_count c.of.result c.args.at.len rs c.self.invariant.order n)
@@ -31,7 +31,7 @@ invariant_of-self c =
     let rs = c.self.inside.runs.entries in
     let n = named c.of.result (segment_at c.args.at) rs c.self.invariant.order c.of.ensures.inode c.of.ensures.from
     (ap (λ (v : PendingValue). first_segment (pending_of c.args.at.inode v.bytes)) c.self.view_is ∙ c.requires) in
-    let e = ap length (some_same c.unwrap-run.result n.bytes (sym c.unwrap-run.ensures ∙ c.remove.ensures.value ∙ n.found)) in
+    let e = ap length (same_Some c.unwrap-run.result n.bytes (sym c.unwrap-run.ensures ∙ c.remove.ensures.value ∙ n.found)) in
     let h = c.self.invariant.count in
     let m = c.self.invariant.limited in
     let l = c.len.ensures.length in
@@ -51,7 +51,7 @@ returns-clause-bytes c =
     let n = named start (segment_at at) rs c.self.invariant.order c.of.ensures.inode c.of.ensures.from
     (ap (λ (v : PendingValue). first_segment (pending_of at.inode v.bytes)) c.self.view_is ∙ c.requires) in
     c.into_bytes.ensures
-    ∙ some_same c.unwrap-run.result n.bytes (sym c.unwrap-run.ensures ∙ c.remove.ensures.value ∙ n.found)
+    ∙ same_Some c.unwrap-run.result n.bytes (sym c.unwrap-run.ensures ∙ c.remove.ensures.value ∙ n.found)
     ∙ sym (named_bytes start at.len rs c.self.invariant.order n)
     ∙ ap (λ i. bytes_in_range i start.from at.len (pending_bytes rs)) c.of.ensures.inode
     ∙ ap (λ p. bytes_in_range at.inode p at.len (pending_bytes rs)) c.of.ensures.from
