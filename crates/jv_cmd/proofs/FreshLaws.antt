@@ -25,6 +25,7 @@ use Rattle.jv_session.specs.Stands.{AreApart, IsClientAt, Stands, fresh_schedule
 use Rattle.jv_cmd.specs.Run.{Beginning, StartsWhole, session_run, start_of}
 use Rattle.jv_cmd.specs.Stages.{StageValue}
 use Rattle.std.proofs.lemmas.Option.{same_Some}
+use Rattle.jv_session.proofs.NoteLaws.{fresh_stands}
 
 -- The depot's blocks have the bytes that all known blocks have.
 known_same : (v : Shared) (fresh : IsFresh v) (g : Known) (t : Tree) → HasStore t g v
@@ -82,21 +83,7 @@ module _ (start : Beginning) (before : StageValue) (w : StartsWhole before start
 IsClientAt-start : (g : Known) (t : Tree) (v : Shared) (limits : Limits) (id k : ℕ)
     → IsClientAt g (state_at_start t) v k (fresh_client id limits)
 IsClientAt-start g t v limits id k = record {
-  is_client = record {
-    held = record {
-      session = refl;
-      removed = λ inode. refl;
-      handles = tt;
-      views = tt;
-      pending = refl;
-      direct = record { mode = refl; seen = tt };
-    };
-    doing = tt;
-    flight = tt;
-    reading = tt;
-    cache = tt;
-    put = tt;
-  };
+  is_client = fresh_stands g v 0 id limits;
   holds = record { opened = λ inode is. cc; pending = tt };
 }
 

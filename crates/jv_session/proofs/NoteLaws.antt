@@ -25,7 +25,7 @@ use Rattle.jv_laws.proofs.EndedLineLaws.{is_over_at, may_be_cut_at}
 use Rattle.jv_laws.proofs.NotedLineLaws.{Notes as NotesEntry, refused_ran, crash_ran, tick_ran}
 use Rattle.jv_outside.specs.Ticks.{Ticks}
 use Rattle.jv_shared.specs.Shared.{Known, Shared}
-use Rattle.jv_client.specs.ClientValue.{ClientValue, crashed}
+use Rattle.jv_client.specs.ClientValue.{ClientValue, crashed, fresh_client}
 use Rattle.jv_client.specs.Held.{IsClient, Holds}
 use Rattle.jv_client.specs.Makes.{IsCalm, is_failure_entry}
 use Rattle.jv_client.proofs.HeldLaws.{holds-unmounted}
@@ -38,6 +38,7 @@ use Rattle.jv_session.proofs.MemberLaws.{slice_get_inside}
 use Rattle.jv_session.proofs.StateLaws.{state_noted, state_with}
 use Rattle.jv_session.proofs.UsesLaws.{blocks_stay, failures_none, no_failures, uses_clock}
 use Rattle.jv_session.proofs.InLineLaws.{MayBreak, is_now, line_goes_on, says, stops_at}
+use Rattle.jv_model.specs.declared.basics.Limits.{Limits}
 
 -- the moment, where no further second passes
 plain_now : (q : Past) (s : ScheduleValue) (v : Shared) (now : ℕ) (before after : Ticks) → InLine q s v
@@ -99,9 +100,9 @@ low_now : (s : ScheduleValue) (by now : ℕ) (before after : Ticks) → IsMoment
     → now ≤ LAST_MOMENT
 low_now s by now before after m = omega (arith, m.is)
 
--- a client that crashed stands for one that isn't mounted
-crashed_stands : (g : Known) (v : Shared) (count : ℕ) (c : ClientValue) → IsClient g v unmounted count (crashed c)
-crashed_stands g v count c = record {
+-- a client that was just made, or crashed, stands for one that isn't mounted
+pub fresh_stands : (g : Known) (v : Shared) (count id : ℕ) (limits : Limits) → IsClient g v unmounted count (fresh_client id limits)
+fresh_stands g v count id limits = record {
   held = record {
     session = refl;
     removed = λ inode. refl;
@@ -180,7 +181,7 @@ module _ (v : Shared) (number : ℕ) (clock ticked : Ticks) (journal more : List
             (state_with q.run.start h.known q.state s.clients v h.state r.state client c (crashed c) found refl n.tree
             grew (copied_noted q r (entry_of q.line now client Crashed) n.leads refl refl) ran.1.others (record {
               is_client = subst (λ (x : ModelClient). IsClient h.known v x r.state.count (crashed c)) (sym ran.1.own)
-                  (crashed_stands h.known v r.state.count c);
+                  (fresh_stands h.known v r.state.count c.id c.limits);
               holds = subst (λ (x : ModelClient). Holds r.state.tree x) (sym ran.1.own)
                   (holds-unmounted r.state.tree);
             }));
