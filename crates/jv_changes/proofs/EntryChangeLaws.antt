@@ -25,6 +25,7 @@ use Rattle.jv_volume.specs.Views.{row_in, node_in, node_row_at}
 use Rattle.jv_volume.specs.TreeOf.{tree_of}
 use Rattle.jv_volume.specs.Stored.{Stored, links_by, directory_touched}
 use Rattle.jv_volume.specs.Whole.{IsRowAt}
+use Rattle.jv_volume.proofs.SeenLaws.{row-put}
 use Rattle.jv_volume.proofs.StoredLaws.{HasNode, found_node}
 use Rattle.jv_volume.proofs.StoredStepLaws.{alter_kept, node_apart, node_here}
 use Rattle.jv_volume.proofs.EntryStepLaws.{rows_with_entry, tree_of-entry_in, stored-entry_in, rows_without_entry, tree_of-entry_out, stored-entry_out}
@@ -33,7 +34,6 @@ use Rattle.jv_changes.specs.Present.{Presents, links_to_node, linked_row}
 use Rattle.jv_changes.specs.Ready.{StandsAt, MayStandAt, entry_put, IsThere}
 use Rattle.jv_changes.proofs.DraftedLaws.{Drafted, are_rows-put, are_rows-drop, Stays, stays-then, drafting-made, drafting-refused}
 use Rattle.jv_changes.proofs.PresentLaws.{stays-present, present-stands, drafting-absent, Sound, sound-minds, minds-sound, sound-node, sound-edge}
-use Rattle.std.proofs.lemmas.Option.{same_Some}
 
 -- ---- three changes of rows: an entry's, its directory's, and its inode's
 
@@ -66,8 +66,8 @@ module _ (rows : Rows) (at : EntryKey) (inode : ℕ) (row dir : NodeRow) (here :
       let e2 = insert e1 (node_key at.dir) (Ok (OfNode (directory_touched now links dir))) in
       sound-node start e2
       (sound-node start e1 (sound-edge start rows sound at.dir at.name cell new) at.dir dir
-      (directory_touched now links dir) dir_stands refl refl)
-      inode row (linked_row more row) (node_stands (directory_touched now links dir)) refl refl
+      (directory_touched now links dir) dir_stands refl refl refl)
+      inode row (linked_row more row) (node_stands (directory_touched now links dir)) refl refl refl
 
 -- the same three in mind
 pub three-drafted : (at : EntryKey) (inode : ℕ) (cell : Option Cell) (dir_after after : NodeRow)
@@ -170,8 +170,7 @@ module _ (known : RowMap) (was : List Change) (bytes : ℕ → ℕ → ℕ) (t :
     minds-entry_in name changes is = minds-sound known changes bytes (put_entry t now at inode) rows_in
         (sound-three rows at inode row dir here there apart (Some edge_cell) (typed known)
         (sound-minds known was bytes t m)
-        (λ x e. subst (IsRowAt (edge_key at.dir at.name)) (same_Some edge_cell x e)
-        (record { key_is = name; cell_is = refl })) now
+        (λ x. row-put (edge_key at.dir at.name) edge_cell x (record { key_is = name; cell_is = refl; hour = refl })) now
         (dir.nlink + links_by row.kind) (row.nlink + links_to_node row.kind))
         is tree_in stored_in
 

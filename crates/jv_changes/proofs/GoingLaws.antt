@@ -28,7 +28,7 @@ use Rattle.jv_volume.specs.Whole.{IsRowAt, Quiet}
 use Rattle.jv_volume.proofs.FileStepLaws.{files-other, files-drop_other, files-put_counters, files-drop_file}
 use Rattle.jv_volume.proofs.MapLaws.{alter-swap}
 use Rattle.jv_volume.proofs.QuietLaws.{quiet-then, quiet-alter, quiet-put_counters}
-use Rattle.jv_volume.proofs.SeenLaws.{AreRows, node-seen, counters-seen, rows-alter}
+use Rattle.jv_volume.proofs.SeenLaws.{AreRows, node-seen, counters-seen, row-put, rows-alter}
 use Rattle.jv_volume.proofs.StoredLaws.{of_node, of_counters}
 use Rattle.jv_volume.proofs.StoredStepLaws.{rows_without_node, tree_of-old_node, stored-old_node, alter_kept}
 use Rattle.jv_volume.proofs.TableStepLaws.{stored-put_sustained, stored-unseen}
@@ -71,16 +71,12 @@ rows-sustained start rows bytes t sid inode low m =
       tree = tree_of-put_sustained bytes rows sid inode low ∙ ap (sustaining sid inode) m.tree;
       stored = stored-put_sustained bytes rows sid inode low m.stored;
       sound = record {
-        cells = rows-alter rows q cell m.sound.cells (λ x e. typed_cell x e);
+        cells = rows-alter rows q cell m.sound.cells
+            (λ x. row-put q (Ok OfSustained) x (record { key_is = refl; cell_is = refl; hour = refl }));
         files = files-other rows q cell m.sound.files refl refl refl refl;
         quiet = quiet-then start rows (alter rows q cell) m.sound.quiet (quiet-alter rows q cell refl refl);
       };
     }
-  where
-    typed_cell : (x : Cell) → ◌≡◌ {A = Option Cell} (Some (Ok OfSustained)) (Some x)
-        → IsRowAt (sustained_key sid inode) x
-    typed_cell x e = (let same : Ok OfSustained ≡ x = cc in
-        subst (IsRowAt (sustained_key sid inode)) same (record { key_is = refl; cell_is = refl }))
 
 -- ---- a node goes
 
@@ -154,12 +150,10 @@ module _ (start rows : Rows) (bytes : ℕ → ℕ → ℕ) (inode : ℕ) (row : 
   cells_without = rows-alter rows (node_key inode) None m.sound.cells (λ x e. absurd (cc))
 
   counters_typed : (x : Cell) → ◌≡◌ {A = Option Cell} (Some (of_counters left)) (Some x) → IsRowAt counters_key x
-  counters_typed x e = (let same : of_counters left ≡ x = cc in
-      subst (IsRowAt counters_key) same (record { key_is = refl; cell_is = refl }))
+  counters_typed x = row-put counters_key (of_counters left) x (record { key_is = refl; cell_is = refl; hour = refl })
 
   length_typed : (x : Cell) → ◌≡◌ {A = Option Cell} (Some length_cell) (Some x) → IsRowAt (dropped_key inode) x
-  length_typed x e = (let same : length_cell ≡ x = cc in
-      subst (IsRowAt (dropped_key inode)) same (record { key_is = refl; cell_is = refl }))
+  length_typed x = row-put (dropped_key inode) length_cell x (record { key_is = refl; cell_is = refl; hour = refl })
 
   quiet_without : Quiet start without_row
   quiet_without = quiet-then start rows without_row m.sound.quiet (quiet-alter rows (node_key inode) None refl refl)

@@ -1,5 +1,5 @@
 -- Rows in mind are those of the model's tree again once the directory of an hour has come.
-use Rattle.std.proofs.Common.{◌≡◌, ◌≢◌, ℕ, ◌+◌, ◌<◌, ◌≤◌, Bool, true, false, [], ◌∷◌, ◌++◌, ◌/◌, ◌%◌, Option, None, Some, Ok, refl, sym, ap, subst, ◌∙◌, arith}
+use Rattle.std.proofs.Common.{◌≡◌, ◌≢◌, ℕ, ◌+◌, ◌<◌, ◌≤◌, true, false, [], ◌∷◌, ◌++◌, ◌/◌, ◌%◌, Option, None, Some, Ok, refl, sym, ap, subst, ◌∙◌, arith}
 use Rattle.std.specs.Prelude.{◌==◌, ◌&&◌, ◌||◌, not, if◌then◌else◌, is_some, IsTrue}
 use Rattle.std.specs.Option.{option_map}
 use Rattle.std.proofs.lemmas.Bool.{le-ltb, le-leb}
@@ -20,18 +20,18 @@ use Rattle.jv_volume.specs.TypedRows.{Cell, Rows, is_entry_name}
 use Rattle.jv_volume.specs.Views.{counters_at, node_row_at, dropped_at}
 use Rattle.jv_volume.specs.TreeOf.{node_of, tree_of}
 use Rattle.jv_volume.specs.Stored.{Stored, counters_row}
-use Rattle.jv_volume.specs.Whole.{IsRowAt}
 use Rattle.jv_volume.proofs.FileStepLaws.{files-node}
 use Rattle.jv_volume.proofs.HourNameLaws.{last_hour}
 use Rattle.jv_volume.proofs.HourShapeLaws.{hour_inode_high}
 use Rattle.jv_volume.proofs.LinkLaws.{IsFree, standing_apart, standing_here, dirs-shape, is_directory-put_here, is_directory-put_apart, link_count-put_alone, link_count-put_unnamed, link_count-put_entry-dir}
 use Rattle.jv_volume.proofs.MapLaws.{alter-same}
 use Rattle.jv_volume.proofs.QuietLaws.{quiet-then, quiet-alter}
-use Rattle.jv_volume.proofs.SeenLaws.{rows-alter, counters-seen}
+use Rattle.jv_volume.proofs.SeenLaws.{row-put, rows-alter, counters-seen}
 use Rattle.jv_volume.proofs.ShapeMapLaws.{get-inserted}
 use Rattle.jv_volume.proofs.StoredLaws.{of_node, of_counters}
 use Rattle.jv_volume.proofs.StoredStepLaws.{rows_with_node, counters_with_node, stored-new_node, put_kept}
 use Rattle.jv_volume.proofs.TreeOfLaws.{next_inode-tree_of, node_at-tree_of, tree_of-put_node}
+use Rattle.jv_volume.proofs.WholeLaws.{read_only-row}
 use Rattle.jv_changes.specs.Ready.{MayHaveHour, MayStandAt, hour_row, entry_put}
 use Rattle.jv_changes.proofs.GoingLaws.{OfTree}
 use Rattle.jv_changes.proofs.HourLinkLaws.{trash_links}
@@ -199,11 +199,6 @@ module _ (start rows : Rows) (bytes : ℕ → ℕ → ℕ) (now hour : ℕ) (m :
       ∙ alter-same row_key with_row counters_key (Some (of_counters c))
       (put_kept rows (node_key inode) cell counters_key refl ∙ m.stored.counters)
 
-  hour_typed : (x : Cell) → ◌≡◌ {A = Option Cell} (Some (of_node (hour_row now))) (Some x)
-      → IsRowAt (node_key (hour_inode hour)) x
-  hour_typed x e = (let same : cell ≡ x = cc in
-      subst (IsRowAt (node_key inode)) same (record { key_is = refl; cell_is = refl }))
-
   not_dropped : dropped_at rows (hour_inode hour) ≢ None → ⊥
   not_dropped there =
       let given = (m.sound.files.gone inode there).1 in
@@ -217,7 +212,8 @@ module _ (start rows : Rows) (bytes : ℕ → ℕ → ℕ) (now hour : ℕ) (m :
     stored = subst (λ (r : Rows). Stored r (tree_of bytes r)) same_rows
         (stored-new_node bytes rows inode (hour_row now) c c.inode m.stored counters_are free refl);
     sound = record {
-      cells = rows-alter rows (node_key inode) (Some cell) m.sound.cells hour_typed;
+      cells = rows-alter rows (node_key inode) (Some cell) m.sound.cells
+          (λ x. row-put (node_key inode) cell x (read_only-row inode (hour_row now) refl));
       files = files-node rows inode (Some cell) m.sound.files (λ node is file. absurd (a_directory node is file))
           (λ was there file. absurd (cc)) (λ there. absurd (not_dropped there));
       quiet = quiet-then start rows with_row m.sound.quiet (quiet-alter rows (node_key inode) (Some cell) refl refl);

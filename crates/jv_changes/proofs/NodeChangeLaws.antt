@@ -16,6 +16,7 @@ use Rattle.jv_rows.specs.Drafts.{drafted}
 use Rattle.jv_volume.specs.TypedRows.{Rows, typed}
 use Rattle.jv_volume.specs.Views.{node_row_at}
 use Rattle.jv_volume.specs.TreeOf.{node_of, tree_of}
+use Rattle.jv_volume.specs.Whole.{is_read_only}
 use Rattle.jv_volume.proofs.NodeRowLaws.{IsNodeRow, moved_row, node_of-moved, IsNodeRow-moved_dir, IsNodeRow-moved_leaf}
 use Rattle.jv_volume.proofs.StoredLaws.{HasNode, found_node}
 use Rattle.jv_volume.proofs.StoredStepLaws.{stored-change_node}
@@ -30,6 +31,7 @@ use Rattle.jv_changes.proofs.PresentLaws.{stays-present, present-stands, sound-m
 pub record IsRowChanged (change : Node → Node) (row new : NodeRow) : Type 0 where
   pub kind : new.kind ≡ row.kind
   pub length : new.length ≡ row.length
+  pub mode : is_read_only new ≡ is_read_only row
   pub row_is : (byte : ℕ → ℕ) → IsNodeRow row.nlink byte row → IsNodeRow row.nlink byte new
   pub node : (byte : ℕ → ℕ) → node_of byte new ≡ change (node_of byte row)
   pub space : (node : Node) → kind_space (change node).kind ≡ kind_space node.kind
@@ -53,7 +55,7 @@ module _ (known : RowMap) (was now : List Change) (bytes : ℕ → ℕ → ℕ) 
   pub minds-changed_row : Minds known now bytes (change_node t inode change)
   minds-changed_row = minds-sound known now bytes (change_node t inode change)
       (insert before (node_key inode) (Ok (OfNode new)))
-      (sound-node (typed known) before (sound-minds known was bytes t m) inode row new there is.kind is.length)
+      (sound-node (typed known) before (sound-minds known was bytes t m) inode row new there is.kind is.length is.mode)
       (one known)
       (tree_of-put_node bytes before inode new ∙ as_changed)
       (stored-change_node bytes before inode row new m.stored there
@@ -83,6 +85,7 @@ pub is_row-status_changed : (now : ℕ) (row : NodeRow)
 is_row-status_changed now row = record {
   kind = refl;
   length = refl;
+  mode = refl;
   row_is = λ byte is. ap (λ (r : NodeRow). record r { ctime = now }) is;
   node = λ byte. refl;
   space = λ node. refl;
@@ -92,6 +95,7 @@ pub is_row-moved : (now dir : ℕ) (row : NodeRow) → IsRowChanged (moved_node 
 is_row-moved now dir row = record {
   kind = refl;
   length = refl;
+  mode = refl;
   row_is = λ byte. by_kind byte (row.kind == 2) refl;
   node = λ byte. node_of-moved byte row now dir;
   space = λ node. same_space node.kind;

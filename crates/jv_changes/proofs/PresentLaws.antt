@@ -21,16 +21,16 @@ use Rattle.jv_volume.specs.Views.{row_in, node_in, node_row_at}
 use Rattle.jv_volume.specs.TreeOf.{tree_of}
 use Rattle.jv_volume.specs.Stored.{Stored}
 use Rattle.jv_volume.specs.Slices.{WholeFiles}
-use Rattle.jv_volume.specs.Whole.{IsRowAt, Quiet}
+use Rattle.jv_volume.specs.Whole.{IsRowAt, Quiet, is_read_only}
 use Rattle.jv_volume.proofs.FileStepLaws.{files-other, files-same_length}
 use Rattle.jv_volume.proofs.QuietLaws.{quiet-alter, quiet-then}
-use Rattle.jv_volume.proofs.SeenLaws.{rows-alter}
+use Rattle.jv_volume.proofs.SeenLaws.{row-put, rows-alter}
 use Rattle.jv_volume.proofs.StoredLaws.{no_node}
+use Rattle.jv_volume.proofs.WholeLaws.{again-row}
 use Rattle.jv_changes.specs.Drafting.{Minds, AreRows, LeadsTo, Drafting}
 use Rattle.jv_changes.specs.Present.{Presents, RefusesNode}
 use Rattle.jv_changes.specs.Ready.{IsThere}
 use Rattle.jv_changes.proofs.DraftedLaws.{Drafted, was_drafted, Stays, bad-cell, leads-cell}
-use Rattle.std.proofs.lemmas.Option.{same_Some}
 
 -- ---- a node that was read
 
@@ -122,14 +122,13 @@ minds-sound known changes bytes t rows sound is tree stored = record {
 }
 
 module _ (start rows : Rows) (sound : Sound start rows) where
-  -- a node's row that keeps its kind and its length
+  -- a node's row that keeps its kind, its length, and its mode and owner if it's an hour's
   pub sound-node : (inode : ℕ) (was row : NodeRow) → node_row_at rows inode ≡ Some was → row.kind ≡ was.kind
-      → row.length ≡ was.length
+      → row.length ≡ was.length → is_read_only row ≡ is_read_only was
       → Sound start (insert rows (node_key inode) (Ok (OfNode row)))
-  sound-node inode was row there kind length = record {
+  sound-node inode was row there kind length mode = record {
     cells = rows-alter rows (node_key inode) (Some (Ok (OfNode row))) sound.cells
-        (λ x e. subst (IsRowAt (node_key inode)) (same_Some (Ok (OfNode row)) x e)
-        (record { key_is = refl; cell_is = refl }));
+        (λ x. row-put (node_key inode) (Ok (OfNode row)) x (again-row rows inode was row sound.cells there mode));
     files = files-same_length rows inode was row sound.files there kind length;
     quiet = quiet-then start rows (insert rows (node_key inode) (Ok (OfNode row))) sound.quiet
         (quiet-alter rows (node_key inode) (Some (Ok (OfNode row))) refl refl);

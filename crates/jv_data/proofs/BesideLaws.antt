@@ -1,7 +1,6 @@
 -- Changes of lists, slices and dead slices alone: the tree is as before, and whole rows are whole again where slices and files are.
 use Rattle.std.proofs.Common.{◌≡◌, ℕ, List, Option, Some, Ok, refl, sym, subst, ◌∙◌}
 use Rattle.std.specs.Prelude.{IsTrue}
-use Rattle.std.proofs.lemmas.Option.{same_Some}
 use Rattle.jv_model.specs.declared.row.Row.TheVariants.{OfList}
 use Rattle.jv_model.specs.declared.row.RowKey.{RowKey}
 use Rattle.jv_model.specs.declared.slice.Rec.{Rec}
@@ -15,7 +14,7 @@ use Rattle.jv_volume.specs.Slices.{WholeSlices, WholeFiles}
 use Rattle.jv_volume.specs.Whole.{IsRowAt, Whole, no_bytes}
 use Rattle.jv_volume.proofs.TreeOfLaws.{is_unseen, unseen, tree_of-unseen}
 use Rattle.jv_volume.proofs.TableStepLaws.{stored-unseen}
-use Rattle.jv_volume.proofs.SeenLaws.{AreRows, rows-alter}
+use Rattle.jv_volume.proofs.SeenLaws.{AreRows, row-put, rows-alter}
 
 -- rows with the same tree
 pub record Beside (rows after : Rows) : Type 0 where
@@ -44,7 +43,7 @@ beside-alter rows key cell is row = record {
 
 -- a list's row may stand where it is put
 pub list_is_row : (inode window : ℕ) (records : List Rec) (x : Cell) → Some (Ok (OfList records)) ≡ Some x → IsRowAt (list_key inode window) x
-list_is_row inode window records x e = subst (IsRowAt (list_key inode window)) (same_Some _ _ e) (record { key_is = refl; cell_is = refl })
+list_is_row inode window records x = row-put (list_key inode window) (Ok (OfList records)) x (record { key_is = refl; cell_is = refl; hour = refl })
 
 -- rows that are a whole tree's, whatever their lists and slices
 pub record IsFormed (rows : Rows) : Type 0 where

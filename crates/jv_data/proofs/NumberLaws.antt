@@ -32,13 +32,13 @@ use Rattle.jv_volume.specs.Shape.{WholeShape, shape_of}
 use Rattle.jv_volume.specs.Views.{row_in, counters_in, counters_at, node_in, node_row_at, dropped_in, dropped_at, slice_in, slice_row_at, dead_in, dead_at, lists_of}
 use Rattle.jv_volume.specs.TreeOf.{or_no_counters, counters_of, tree_of}
 use Rattle.jv_volume.specs.Slices.{IsUnknown, named_by, count_in, next_slice, WholeSlices, WholeFiles, HasLists, OfFile, OfDropped}
-use Rattle.jv_volume.specs.Whole.{IsRowAt, Whole, no_bytes}
+use Rattle.jv_volume.specs.Whole.{Whole, no_bytes}
 use Rattle.jv_volume.proofs.MapLaws.{get-alter-here, get-alter-apart}
 use Rattle.jv_volume.proofs.ShapeMapLaws.{same_or_apart}
 use Rattle.jv_volume.proofs.StoredLaws.{HasCounters, of_counters, found_counters, whole-stored}
 use Rattle.jv_volume.proofs.StoredStepLaws.{stored-put_counters}
 use Rattle.jv_volume.proofs.TreeOfLaws.{tree_of-put_counters}
-use Rattle.jv_volume.proofs.SeenLaws.{rows-alter}
+use Rattle.jv_volume.proofs.SeenLaws.{row-put, rows-alter}
 use Rattle.jv_contents.proofs.PlaceLaws.{place_in-same}
 use Rattle.jv_data.proofs.ListRowLaws.{get-other, named_by-other, lists_of-other, listed-other}
 use Rattle.jv_data.specs.Records.{TakesNumber, LandsNumber, Numbered, number_given}
@@ -127,7 +127,7 @@ module _ (rows : Rows) (c : Counters) (whole : Whole rows) (there : counters_at 
   pub whole-numbered : Whole numbered_rows
   whole-numbered = record {
     cells = rows-alter rows counters_key put whole.cells
-        (λ x e. subst (λ o. IsRowAt counters_key o) (same_Some _ _ e) (record { key_is = refl; cell_is = refl }));
+        (λ x. row-put counters_key (of_counters next) x (record { key_is = refl; cell_is = refl; hour = refl }));
     stored = stored-put_counters no_bytes rows next whole.stored (has no_bytes).space (has no_bytes).inodes;
     tree = subst (λ t. WholeShape (shape_of t)) (sym (tree-numbered no_bytes)) whole.tree;
     slices = slices-numbered;

@@ -22,6 +22,7 @@ use Rattle.jv_volume.specs.Views.{lists_of, node_row_at, slice_row_at, counters_
 use Rattle.jv_volume.specs.Slices.{IsUnknown, next_slice, place_in}
 use Rattle.jv_volume.specs.Whole.{IsRowAt, Quiet, Whole}
 use Rattle.jv_volume.proofs.QuietLaws.{lists_of-stay, slice_row-stay}
+use Rattle.jv_volume.proofs.SeenLaws.{row-put}
 use Rattle.jv_contents.specs.Places.{put_over}
 use Rattle.jv_contents.specs.Bytes.{KnownBytes, spot_byte, bytes_of, tree_with}
 use Rattle.jv_contents.specs.Counts.{KeepsOthers}
@@ -37,7 +38,7 @@ use Rattle.jv_data.proofs.SizedLaws.{sized_rows, sized, formed-sized, quiet-size
 
 -- a slice's row may stand where it is put
 slice_is_row : (id : ℕ) (slice : SliceRow) (x : Cell) → Some (Ok (OfSlice slice)) ≡ Some x → IsRowAt (slice_key id) x
-slice_is_row id slice x e = subst (IsRowAt (slice_key id)) (same_Some _ _ e) (record { key_is = refl; cell_is = refl })
+slice_is_row id slice x = row-put (slice_key id) (Ok (OfSlice slice)) x (record { key_is = refl; cell_is = refl; hour = refl })
 
 module _ (rows : Rows) (inode window : ℕ) (low : window < 2 ^ 32) (was : NodeRow) (c : Counters) (now : ℕ) (rec : Rec) (list : List Rec)
     (whole : Whole rows) (there : node_row_at rows inode ≡ Some was) (file : was.kind ≡ 1) (counters : counters_at rows ≡ Some c)

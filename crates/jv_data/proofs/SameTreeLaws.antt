@@ -2,7 +2,6 @@
 use Rattle.std.proofs.Common.{◌≡◌, ℕ, ◌^◌, Bool, true, false, inl, inr, List, [], Option, None, Some, Ok, option_map, refl, sym, ap, subst, ◌∙◌}
 use Rattle.std.specs.Prelude.{◌==◌, ◌&&◌, ◌||◌, if◌then◌else◌}
 use Rattle.std.proofs.lemmas.Bool.{cases_lt, or_parts, eqb-true, and_parts}
-use Rattle.std.proofs.lemmas.Option.{same_Some}
 use Rattle.jv_model.specs.declared.tables.TheConstants.{TABLE_OF_SLICES, TABLE_OF_DEAD}
 use Rattle.jv_model.specs.declared.row.RowKey.{RowKey}
 use Rattle.jv_model.specs.declared.row.Row.TheVariants.{OfSlice, OfDead}
@@ -20,7 +19,7 @@ use Rattle.jv_volume.specs.TreeOf.{tree_of, node_of, session_of, or_no_setting, 
 use Rattle.jv_volume.specs.Slices.{records_naming}
 use Rattle.jv_volume.specs.Stored.{Stored}
 use Rattle.jv_volume.specs.Whole.{IsRowAt}
-use Rattle.jv_volume.proofs.SeenLaws.{AreRows}
+use Rattle.jv_volume.proofs.SeenLaws.{AreRows, row-put}
 use Rattle.jv_volume.proofs.StoredStepLaws.{NodeKept, EdgeKept, CellKept, stored-goes}
 use Rattle.jv_volume.proofs.TreeOfLaws.{is_unseen, node_at-tree_of, get-entries, get-sessions, get-sustained, get-sustained-none}
 use Rattle.jv_contents.proofs.CountLaws.{others-adjusted}
@@ -73,13 +72,13 @@ module _ (gone added : List Rec) (due : ℕ) (rows after : Rows) (a : Adjusted g
       others-adjusted gone added due rows after a key q.0 r.1
 
   row_cell : (id size n : ℕ) (x : Cell) (b : Bool) → (if b then None else Some (Ok (OfSlice (record { size = size; count = n })))) ≡ Some x → IsRowAt (slice_key id) x
-  row_cell id size n x true e = absurd (cc)
-  row_cell id size n x false e = subst (IsRowAt (slice_key id)) (same_Some (Ok (OfSlice (record { size = size; count = n }))) x e) (record { key_is = refl; cell_is = refl })
+  row_cell id size n x true = λ e. absurd (cc)
+  row_cell id size n x false = row-put (slice_key id) (Ok (OfSlice (record { size = size; count = n }))) x (record { key_is = refl; cell_is = refl; hour = refl })
 
   died_cell : (id size : ℕ) (before : Option Cell) (x : Cell) (b : Bool) → (before ≡ Some x → IsRowAt (dead_key id) x)
       → (if b then Some (Ok (OfDead (record { size = size; due = due }))) else before) ≡ Some x → IsRowAt (dead_key id) x
-  died_cell id size before x true was e = subst (IsRowAt (dead_key id)) (same_Some (Ok (OfDead (record { size = size; due = due }))) x e) (record { key_is = refl; cell_is = refl })
-  died_cell id size before x false was e = was e
+  died_cell id size before x true was = row-put (dead_key id) (Ok (OfDead (record { size = size; due = due }))) x (record { key_is = refl; cell_is = refl; hour = refl })
+  died_cell id size before x false was = was
 
   named_cell : AreRows rows → (tab id : ℕ) (b : List ℕ) (x : Cell) → get after (record { tab = tab; a = id; b = b }) ≡ Some x
       → ((tab == TABLE_OF_SLICES) || (tab == TABLE_OF_DEAD)) ≡ true → b ≡ [] → Recounted id (records_naming id gone) (records_naming id added) due rows after

@@ -2,7 +2,6 @@
 -- content that is put there.
 use Rattle.std.proofs.Common.{◌≡◌, ◌≢◌, ℕ, ◌+◌, ◌-◌, ◌≤◌, Bool, true, false, ◌&&◌, inl, inr, None, Some, Ok, refl, sym, ap, subst, ◌∙◌, arith, le-leb, ne_eqb}
 use Rattle.std.proofs.lemmas.Bool.{cases_eq, or_right}
-use Rattle.std.proofs.lemmas.Option.{same_Some}
 use Rattle.std.specs.Prelude.{◌==◌, ◌||◌, not, nat_lt, nat_le, IsTrue, if◌then◌else◌}
 use Rattle.std.specs.Option.{option_map}
 use Rattle.jv_model.specs.declared.limits.TheConstants.{FILE_END, ROOT, TRASH_ROOT}
@@ -24,19 +23,20 @@ use Rattle.jv_volume.specs.TreeOf.{node_of, tree_of}
 use Rattle.jv_volume.specs.Shape.{WholeShape, Regular, form_of, is_there, shape_of}
 use Rattle.jv_volume.specs.Slices.{OfFile, WholeFiles}
 use Rattle.jv_volume.specs.Stored.{Stored}
-use Rattle.jv_volume.specs.Whole.{Whole, Quiet, IsRowAt, no_bytes}
+use Rattle.jv_volume.specs.Whole.{Whole, Quiet, no_bytes}
 use Rattle.jv_volume.proofs.FilesLaws.{FileIs, Longer}
 use Rattle.jv_volume.proofs.FileStepLaws.{files-node, files-put_counters}
 use Rattle.jv_volume.proofs.MapLaws.{get-alter-here, get-alter-apart}
 use Rattle.jv_volume.proofs.NodeRowLaws.{IsNodeRow, IsNodeRow-length}
 use Rattle.jv_volume.proofs.QuietLaws.{quiet-alter, quiet-put_counters, quiet-slices, quiet-then}
 use Rattle.jv_volume.proofs.SameShapeLaws.{whole_as}
-use Rattle.jv_volume.proofs.SeenLaws.{AreRows, rows-alter}
+use Rattle.jv_volume.proofs.SeenLaws.{AreRows, row-put, rows-alter}
 use Rattle.jv_volume.proofs.ShapeMapLaws.{get-inserted, get-insert_apart, shape-put_node_same}
 use Rattle.jv_volume.proofs.StoredLaws.{HasNode, HasCounters, of_counters, found_node, found_counters, found_setting, whole-shape, whole-stored}
 use Rattle.jv_volume.proofs.StoredStepLaws.{tree_of-length, stored-length}
 use Rattle.jv_volume.proofs.SumLaws.{node_space-counted, used_space-drop_node, used_space-with_content, used_inodes-with_content}
 use Rattle.jv_volume.proofs.TreeOfLaws.{node_at-tree_of}
+use Rattle.jv_volume.proofs.WholeLaws.{again-row}
 use Rattle.jv_data.specs.Resizing.{used_after}
 use Rattle.jv_data.proofs.BesideLaws.{IsFormed}
 
@@ -174,10 +174,12 @@ module _ (rows : Rows) (inode : ℕ) (was : NodeRow) (c : Counters) (now length 
       (quiet-put_counters middle c (record c { used_space = space }) counters_stay refl)
 
   cells-sized : AreRows sized_rows
-  cells-sized = rows-alter middle counters_key (Some (of_counters (record c { used_space = space })))
+  cells-sized =
+      let counted = of_counters (record c { used_space = space }) in
+      rows-alter middle counters_key (Some counted)
       (rows-alter rows (node_key inode) (Some (Ok (OfNode sized))) whole.cells
-      (λ x e. subst (λ o. IsRowAt (node_key inode) o) (same_Some _ _ e) (record { key_is = refl; cell_is = refl })))
-      (λ x e. subst (λ o. IsRowAt counters_key o) (same_Some _ _ e) (record { key_is = refl; cell_is = refl }))
+      (λ x. row-put (node_key inode) (Ok (OfNode sized)) x (again-row rows inode was sized whole.cells there refl)))
+      (λ x. row-put counters_key counted x (record { key_is = refl; cell_is = refl; hour = refl }))
 
   tree_is-sized : WholeShape (shape_of (tree_of no_bytes sized_rows))
   tree_is-sized = subst (λ (t : Tree). WholeShape (shape_of t)) (sym (tree-sized no_bytes)) (shape-sized no_bytes)

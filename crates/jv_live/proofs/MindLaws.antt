@@ -20,7 +20,7 @@ use Rattle.jv_volume.specs.Views.{row_in, counters_in, counters_at}
 use Rattle.jv_volume.specs.Whole.{IsRowAt, Quiet}
 use Rattle.jv_volume.proofs.FileStepLaws.{files-other, files-put_counters}
 use Rattle.jv_volume.proofs.QuietLaws.{quiet-alter, quiet-put_counters, quiet-then}
-use Rattle.jv_volume.proofs.SeenLaws.{rows-alter}
+use Rattle.jv_volume.proofs.SeenLaws.{row-put, rows-alter}
 use Rattle.jv_volume.proofs.SeenLaws as seen
 use Rattle.jv_volume.proofs.StoredLaws.{found_counters}
 use Rattle.jv_volume.proofs.StoredStepLaws.{stored-put_counters}
@@ -29,11 +29,6 @@ use Rattle.jv_volume.proofs.TreeOfLaws.{tree_of-put_session, tree_of-drop_sessio
 use Rattle.jv_changes.specs.Drafting.{Minds, Drafting}
 use Rattle.jv_changes.proofs.DraftedLaws.{Drafted, are_rows-put, are_rows-drop, stays-none, drafting-made}
 use Rattle.jv_live.specs.Steps.{keeping_session, ending_session, letting_go}
-use Rattle.std.proofs.lemmas.Option.{same_Some}
-
--- a row that is a row is one at its key, whatever it is
-well_put : (q : RowKey) (good x : Cell) → IsRowAt q good → Some good ≡ Some x → IsRowAt q x
-well_put q good x is e = subst (IsRowAt q) (same_Some good x e) is
 
 -- a change at a key, by what it does to rows
 module _ (known : RowMap) (was now : List Change) (bytes : ℕ → ℕ → ℕ) (t : Tree) (m : Minds known was bytes t) (q : RowKey) (stands : Option Cell)
@@ -61,7 +56,7 @@ module _ (known : RowMap) (was now : List Change) (bytes : ℕ → ℕ → ℕ) 
       let good : Cell = Ok (OfSession session) in
       minds_by known was now bytes t m q (Some good) done (keeping_session sid session t)
       (tree_of-put_session bytes r sid session ∙ ap (keeping_session sid session) m.tree)
-      (λ x e. well_put q good x (record { key_is = refl; cell_is = refl }) e)
+      (λ x. row-put q good x (record { key_is = refl; cell_is = refl; hour = refl }))
       (stored-put_session bytes r sid session m.stored)
       (files-other r q (Some good) m.files refl refl refl refl)
       (quiet-alter r q (Some good) refl refl)
@@ -100,7 +95,7 @@ module _ (known : RowMap) (was now : List Change) (bytes : ℕ → ℕ → ℕ) 
       minds_by known was now bytes t m counters_key (Some good) done (record t { next_session = next })
       (tree_of-put_counters bytes r after ∙ (λ i. record (tree_of bytes r) { next_inode = sym has.next_inode i; next_session = next })
       ∙ ap (λ (u : Tree). record u { next_session = next }) m.tree)
-      (λ x e. well_put counters_key good x (record { key_is = refl; cell_is = refl }) e)
+      (λ x. row-put counters_key good x (record { key_is = refl; cell_is = refl; hour = refl }))
       (stored-put_counters bytes r after m.stored has.space has.inodes)
       (files-put_counters r c after m.files at refl (omega arith))
       (quiet-put_counters r c after at refl)

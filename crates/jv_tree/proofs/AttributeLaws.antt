@@ -2,6 +2,7 @@
 use Rattle.std.proofs.Common.{◌≡◌, ℕ, Bool, true, false, List, [], Option, Some, None, Result, Ok, Err, refl, sym, ap, subst, ◌∙◌, true≢false}
 use Rattle.std.specs.Prelude.{not, is_some, is_ok, IsErrAnd}
 use Rattle.std.specs.Option.{option_map}
+use Rattle.std.proofs.lemmas.Bool.{leb-false}
 use Rattle.jv_model.specs.declared.basics.Who.{Who}
 use Rattle.jv_model.specs.declared.fault.Down.{Down}
 use Rattle.jv_model.specs.declared.fault.Fault.{Fault}
@@ -9,6 +10,7 @@ use Rattle.jv_model.specs.declared.fault.Fault.TheVariants.{NotFound, NotPermitt
 use Rattle.jv_model.specs.declared.fault.RowFault.TheVariants.{Bad, Failed, Memory}
 use Rattle.jv_model.specs.declared.fault.TxFault.{TxFault}
 use Rattle.jv_model.specs.declared.fault.TxFault.TheVariants.{Refused, Moved, Rows as OfRows}
+use Rattle.jv_model.specs.declared.limits.TheConstants.{TRASH_ROOT}
 use Rattle.jv_model.specs.declared.op.Reply.TheVariants.{Done}
 use Rattle.jv_model.specs.declared.row.Node.{Node as NodeRow}
 use Rattle.jv_model.specs.declared.row.Row.TheVariants.{OfNode}
@@ -27,18 +29,20 @@ use Rattle.jv_outside.specs.Rows.{applied}
 use Rattle.jv_outside.specs.Store.{Store, Commits}
 use Rattle.jv_volume.specs.TypedRows.{Rows, typed}
 use Rattle.jv_volume.specs.TreeOf.{node_of, tree_of}
-use Rattle.jv_volume.specs.Shape.{WholeShape, shape_of, form_of, is_there}
+use Rattle.jv_volume.specs.Shape.{WholeShape, shape_of, form_of, is_there, is_hour}
 use Rattle.jv_volume.specs.Views.{row_in, node_in, node_row_at}
-use Rattle.jv_volume.specs.Whole.{Whole, Quiet, IsRowAt, no_bytes}
+use Rattle.jv_volume.specs.Whole.{Whole, Quiet, no_bytes}
+use Rattle.jv_volume.proofs.EnteredShapeLaws.{not_hour_below}
 use Rattle.jv_volume.proofs.FileStepLaws.{files-same_length}
 use Rattle.jv_volume.proofs.NodeRowLaws.{IsNodeRow}
 use Rattle.jv_volume.proofs.QuietLaws.{quiet-alter, quiet-slices}
 use Rattle.jv_volume.proofs.SameShapeLaws.{whole-attributes}
-use Rattle.jv_volume.proofs.SeenLaws.{rows-alter}
+use Rattle.jv_volume.proofs.SeenLaws.{row-put, rows-alter}
 use Rattle.jv_volume.proofs.StoredLaws.{HasNode, found_node, whole-stored, whole-shape}
 use Rattle.jv_volume.proofs.StoredStepLaws.{stored-change_node}
 use Rattle.jv_volume.proofs.TreeOfLaws.{tree_of-put_node}
 use Rattle.jv_volume.proofs.WalkShapeLaws.{IsReached, Directory, Entry, path_reached}
+use Rattle.jv_volume.proofs.WholeLaws.{no_hour-row}
 use Rattle.jv_rows.specs.Drafts.{Drafts, drafted}
 use Rattle.jv_rows.specs.Transactions.{IsFor, Transacts, Always, Landed}
 use Rattle.jv_rows.specs.Walks.{Comes}
@@ -46,7 +50,6 @@ use Rattle.jv_rows.specs.declared.walking.Place.{Place}
 use Rattle.jv_rows.proofs.TransactionLaws.{Past, FailsBy, past-start, past-as, past-fails, transacts-refused, transacts-exit}
 use Rattle.jv_rows.proofs.ArrivalLaws.{past-place, stops-place}
 use Rattle.jv_tree.specs.Attributes.{changeable_inode, HasPut, PutsNode, IsNotBad}
-use Rattle.std.proofs.lemmas.Option.{same_Some}
 
 -- ---- a row that was put
 
@@ -117,6 +120,23 @@ module _ (caller : Caller) (change : Node → Node) (path : List ℕ) (t : Tree)
   pub begins-attributes : with_attributes t caller path change ≡ (changeable_inode t caller.sid path >>= attributes_changed caller change t)
   begins-attributes = by_parts (session_there t caller.sid) (inode_of t path) refl
 
+-- the inode is of no hour, since what is in the trash keeps its attributes
+changeable-no_hour : (t : Tree) (sid : ℕ) (path : List ℕ) (inode : ℕ) → changeable_inode t sid path ≡ Ok inode → is_hour inode ≡ false
+changeable-no_hour t sid path inode is = by_parts (session_there t sid) (inode_of t path) is
+  where
+    by_test : (found : ℕ) (b : Bool) → in_trash found ≡ b → (require (not b) NotPermitted >>= (λ unit. Ok found)) ≡ Ok inode → is_hour inode ≡ false
+    by_test found true e same = absurd (cc)
+    by_test found false e same =
+        let here : found ≡ inode = cc in
+        subst (λ i. is_hour i ≡ false) here (not_hour_below found (leb-false TRASH_ROOT found e))
+
+    by_parts : (session : Result (Unit {0}) Fault) (walked : Result ℕ Fault)
+        → (session >>= (λ unit. walked >>= (λ found. require (not (in_trash found)) NotPermitted >>= (λ unit. Ok found)))) ≡ Ok inode
+        → is_hour inode ≡ false
+    by_parts (Err fault) walked same = absurd (cc)
+    by_parts (Ok unit) (Err fault) same = absurd (cc)
+    by_parts (Ok unit) (Ok found) same = by_test found (in_trash found) refl same
+
 -- ---- a row with other attributes
 
 -- The row of a node with other attributes, which keeps its kind, its length and its links.
@@ -128,7 +148,7 @@ pub record IsChanged (now : ℕ) (change : Node → Node) (row new : NodeRow) : 
   pub kind_is : (byte : ℕ → ℕ) → (node_of byte new).kind ≡ (node_of byte row).kind
 
 module _ (rows : Rows) (whole : Whole rows) (inode : ℕ) (row new : NodeRow) (there : node_row_at rows inode ≡ Some row) (now : ℕ) (change : Node → Node)
-    (is : IsChanged now change row new) where
+    (is : IsChanged now change row new) (none : is_hour inode ≡ false) where
   abbrev changed_rows : Rows
   changed_rows = insert rows (node_key inode) (Ok (OfNode new))
 
@@ -141,7 +161,7 @@ module _ (rows : Rows) (whole : Whole rows) (inode : ℕ) (row new : NodeRow) (t
   pub changed-whole : Whole changed_rows
   changed-whole = record {
     cells = rows-alter rows (node_key inode) (Some (Ok (OfNode new))) whole.cells
-        (λ x e. subst (λ c. IsRowAt (node_key inode) c) (same_Some (Ok (OfNode new)) x e) (record { key_is = refl; cell_is = refl }));
+        (λ x. row-put (node_key inode) (Ok (OfNode new)) x (no_hour-row inode new none));
     stored = stored-change_node no_bytes rows inode row new whole.stored there
         (is.row_is row.nlink (no_bytes inode) (subst (λ l. IsNodeRow l (no_bytes inode) row) (sym has.links) has.row_is)) is.kind
         (ap kind_space (is.kind_is (no_bytes inode)));
@@ -190,11 +210,12 @@ module _ (before middle after : Store) (who : Who) (caller : Caller) (is_for : I
         let stands = ap (λ x. node_in (row_in x))
         (of_known (λ known. get (typed known) (node_key place.inode) ≡ Some (Ok (OfNode place.node))) middle.rows known (came.rows_are ∙ here) c.stands) in
         let node = found_node bytes rows (whole-stored bytes rows whole) place.inode place.node stands in
+        let none = changeable-no_hour (tree_of bytes rows) who.sid path place.inode (c.looks.agrees known here whole bytes) in
         record {
           left = put.left;
           is = put.is;
-          whole = subst Whole (sym put.put) (changed-whole rows whole place.inode place.node new stands caller.now change is);
-          quiet = subst (Quiet rows) (sym put.put) (changed-quiet rows whole place.inode place.node new stands caller.now change is);
+          whole = subst Whole (sym put.put) (changed-whole rows whole place.inode place.node new stands caller.now change is none);
+          quiet = subst (Quiet rows) (sym put.put) (changed-quiet rows whole place.inode place.node new stands caller.now change is none);
           model = came.goes_on known here whole bytes
               ∙ ap (λ o. some_or o NotFound >>= (λ node. done (put_node (tree_of bytes rows) place.inode (status_changed caller.now (change node))))) node.there
               ∙ ap (λ n. done (put_node (tree_of bytes rows) place.inode n)) (sym (is.node (bytes place.inode)))

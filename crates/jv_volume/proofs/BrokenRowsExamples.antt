@@ -1,20 +1,25 @@
 -- Rows that aren't whole, each with one thing that is broken.
-use Rattle.std.proofs.Common.{◌≡◌, ℕ, [], ◌∷◌, Option, None, Some, Ok, Err, refl, sym, ap, arith}
+use Rattle.std.proofs.Common.{◌≡◌, ℕ, List, [], ◌∷◌, Option, None, Some, Ok, Err, refl, sym, ap, arith}
 use Rattle.std.proofs.lemmas.Bool.{false≢true}
 use Rattle.std.proofs.lemmas.Option.{none-some}
-use Rattle.jv_model.specs.declared.limits.TheConstants.{ROOT}
+use Rattle.jv_model.specs.declared.limits.TheConstants.{FULL_MODE, READ_ONLY_MODE, ROOT, TRASH_ROOT}
 use Rattle.jv_model.specs.declared.row.Counters.{Counters}
 use Rattle.jv_model.specs.declared.row.Node.{Node as NodeRow}
 use Rattle.jv_model.specs.declared.row.Edge.{Edge}
+use Rattle.jv_model.specs.declared.row.RowKey.{RowKey}
 use Rattle.jv_model.specs.declared.row.Row.TheVariants.{OfNode, OfEdge, OfList, OfSlice}
 use Rattle.jv_model.specs.declared.slice.Spot.{Spot}
 use Rattle.jv_model.specs.declared.slice.Spot.TheVariants.{Zero, Slice}
+use Rattle.jv_model.specs.FiniteMap.{insert}
 use Rattle.jv_model.specs.rows.RowPlaces.{node_key, edge_key, list_key, slice_key}
-use Rattle.jv_volume.specs.TypedRows.{Rows}
+use Rattle.jv_model.specs.tree.HourNames.{hour_name}
+use Rattle.jv_model.specs.tree.Trash.{hour_inode}
+use Rattle.jv_model.proofs.TreeComputeLaws.{names_compute}
+use Rattle.jv_volume.specs.TypedRows.{Cell, Rows}
 use Rattle.jv_volume.specs.Views.{row_in, node_in, edge_in, counters_in}
 use Rattle.jv_volume.specs.Slices.{HasLists, OfFile, OfDropped}
 use Rattle.jv_volume.specs.Whole.{Whole}
-use Rattle.jv_volume.specs.Fresh.{fresh_counters}
+use Rattle.jv_volume.specs.Fresh.{fresh_counters, fresh_directory, new_directory}
 use Rattle.jv_volume.proofs.WholeRowsExamples.{rows_compute, volume, top, one_file, file, name, ten, with_file}
 
 -- a stored link count is off
@@ -101,3 +106,27 @@ no_row = volume fresh_counters top ((slice_key 1, Err (7 ∷ [])) ∷ [])
 no_row_broken : Whole no_row → ⊥
 unfolding rows_compute
 no_row_broken w = false≢true ((w.cells (slice_key 1) (Err (7 ∷ [])) refl).cell_is)
+
+-- a volume with a directory of an hour that has this row
+abbrev with_hour : NodeRow → Rows
+with_hour hour =
+    let more : List (RowKey × Cell) = (node_key (hour_inode 1), Ok (OfNode hour))
+    ∷ (edge_key TRASH_ROOT (hour_name 1), Ok (OfEdge (record { kind = 2; inode = hour_inode 1 })))
+    ∷ [] in
+    insert (volume fresh_counters top more) (node_key TRASH_ROOT) (Ok (OfNode (record (fresh_directory READ_ONLY_MODE 0) { nlink = 3 })))
+
+-- all may write in the directory of an hour
+abbrev writable : NodeRow
+writable = new_directory TRASH_ROOT FULL_MODE 0
+
+writable_broken : Whole (with_hour writable) → ⊥
+unfolding rows_compute names_compute
+writable_broken w = false≢true ((w.cells (node_key (hour_inode 1)) (Ok (OfNode writable)) refl).hour)
+
+-- the directory of an hour is another user's
+abbrev owned : NodeRow
+owned = record (new_directory TRASH_ROOT READ_ONLY_MODE 0) { uid = 7 }
+
+owned_broken : Whole (with_hour owned) → ⊥
+unfolding rows_compute names_compute
+owned_broken w = false≢true ((w.cells (node_key (hour_inode 1)) (Ok (OfNode owned)) refl).hour)

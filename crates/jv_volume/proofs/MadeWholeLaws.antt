@@ -4,7 +4,6 @@ use Rattle.std.specs.Prelude.{IsTrue}
 use Rattle.std.specs.Option.{option_map}
 use Rattle.jv_model.specs.declared.limits.TheConstants.{FILE_END, FULL_COUNT}
 use Rattle.jv_model.specs.declared.row.RowKey.{RowKey}
-use Rattle.jv_model.specs.declared.row.Row.{Row}
 use Rattle.jv_model.specs.declared.row.Counters.{Counters}
 use Rattle.jv_model.specs.declared.row.Node.{Node as NodeRow}
 use Rattle.jv_model.specs.declared.row.Row.TheVariants.{OfCounters, OfNode, OfEdge}
@@ -14,22 +13,23 @@ use Rattle.jv_model.specs.rows.RowPlaces.{counters_key, node_key, edge_key}
 use Rattle.jv_model.specs.tree.Tree.{Tree, EntryKey, node_at, link_count}
 use Rattle.jv_model.specs.tree.Making.{may_be_new, with_next}
 use Rattle.jv_model.proofs.FiniteMapLaws.{get-insert}
-use Rattle.jv_volume.specs.TypedRows.{Cell, Rows, is_entry_name, is_key, is_typed}
+use Rattle.jv_volume.specs.TypedRows.{Cell, Rows, is_entry_name}
 use Rattle.jv_volume.specs.Views.{row_in, counters_in, counters_at, node_in, node_row_at}
 use Rattle.jv_volume.specs.TreeOf.{node_of, or_no_counters, counters_of, tree_of}
 use Rattle.jv_volume.specs.Shape.{Dir, WholeShape, form_of, shape_of}
 use Rattle.jv_volume.specs.Stored.{Stored, node_row, directory_touched}
 use Rattle.jv_volume.specs.Slices.{WholeFiles}
-use Rattle.jv_volume.specs.Whole.{IsRowAt, Whole, Quiet, no_bytes}
+use Rattle.jv_volume.specs.Whole.{Whole, Quiet, no_bytes}
 use Rattle.jv_volume.proofs.EnteredShapeLaws.{whole-with_next}
 use Rattle.jv_volume.proofs.FilesLaws.{fresh_lists}
 use Rattle.jv_volume.proofs.FileStepLaws.{files-other, files-same_length, files-new_node, files-put_counters}
 use Rattle.jv_volume.proofs.LinkLaws.{next_absent}
 use Rattle.jv_volume.proofs.MadeRowsLaws.{grown, made_rows, IsMade, tree_of-made, stored-made}
 use Rattle.jv_volume.proofs.QuietLaws.{quiet-alter, quiet-put_counters, quiet-slices, quiet-then}
-use Rattle.jv_volume.proofs.SeenLaws.{AreRows, rows-alter}
+use Rattle.jv_volume.proofs.SeenLaws.{AreRows, row-put, rows-alter}
 use Rattle.jv_volume.proofs.ShapeMapLaws.{get-insert_apart}
 use Rattle.jv_volume.proofs.StoredLaws.{same_shape, found_counters, stored-again, stored_node_row, whole-shape, whole-stored}
+use Rattle.jv_volume.proofs.WholeLaws.{given-row, again-row}
 
 -- What lets a new row and its entry be those of whole rows: a name of an entry in a place for new ones, and an inode that is left.
 pub record MayBeMade (place : EntryKey) (row : NodeRow) (byte : ℕ → ℕ) (c : Counters) : Type 0 where
@@ -38,10 +38,6 @@ pub record MayBeMade (place : EntryKey) (row : NodeRow) (byte : ℕ → ℕ) (c 
   pub room : c.inode < FULL_COUNT
   pub small : row.length ≤ FILE_END
   pub parent : (parent : ℕ) → form_of (Some (node_of byte row)) ≡ Dir parent → parent ≡ place.dir
-
--- a row at a key of its table
-row_at_key : (key : RowKey) (row : Row) → IsTrue (is_key key) → (x : Cell) → Some (Ok row) ≡ Some x → IsRowAt key x
-row_at_key key row is x e = (let same : Ok row ≡ x = cc in record { key_is = is; cell_is = ap is_typed (sym same) })
 
 module _ (bytes : ℕ → ℕ → ℕ) (rows : Rows) (now : ℕ) (place : EntryKey) (row dir : NodeRow) (links : ℕ) (c : Counters) (space : ℕ) (whole : Whole rows)
     (there : node_row_at rows place.dir ≡ Some dir) (counters : counters_at rows ≡ Some c)
@@ -110,11 +106,15 @@ module _ (bytes : ℕ → ℕ → ℕ) (rows : Rows) (now : ℕ) (place : EntryK
   module _ (may : MayBeMade place row (bytes c.inode) c) where
     cells_made : AreRows after
     cells_made =
-        let all_1 : AreRows r1 = rows-alter rows (node_key c.inode) (Some new_cell) whole.cells (row_at_key (node_key c.inode) (OfNode row) refl) in
+        let all_1 : AreRows r1 = rows-alter rows (node_key c.inode) (Some new_cell) whole.cells
+        (λ x. row-put (node_key c.inode) new_cell x (given-row c.inode row (omega (arith, may.room)))) in
         let all_2 : AreRows r2 = rows-alter r1 (edge_key place.dir place.name) (Some edge_cell) all_1
-        (row_at_key (edge_key place.dir place.name) (OfEdge (record { kind = row.kind; inode = c.inode })) may.name) in
-        let all_3 : AreRows r3 = rows-alter r2 (node_key place.dir) (Some dir_cell) all_2 (row_at_key (node_key place.dir) (OfNode (directory_touched now links dir)) refl) in
-        rows-alter r3 counters_key (Some (Ok (OfCounters (grown space c)))) all_3 (row_at_key counters_key (OfCounters (grown space c)) refl)
+        (λ x. row-put (edge_key place.dir place.name) edge_cell x (record { key_is = may.name; cell_is = refl; hour = refl })) in
+        let all_3 : AreRows r3 = rows-alter r2 (node_key place.dir) (Some dir_cell) all_2
+        (λ x. row-put (node_key place.dir) dir_cell x (again-row r2 place.dir dir (directory_touched now links dir) all_2 dir_2 refl)) in
+        let counted : Cell = Ok (OfCounters (grown space c)) in
+        rows-alter r3 counters_key (Some counted) all_3
+        (λ x. row-put counters_key counted x (record { key_is = refl; cell_is = refl; hour = refl }))
 
     files_made : WholeFiles after
     files_made =

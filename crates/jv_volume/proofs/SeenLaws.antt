@@ -19,6 +19,7 @@ use Rattle.jv_volume.specs.Whole.{IsRowAt}
 use Rattle.jv_volume.proofs.ShapeMapLaws.{same_or_apart}
 use Rattle.jv_volume.proofs.MapLaws.{get-alter-here, get-alter-apart}
 use Rattle.jv_volume.proofs.StoredLaws.{of_node, of_edge, of_session, node_stands, edge_stands, session_stands, sustained_stands, of_counters}
+use Rattle.std.proofs.lemmas.Option.{same_Some}
 
 -- ---- views by what stands at a key
 
@@ -84,6 +85,10 @@ module _ (rows : Rows) (t : Tree) (s : Stored rows t) (bytes : List ℕ) where
 
 abbrev pub AreRows : Rows → Type 0
 AreRows rows = (key : RowKey) (cell : Cell) → get rows key ≡ Some cell → IsRowAt key cell
+
+-- a row that is put
+pub row-put : (q : RowKey) (row x : Cell) → IsRowAt q row → Some row ≡ Some x → IsRowAt q x
+row-put q row x is e = subst (IsRowAt q) (same_Some row x e) is
 
 -- one more row, or one less
 pub rows-alter : (rows : Rows) (q : RowKey) (cell : Option Cell) → AreRows rows → ((x : Cell) → cell ≡ Some x → IsRowAt q x) → AreRows (alter rows q cell)

@@ -8,7 +8,7 @@ use Rattle.jv_model.specs.FiniteMap.{get, map_of}
 use Rattle.jv_model.specs.rows.RowKeys.{row_key}
 use Rattle.jv_model.proofs.FiniteMapLaws.{get-empty_map}
 use Rattle.jv_volume.specs.TypedRows.{Cell, is_key, is_typed}
-use Rattle.jv_volume.specs.Whole.{IsRowAt}
+use Rattle.jv_volume.specs.Whole.{IsRowAt, is_read_only_if_hour}
 use Rattle.jv_volume.proofs.ShapeMapLaws.{get-insert_apart, was_inserted}
 
 -- the keys of a table among entries
@@ -46,13 +46,14 @@ each_passes test key cell (e ∷ es) h is =
       | inr rest ↦ each_passes test key cell es both.1 rest.1
     ]
 
--- a row at a key of its table
+-- a row that may stand at a key
 abbrev pub is_row_at : RowKey → Cell → Bool
-is_row_at key cell = is_key key && is_typed cell
+is_row_at key cell = is_key key && is_typed cell && is_read_only_if_hour key cell
 
--- where all entries are rows at keys of their tables, so is what stands at a key
+-- where all entries are rows that may stand at their keys, so is what stands at a key
 pub rows_at : (es : List (RowKey × Cell)) → list_all (λ e. is_row_at e.0 e.1) es ≡ true → (key : RowKey) (cell : Cell)
     → get (map_of {order = row_key} es) key ≡ Some cell → IsRowAt key cell
 rows_at es all key cell is =
-    let both = and_parts (is_key key) (is_typed cell) (each_passes is_row_at key cell es all is) in
-    record { key_is = both.0; cell_is = both.1 }
+    let both = and_parts (is_key key && is_typed cell) (is_read_only_if_hour key cell) (each_passes is_row_at key cell es all is) in
+    let row = and_parts (is_key key) (is_typed cell) both.0 in
+    record { key_is = row.0; cell_is = row.1; hour = both.1 }

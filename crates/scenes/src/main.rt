@@ -78,7 +78,7 @@
 //! - Root and trash are directories. Each entry stands in a directory that is there and names a node that is there, of
 //!   its kind; each other directory has one entry, in its parent, and leads up to the root or the trash. A file or
 //!   symlink has an entry, or else one session that is there keeps it. What the trash and its hours hold has the names
-//!   that these give.
+//!   that these give, and hours are read-only and root's.
 //! - Link counts are those of the entries, and the counters have the sums over the nodes.
 //! - Each slice's count is the number of the records that name it in all lists; each record that names a slice has a row
 //!   for it, with its size; a dead slice has none.

@@ -3,7 +3,7 @@ use crate::whole::names::Names;
 use crate::whole::stop::{Stop, expect};
 use crate::whole::tables::{DIRECTORY, FILE, Tables};
 use crate::whole::trash::is_hour;
-use jv_model::{Node, ROOT, SPACE_UNIT, TRASH_ROOT};
+use jv_model::{Node, READ_ONLY_MODE, ROOT, SPACE_UNIT, TRASH_ROOT};
 use jv_rows::is_top;
 use std::alloc::{AllocError, Global};
 use std::collections::BTreeSet;
@@ -37,7 +37,8 @@ pub fn check_nodes(tables: &Tables, names: &Names) -> Result<(), Stop> {
     Ok(())
 }
 
-/// An inode before the trash's is below the next one, and one behind it is an hour's directory.
+/// An inode before the trash's is below the next one, and one behind it is an hour's directory, which is read-only and
+/// root's.
 fn check_inode(tables: &Tables, inode: u64, node: &Node) -> Result<(), Stop> {
     expect(
         inode >= TRASH_ROOT || inode < tables.counters.inode,
@@ -46,11 +47,20 @@ fn check_inode(tables: &Tables, inode: u64, node: &Node) -> Result<(), Stop> {
     expect(
         inode <= TRASH_ROOT || is_hour_node(inode, node),
         "a node behind the trash is no directory of an hour",
+    )?;
+    expect(
+        inode <= TRASH_ROOT || is_read_only(node),
+        "a directory of an hour isn't read-only, or isn't root's",
     )
 }
 
 fn is_hour_node(inode: u64, node: &Node) -> bool {
     is_hour(inode) && node.kind == DIRECTORY && node.parent == TRASH_ROOT
+}
+
+/// Whether nobody may write in a directory, and root owns it.
+fn is_read_only(node: &Node) -> bool {
+    node.mode == READ_ONLY_MODE && node.uid == 0 && node.gid == 0
 }
 
 /// A directory has one entry, but for the root and the trash; another node has entries, or a session keeps it.
