@@ -127,7 +127,7 @@ uses-none done v calm bad = record {
       subst (λ b. RoseIf b (faults_of device v) (faults_of device v)) (sym (calm device)) refl;
   rows = λ none. refl;
   objects = λ none. refl;
-  blocks = refl;
+  direct = refl;
   bad = bad;
 }
 

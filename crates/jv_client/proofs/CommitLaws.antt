@@ -19,12 +19,13 @@ use Rattle.jv_model.specs.journal.Steps.{told_of}
 use Rattle.jv_outside.specs.Store.{Store}
 use Rattle.jv_pending.specs.declared.segment.SegmentAt.{SegmentAt}
 use Rattle.jv_pending.specs.At.{segment_at}
-use Rattle.jv_contents.specs.Flights.{Flight, IsComplete}
+use Rattle.jv_contents.specs.Flights.{EachPut, Flight, IsComplete}
 use Rattle.jv_data.specs.Records.{CommitsRecord}
 use Rattle.jv_slices.proofs.BlockLaws.{index_below}
 use Rattle.jv_shared.specs.Direct.{HasPut}
 use Rattle.jv_shared.specs.Flying.{Flies}
-use Rattle.jv_shared.specs.Shared.{HasStore, Known, Shared, depot_in}
+use Rattle.jv_shared.specs.Shared.{HasStore, InStore, Known, Shared, depot_in}
+use Rattle.jv_shared.proofs.DirectLaws.{has_put-stored}
 use Rattle.jv_shared.proofs.StoreLaws.{block_some}
 use Rattle.jv_steps.specs.IsStep.{at_stage}
 use Rattle.jv_requests.specs.Request.{Request}
@@ -118,9 +119,12 @@ module _ (h : ClientValue) (d : Doing) (v : Shared) (keeper : Store) (at : Segme
     pub flies-here : Flies g v flight
     flies-here = on-way.0
 
-    -- the depot has the blocks that were put
+    -- the depot has the blocks that were put, so that they are stored
     put-here : HasPut v.yard.setting.block (depot_in v) flight
     put-here = subst (λ (o : Option Flight). IfSome o (HasPut v.yard.setting.block (depot_in v))) flight-is is.put
+
+    stored-here : EachPut (InStore v) v.yard.setting.block flight
+    stored-here = has_put-stored v flight put-here
 
     pub is-complete : IsComplete v.yard.setting.block flight
     is-complete =
@@ -173,14 +177,14 @@ module _ (h : ClientValue) (d : Doing) (v : Shared) (keeper : Store) (at : Segme
       leads-left other e =
           committed-left s g v store h.id now (doing_of d) busy-model segment next-model quiets started at-model
           asked-model flight flies-here is-complete bytes-model at.window at.pos refl keeper sid (own-model sid own)
-          put-here commits-whole is.held.direct.mode other (left-model (Some other) e)
+          stored-here put-here commits-whole is.held.direct.mode other (left-model (Some other) e)
 
       pub leads-then : segment_left d.flush without.pending ≡ None → answer_then mine (doing_of d) ≡ None
           → Leads (kind ∷ []) More (at_stage (Working 0 0) (doing_of d) rest)
       leads-then e none =
           committed-then s g v store h.id now (doing_of d) busy-model segment next-model quiets started at-model
           asked-model flight flies-here is-complete bytes-model at.window at.pos refl keeper sid (own-model sid own)
-          put-here commits-whole is.held.direct.mode (left-model None e) none
+          stored-here put-here commits-whole is.held.direct.mode (left-model None e) none
 
       pub leads-answered : segment_left d.flush without.pending ≡ None → (said : Reply)
           → answer_then mine (doing_of d) ≡ Some said
@@ -188,4 +192,4 @@ module _ (h : ClientValue) (d : Doing) (v : Shared) (keeper : Store) (at : Segme
       leads-answered e said same =
           committed-answered s g v store h.id now (doing_of d) busy-model segment next-model quiets started at-model
           asked-model flight flies-here is-complete bytes-model at.window at.pos refl keeper sid (own-model sid own)
-          put-here commits-whole is.held.direct.mode (left-model None e) said same
+          stored-here put-here commits-whole is.held.direct.mode (left-model None e) said same

@@ -105,7 +105,7 @@ module _ (h : ClientValue) (d : Doing) (v : Shared) (keeper : Store) (at : Segme
         subst (λ b. RoseIf b (faults_of failed v) (faults_of failed used_here)) (sym (calm failed)) (same_count failed);
     rows = λ none. absurd (cc (sym asks ∙ none));
     objects = λ none. absurd (cc (sym asks ∙ none));
-    blocks = refl;
+    direct = refl;
     bad = bad;
   }
     where

@@ -9,7 +9,7 @@ use Rattle.jv_model.specs.declared.setting.Setting.{Setting}
 use Rattle.jv_model.specs.client.ModelClient.{file_in, file_of, with_file}
 use Rattle.jv_contents.specs.Blocks.{Blocks, Grows}
 use Rattle.jv_contents.specs.Flights.{Flight}
-use Rattle.jv_shared.specs.Direct.{HasNamed, HasPut, KeepsDepot}
+use Rattle.jv_shared.specs.Direct.{HasNamed, HasPut}
 use Rattle.jv_shared.specs.Shared.{Shared, depot_in}
 use Rattle.jv_shared.proofs.DirectLaws.{has_named-grows, has_put-stays}
 use Rattle.jv_handles.specs.declared.handle.Handle.{Handle}
@@ -124,7 +124,7 @@ module _ (block : ℕ) (depot depot' : Blocks) (grows : Grows depot depot') wher
   has-grows [] has = tt
   has-grows (place ∷ handles) has = (place-grows place has.0, has-grows handles has.1)
 
-module _ (own : ℕ) (v v' : Shared) (setting : v'.yard.setting ≡ v.yard.setting) (keeps : KeepsDepot own (depot_in v) (depot_in v')) where
+module _ (v v' : Shared) (setting : v'.yard.setting ≡ v.yard.setting) (grows : Grows (depot_in v) (depot_in v')) where
   pub direct-goes : (writeback : Bool) (handles : List (Option Handle))
       → GoesDirect v.yard.setting.block (depot_in v) writeback handles
       → GoesDirect v'.yard.setting.block (depot_in v') writeback handles
@@ -132,14 +132,14 @@ module _ (own : ℕ) (v v' : Shared) (setting : v'.yard.setting ≡ v.yard.setti
       subst (λ (x : Setting). GoesDirect x.block (depot_in v') writeback handles) (sym setting)
       (record {
         mode = direct.mode;
-        seen = has-grows v.yard.setting.block (depot_in v) (depot_in v') keeps.grows handles direct.seen;
+        seen = has-grows v.yard.setting.block (depot_in v) (depot_in v') grows handles direct.seen;
       })
 
   -- a slice in flight
   pub put-goes : (o : Option Flight) → IfSome o (HasPut v.yard.setting.block (depot_in v))
       → IfSome o (HasPut v'.yard.setting.block (depot_in v'))
   put-goes None has = tt
-  put-goes (Some f) has = has_put-stays own v v' setting keeps f has
+  put-goes (Some f) has = has_put-stays v v' setting grows f has
 
 -- ---- as the client goes on
 

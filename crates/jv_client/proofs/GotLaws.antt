@@ -113,7 +113,7 @@ uses-unread Depot before yard refused =
       counts = by_device;
       rows = λ asks. refl;
       objects = λ asks. refused.0.content_is;
-      blocks = ap (λ (y : YardValue). y.shelf.content) same;
+      direct = ap (λ (y : YardValue). y.shelf.content) same;
       bad = tt;
     }
   where
@@ -135,7 +135,7 @@ uses-unread Shelf before yard refused =
       counts = by_device;
       rows = λ asks. refl;
       objects = λ asks. ap (λ (y : YardValue). y.depot.content) same;
-      blocks = refused.0.content_is;
+      direct = refused.0.content_is;
       bad = tt;
     }
   where

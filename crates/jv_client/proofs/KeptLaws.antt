@@ -149,7 +149,7 @@ module _ (t : Tree) (g : Known) (v : Shared) (store : HasStore t g v) (own : ℕ
     handles = handles-stay t g v store own g' v' k m.views count later le m.handles c.handles h.handles;
     views = views-later count later m.views le h.views;
     pending = h.pending;
-    direct = direct-goes own v v' k.setting k.depot m.writeback c.handles h.direct;
+    direct = direct-goes v v' k.setting k.direct m.writeback c.handles h.direct;
   }
 
   -- the size of a slice that has a block stays
@@ -198,7 +198,7 @@ module _ (t : Tree) (g : Known) (v : Shared) (store : HasStore t g v) (own : ℕ
       flight = flight-goes (flight_of c) apart is.flight;
       reading = doing-goes c c.doing is.reading;
       cache = cache-goes c.cache is.cache;
-      put = put-goes own v v' k.setting k.depot (flight_of c) is.put;
+      put = put-goes v v' k.setting k.direct (flight_of c) is.put;
     }
 
     -- the step's own client, whose operation goes on

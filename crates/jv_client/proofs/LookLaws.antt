@@ -89,7 +89,7 @@ uses-look done before keeper fine rows opened faults bad = record {
       (sym (fine device)) (by_device device);
   rows = λ asks. rows;
   objects = λ asks. refl;
-  blocks = refl;
+  direct = refl;
   bad = bad;
 }
   where

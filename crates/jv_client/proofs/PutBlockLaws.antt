@@ -180,7 +180,7 @@ module _ (now entry : ℕ) (h : ClientValue) (d : Doing) (before : Shared) (yard
       counts = put-counts before yard carrier (Ok tt) uses (AsksFor Quiet) told-put;
       rows = λ asks. refl;
       objects = λ asks. absurd (cc asks);
-      blocks = ap (λ shelf. shelf.content) uses.shelf;
+      direct = ap (λ shelf. shelf.content) uses.shelf;
       bad = tt;
     }
 
@@ -263,7 +263,7 @@ module _ (now entry : ℕ) (h : ClientValue) (d : Doing) (before : Shared) (yard
         counts = put-counts before yard carrier (Err fault) uses (not_put fault) (told-unput fault);
         rows = λ asks. refl;
         objects = λ asks. same.objects;
-        blocks = ap (λ shelf. shelf.content) uses.shelf;
+        direct = ap (λ shelf. shelf.content) uses.shelf;
         bad = tt;
       }))
       (unput-yard now h done h.id flight before.yard yard before.carrier carrier fault puts)

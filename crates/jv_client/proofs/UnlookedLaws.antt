@@ -87,7 +87,7 @@ uses-failed before keeper rows opened rose = record {
   counts = by_device;
   rows = λ asks. rows;
   objects = λ asks. refl;
-  blocks = refl;
+  direct = refl;
   bad = tt;
 }
   where

@@ -72,7 +72,7 @@ module _ (before : Shared) (keeper : Store) (done : Made) where
     counts = by_device;
     rows = rows;
     objects = λ asks. refl;
-    blocks = refl;
+    direct = refl;
     bad = bad;
   }
     where

@@ -50,7 +50,7 @@ module _ (segment : Segment) where
           (views-left segment.inode count m.views held.views);
       pending = ap (without_range segment.inode segment.from segment.len) held.pending;
       direct =
-          direct-goes own v v' k.setting k.depot m.writeback (map (unseen segment.inode) h.handles)
+          direct-goes v v' k.setting k.direct m.writeback (map (unseen segment.inode) h.handles)
           (direct-unseen v.yard.setting.block (depot_in v) m.writeback h.handles held.direct segment.inode);
     }
 

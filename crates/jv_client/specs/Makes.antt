@@ -25,6 +25,7 @@ use Rattle.jv_client.specs.declared.made.Made.{Made}
 use Rattle.jv_client.specs.declared.made.Made.TheVariants as made
 use Rattle.jv_client.specs.CacheUse.{CacheUse}
 use Rattle.jv_client.specs.ClientValue.{ClientValue}
+use Rattle.jv_client.specs.Direct.{KeepsShelf}
 use Rattle.jv_client.specs.Held.{IsClient, Holds, in_flight}
 use Rattle.jv_client.specs.Reading.{put_at}
 use Rattle.jv_client.specs.Stats.{AnswersStats}
@@ -99,7 +100,7 @@ faults_of Shelf v = v.yard.shelf.faults
 faults_of Carrier v = v.carrier.faults
 
 -- What a step does to devices: each is open where it was, and failed where the step answers so, and
--- not otherwise. Without a request they hold what they held.
+-- not otherwise. Without a request they hold what they held, and by `direct` the shelf always does.
 pub record UsesDevices (made : Made) (before after : Shared) : Type 0 where
   pub keeper_at : after.keeper.opened ≡ before.keeper.opened
   pub carrier_at : after.carrier.opened ≡ before.carrier.opened
@@ -111,7 +112,7 @@ pub record UsesDevices (made : Made) (before after : Shared) : Type 0 where
       → RoseIf (says_failure device made) (faults_of device before) (faults_of device after)
   pub rows : IsTrue (asks_nothing made) → after.keeper.rows ≡ before.keeper.rows
   pub objects : IsTrue (asks_nothing made) → after.yard.depot.content ≡ before.yard.depot.content
-  pub blocks : after.yard.shelf.content ≡ before.yard.shelf.content
+  pub direct : KeepsShelf before after
   pub bad : SaysBad before (step_of made)
 
 -- The model allows the step (`Request`), and client and devices stand for what it leads to.

@@ -71,7 +71,7 @@ shelf_session options answers before after ended (NotAttached setting known none
 shelf_session options answers before after ended (NotStarted setting attached known none are cannot) =
     shelf_refused attached.shelf after.blocks.shelf cannot.fault cannot.shelf ∙ are.shelf.content_is
 shelf_session options answers before after ended (Opened setting opened attached yard left known rows are started runs
-    stays uses is) = uses.blocks ∙ are.shelf.content_is
+    stays uses is) = uses.direct ∙ are.shelf.content_is
 
 pub RunsCommand-session : (command : Command) (place : List ℕ) (options : SessionOptions) (before after : WorldValue)
     (ended : Ended) → command ≡ Session place options → RunsSession place options before after ended
@@ -83,7 +83,7 @@ RunsCommand-session command place options before after ended is runs faults =
       does = runs.ends;
       faults = faults;
       keeper = runs.keeper;
-      shelf = shelf_session options runs.answers before after ended runs.ends;
+      direct = shelf_session options runs.answers before after ended runs.ends;
     })
 
 pub RunsCommand-format : (command : Command) (place : List ℕ) (setting : Setting) (before after : WorldValue)
@@ -97,7 +97,7 @@ RunsCommand-format command place setting before after ended is formats faults ke
       does = (formats, λ device. refl);
       faults = faults;
       keeper = keeper;
-      shelf = shelf_of before.blocks after.blocks formats.blocks;
+      direct = shelf_of before.blocks after.blocks formats.blocks;
     })
 
 -- they were none
@@ -128,7 +128,7 @@ unread words (Some (Format place setting)) before err says = record {
     does = (record { ends = (tt, refl, refl); source = refl; blocks = refl; journal = refl }, λ device. refl);
     faults = record { source = refl; out = refl; clock = refl };
     keeper = record { opened = Unopened refl; faults = refl };
-    shelf = refl;
+    direct = refl;
   };
   result = refl;
   drawn = λ drawn same. absurd (omega (arith, same));
@@ -141,7 +141,7 @@ unread words (Some (Session place options)) before err says = record {
     does = NotOpened tt (none_run before) refl;
     faults = record { source = refl; out = refl; clock = refl };
     keeper = record { opened = Unopened refl; faults = refl };
-    shelf = refl;
+    direct = refl;
   };
   result = refl;
   drawn = λ drawn same. absurd (omega (arith, same));
@@ -352,7 +352,7 @@ UsesBlocks-lines seed setting limits before yard left ended started e = record {
   depot_at = e.stays.depot_at ∙ ap (λ (d : Holding ObjectMap). d.opened) started.depot_same;
   shelf_at = e.stays.shelf_at ∙ ap (λ (h : Holding StagedMap). h.opened) started.shelf_same;
   carrier_at = e.stays.carrier_at;
-  blocks = e.stays.blocks ∙ ap (λ (h : Holding StagedMap). h.content) started.shelf_same;
+  direct = e.stays.direct ∙ ap (λ (h : Holding StagedMap). h.content) started.shelf_same;
   depot = subst (λ (d : Holding ObjectMap). RoseTimes (e.answers Depot) d.faults left.devices.yard.depot.faults) started.depot_same (e.counts Depot);
   shelf = subst (λ (h : Holding StagedMap). RoseTimes (e.answers Shelf) h.faults left.devices.yard.shelf.faults) started.shelf_same (e.counts Shelf);
   carrier = e.counts Carrier;

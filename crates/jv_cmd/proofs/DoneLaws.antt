@@ -14,7 +14,8 @@ use Rattle.jv_outside.proofs.TicksLaws.{Passes-trans, Passes-zero}
 use Rattle.jv_contents.proofs.BlockLaws.{grows-then}
 use Rattle.jv_shared.specs.Shared.{depot_in}
 use Rattle.jv_client.specs.Makes.{faults_of}
-use Rattle.jv_session.specs.Lines.{BlocksStay, LineUses, device_failures}
+use Rattle.jv_session.specs.Direct.{BlocksStay}
+use Rattle.jv_session.specs.Lines.{LineUses, device_failures}
 use Rattle.jv_session.specs.Stands.{ScheduleValue, fresh_schedule}
 use Rattle.jv_session.proofs.UsesLaws.{blocks_stay, both_failures, no_failures, rose_times-then, stays_none, stays_then}
 use Rattle.jv_cmd.specs.Run.{Beginning, IsBuilt, IsKnownClock, StartsWhole, session_run, up_to}
@@ -83,9 +84,9 @@ module _ (left : Option (List ℕ)) (before now after : StageValue) (n : ℕ) (t
             (AreBetween-append 0 (n + 1) now.journal o.acts
             (AreBetween-wider 0 n 0 (n + 1) now.journal (omega arith) (omega arith) on.own)
             (AreBetween-wider (n + 1) (n + 1) 0 (n + 1) o.acts (omega arith) (omega arith) o.own));
-        kept = grows-then (depot_in before.devices) (depot_in now.devices) (depot_in after.devices) on.kept
+        direct = grows-then (depot_in before.devices) (depot_in now.devices) (depot_in after.devices) on.direct
             (comes_settled left before now after n text line s s' d a.asks a.uses.passes start w
-            (λ p more. BlocksStay now.devices after.devices) a.kept);
+            (λ p more. BlocksStay now.devices after.devices) a.direct);
         reaches = λ known more status t.
             let run = session_run start known (d.lines ++ line ∷ more) status in
             subst (λ lines. Reaches (session_run start known lines status) more (n + 1) (d.asked + a.asks)
@@ -145,7 +146,7 @@ DoneOn-start : (start : Beginning) (before : StageValue) (setting : Setting) →
     → DoneOn start before before [] 0 0 [] (fresh_schedule setting before.limits)
 DoneOn-start start before setting empty is w = record {
   own = subst (λ journal. AreBetween 0 0 journal) (sym empty) tt;
-  kept = blocks_stay before.devices before.devices refl;
+  direct = blocks_stay before.devices before.devices refl;
   reaches = λ known more status t.
       let run = session_run start known more status in
       let s = fresh_schedule setting before.limits in

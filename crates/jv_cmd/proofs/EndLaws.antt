@@ -13,7 +13,8 @@ use Rattle.jv_contents.proofs.BlockLaws.{grows-then}
 use Rattle.jv_shared.specs.Shared.{Shared, depot_in}
 use Rattle.jv_client.specs.Built.{is_built_line}
 use Rattle.jv_client.specs.Makes.{faults_of}
-use Rattle.jv_session.specs.Lines.{BlocksStay, BreaksAt, Cut, CutsLine, LineUses, StaysPut, device_failures}
+use Rattle.jv_session.specs.Direct.{BlocksStay}
+use Rattle.jv_session.specs.Lines.{BreaksAt, Cut, CutsLine, LineUses, StaysPut, device_failures}
 use Rattle.jv_session.specs.Stands.{InLine, ScheduleValue, Stands}
 use Rattle.jv_session.proofs.UsesLaws.{both_failures}
 use Rattle.jv_cmd.specs.declared.ended.Ended.{Ended}
@@ -91,7 +92,7 @@ module _ (left : Option (List ℕ)) (before now after : StageValue) (n : ℕ) (t
     legal = Legal-reached (session_run start known d.lines (status_of ended)) n d.asked text after.journal s
         after.devices d.count (at_last start w known (status_of ended) t);
     printed = prints;
-    kept = subst (BlocksStay before.devices) (sym idle.devices) (d.whole start w).kept;
+    direct = subst (BlocksStay before.devices) (sym idle.devices) (d.whole start w).direct;
     leaves = Leaves-stands _ s after.devices (Stands-last start w known (status_of ended) t);
   }
 
@@ -200,11 +201,11 @@ module _ (left left' : Option (List ℕ)) (before now after : StageValue) (n : �
         (sym (printed-cut (session_run start known (d.lines ++ line ∷ []) status) line n d.asked c.asks text
         (used now s) (used after s') size_cut (reaches_cut known status t) (cut_there known status t))) gains
 
-    kept_cut : BlocksStay before.devices after.devices
-    kept_cut = grows-then (depot_in before.devices) (depot_in now.devices) (depot_in after.devices) (d.whole start w).kept
+    direct_cut : BlocksStay before.devices after.devices
+    direct_cut = grows-then (depot_in before.devices) (depot_in now.devices) (depot_in after.devices) (d.whole start w).direct
         (comes_settled left before now after n text line s s' d c.asks c.uses.passes start w
         (λ p more. BlocksStay now.devices after.devices)
-        (λ p more stands next rest count clock. (c.stops p more stands next rest count clock).kept))
+        (λ p more stands next rest count clock. (c.stops p more stands next rest count clock).direct))
 
     pub RunsWhole-cut : (ended : Ended) → may_be_cut (status_of ended) ≡ true → (known : Option (ℕ → ℕ))
         → IsKnownClock known before.clock after.clock
@@ -217,7 +218,7 @@ module _ (left left' : Option (List ℕ)) (before now after : StageValue) (n : �
           legal = Legal-cut run line n d.asked c.asks text (used now s) (used after s') size_cut
               (reaches_cut known (status_of ended) t) cut cuts;
           printed = prints;
-          kept = kept_cut;
+          direct = direct_cut;
           leaves = Leaves-in_line _ s' after.devices (InLine-cut run line n d.asked c.asks text (used now s)
               (used after s') size_cut (reaches_cut known (status_of ended) t) cut);
         }

@@ -112,7 +112,7 @@ Done-read left before now source n text s d = record {
   limits = d.limits;
   whole = λ start w.
       let on = d.whole start w in
-      record { own = on.own; kept = on.kept; reaches = on.reaches };
+      record { own = on.own; direct = on.direct; reaches = on.reaches };
 }
 
 pub Going-read : (left : Option (List ℕ)) (before now : StageValue) (source : Stream) (n : ℕ) (s : ScheduleValue)

@@ -37,7 +37,7 @@ Found-left setting depot shelf before left started stays client low =
     subst (λ (s : Setting). IsFound s left.yard.shelf.content client (left.yard.staged client))
     (sym (stays.setting ∙ started.setting_is))
     (subst (λ content. IsFound setting content client (left.yard.staged client))
-    (sym (stays.blocks ∙ ap (λ (h : Holding StagedMap). h.content) started.shelf_same))
+    (sym (stays.direct ∙ ap (λ (h : Holding StagedMap). h.content) started.shelf_same))
     (subst (λ (staged : Staging). IsFound setting shelf.content client (staged client)) (sym stays.grows.staged)
     (started.staged_are client low)))
 

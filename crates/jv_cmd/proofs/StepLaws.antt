@@ -97,7 +97,7 @@ Advances-said line number before after s s' text says = record {
               text = ap (λ printed. printed ++ ran.end.said) a.printed ∙ ap (λ said. p.printed ++ p.said ++ said) ran.said;
             });
       };
-  kept = λ p more stands next rest count clock. (says.runs p more stands next rest count clock).kept;
+  direct = λ p more stands next rest count clock. (says.runs p more stands next rest count clock).direct;
 }
 
 -- where nothing more is due of the present line, the schedule stands too
@@ -166,7 +166,7 @@ Advances-quiet line number before after s s' empty leaves = record {
               text = refl;
             });
       };
-  kept = λ p more stands next rest count clock. blocks_stay before.devices after.devices leaves.devices;
+  direct = λ p more stands next rest count clock. blocks_stay before.devices after.devices leaves.devices;
 }
 
 -- a line that does nothing prints nothing

@@ -65,13 +65,13 @@ pub record CannotStart (before after : BlockDevices) (ended : Ended) : Type 0 wh
   pub depot : after.depot ≡ before.depot
   pub carrier : after.carrier ≡ before.carrier
 
--- They are open where they were, the shelf has the blocks that it had, and each of them failed as
--- often as `answers` says.
+-- They are open where they were, by `direct` the shelf has the blocks that it had, and each of them
+-- failed as often as `answers` says.
 pub record UsesBlocks (answers : Device → ℕ) (before after : BlockDevices) : Type 0 where
   pub depot_at : after.depot.opened ≡ before.depot.opened
   pub shelf_at : after.shelf.opened ≡ before.shelf.opened
   pub carrier_at : after.carrier.opened ≡ before.carrier.opened
-  pub blocks : after.shelf.content ≡ before.shelf.content
+  pub direct : after.shelf.content ≡ before.shelf.content
   pub depot : RoseTimes (answers device.Depot) before.depot.faults after.depot.faults
   pub shelf : RoseTimes (answers device.Shelf) before.shelf.faults after.shelf.faults
   pub carrier : RoseTimes (answers device.Carrier) before.carrier.faults after.carrier.faults

@@ -119,8 +119,8 @@ pub record RunsSession (place : List ℕ) (options : SessionOptions) (before aft
   pub ends : SessionEnds options answers before after ended
   pub keeper : UsesKeeper ended (answers Keeper) place before.keeper after.keeper
 
--- a command: what it did, which device failed, and where the keeper is opened; the shelf has the
--- blocks that it had
+-- a command: what it did, which device failed, and where the keeper is opened; by `direct` the
+-- shelf has the blocks that it had
 pub record RunsCommand (command : Command) (before after : WorldValue)
     (ended : Ended) : Type 0 where
   pub answers : Device → ℕ
@@ -128,7 +128,7 @@ pub record RunsCommand (command : Command) (before after : WorldValue)
   pub faults : CountsFaults ended (in_world before) (in_world after)
   pub keeper : UsesKeeper ended (answers Keeper) (place_of_command command) before.keeper
       after.keeper
-  pub shelf : after.blocks.shelf.content ≡ before.blocks.shelf.content
+  pub direct : after.blocks.shelf.content ≡ before.blocks.shelf.content
 
 -- how the command ended: what it did apart from standard error, its status, and its text there; no
 -- line of a drawn script ends it

@@ -25,7 +25,8 @@ use Rattle.jv_yard.specs.Contents.{blocks_in}
 use Rattle.jv_shared.specs.Fresh.{IsFresh}
 use Rattle.jv_shared.specs.Shared.{HasStore, Known, Shared}
 use Rattle.jv_client.specs.Built.{is_built_line}
-use Rattle.jv_session.specs.Lines.{AreFailures, BlocksStay}
+use Rattle.jv_session.specs.Direct.{BlocksStay}
+use Rattle.jv_session.specs.Lines.{AreFailures}
 use Rattle.jv_cmd.specs.declared.ended.Ended.{Ended}
 use Rattle.jv_cmd.specs.declared.ended.Ended.TheVariants as ended
 use Rattle.jv_cmd.specs.declared.ended.Ended.TheVariants.{LineNotRun, BadRow, SourceFailed, OutFailed, ClockFailed, OutOfMemory}
@@ -196,14 +197,14 @@ Prints ended start known before after lines =
     Gains before.out.content after.out.content (printed_by start known lines ended after.journal)
 
 -- The outcome of a run over a whole volume: the journal is legal for one POSIX tree, the lines'
--- text was printed, and the volume left is whole and has the tree reached. Each block that the
--- depot had is there, with its bytes.
+-- text was printed, and the volume left is whole and has the tree reached. By `direct` each block
+-- that the depot had is there, with its bytes.
 pub record RunsWhole (start : Beginning) (known : Option (ℕ → ℕ)) (before after : StageValue)
     (ended : Ended) (lines : List Line) : Type 0
   where
     pub legal : Legal (session_run start known lines (status_of ended)) after.journal
     pub printed : Prints ended start known before after lines
-    pub kept : BlocksStay before.devices after.devices
+    pub direct : BlocksStay before.devices after.devices
     pub leaves : Leaves after.devices
         (at_end (session_run start known lines (status_of ended)) after.journal).state.tree
 

@@ -13,7 +13,8 @@ use Rattle.jv_outside.specs.Stream.{Gains, HasAll, IsCut}
 use Rattle.jv_outside.specs.Ticks.{Passes}
 use Rattle.jv_shared.specs.Shared.{Shared}
 use Rattle.jv_client.specs.Makes.{faults_of}
-use Rattle.jv_session.specs.Lines.{AreFailures, BlocksStay, BreaksAt, CutsLine, FromThere, LineState, LineUses, StaysPut, line_state}
+use Rattle.jv_session.specs.Direct.{BlocksStay}
+use Rattle.jv_session.specs.Lines.{AreFailures, BreaksAt, CutsLine, FromThere, LineState, LineUses, StaysPut, line_state}
 use Rattle.jv_session.specs.Stands.{ScheduleValue, Stands}
 use Rattle.jv_cmd.specs.declared.ended.Ended.{Ended}
 use Rattle.jv_cmd.specs.declared.ended.Ended.TheVariants.{LineNotRun, BadRow, OutFailed, ClockFailed, OutOfMemory}
@@ -51,7 +52,7 @@ AreBetween low high (act ∷ acts) = (low ≤ act.line) × (act.line ≤ high) �
 pub record DoneOn (start : Beginning) (before now : StageValue) (lines : List Line) (done asked : ℕ)
     (text : List ℕ) (s : ScheduleValue) : Type 0 where
   pub own : AreBetween 0 done now.journal
-  pub kept : BlocksStay before.devices now.devices
+  pub direct : BlocksStay before.devices now.devices
   pub reaches : (known : Option (ℕ → ℕ)) (more : List Line) (status : ℕ)
       → IsKnownClock known before.clock now.clock
       → Reaches (session_run start known (lines ++ more) status) more done asked text now.journal s
@@ -126,7 +127,7 @@ pub record Advances (line : Line) (number : ℕ) (before after : StageValue) (s 
   pub uses : LineUses (used before s) (used after s') asks failed
   pub goes : FromThere line number (used before s) (used after s')
       (λ p more. Goes p more number asks before.journal after.journal printed s' after.devices)
-  pub kept : FromThere line number (used before s) (used after s')
+  pub direct : FromThere line number (used before s) (used after s')
       (λ p more. BlocksStay before.devices after.devices)
 
 -- the text is a line that may be run

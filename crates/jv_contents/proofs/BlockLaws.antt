@@ -1,5 +1,5 @@
--- Laws of blocks: their bytes stay when others are put, each place that a file shows has its block, and all blocks of slices with rows
--- stay there.
+-- Laws of blocks: their bytes stay when others are put, each place that a file shows has its block, and what holds of all blocks of
+-- slices with rows goes on holding.
 use Rattle.std.proofs.Common.{◌≡◌, ◌≢◌, ℕ, ◌+◌, ◌-◌, ◌/◌, ◌%◌, ◌<◌, ◌≤◌, ◌^◌, Bool, true, false, cond, inl, inr, List, [], reverse, Option, None, Some, refl, sym, ap, subst, ◌∙◌, arith}
 use Rattle.std.specs.Prelude.{◌==◌, nat_lt, slice_index, unwrap_or, Contains, if◌then◌else◌}
 use Rattle.std.proofs.lemmas.Bool.{cases_eq, eq-eqb, eqb-false}
@@ -15,7 +15,7 @@ use Rattle.jv_model.specs.declared.slice.Spot.TheVariants.{Zero, Slice}
 use Rattle.jv_model.specs.declared.slice.BlockId.{BlockId}
 use Rattle.jv_model.specs.FiniteMap.{get, remove, sum_over}
 use Rattle.jv_model.specs.rows.RowPlaces.{list_key}
-use Rattle.jv_model.specs.blocks.Slices.{IsRecord, covers, visible, place_by, stored_place, block_at, block_count}
+use Rattle.jv_model.specs.blocks.Slices.{IsRecord, covers, visible, place_by, stored_place, block_at}
 use Rattle.jv_model.proofs.FiniteMapLaws.{share, sum-remove}
 use Rattle.jv_slices.proofs.BlockLaws.{index_below}
 use Rattle.jv_slices.proofs.PlanLaws.{found_All, All-reverse, visible_covers, visible_is_record}
@@ -24,7 +24,7 @@ use Rattle.jv_volume.specs.Views.{row_in, records_in, lists_of, slice_row_at}
 use Rattle.jv_volume.specs.TreeOf.{tree_of}
 use Rattle.jv_volume.specs.Slices.{listed, records_naming, named_by, count_in, slice_count, next_slice, place_in, WholeSlices}
 use Rattle.jv_contents.specs.Bytes.{spot_byte, bytes_of, tree_with}
-use Rattle.jv_contents.specs.Blocks.{Blocks, Grows, IsThere, HasBlocks, AreBelow, known_by}
+use Rattle.jv_contents.specs.Blocks.{Blocks, Grows, IsThere, EachOfSlice, EachBlock, Carries, HasBlocks, AreBelow, known_by}
 use Rattle.jv_contents.specs.Counts.{HadSize, KeepsOthers}
 use Rattle.jv_contents.proofs.PlaceLaws.{record_inside}
 use Rattle.jv_volume.proofs.FilesLaws.{nothing_shows}
@@ -160,28 +160,24 @@ module _ (rows : Rows) (w : WholeSlices rows) where
           ap (λ o. slice_index (unwrap_or o []) (at % block))
           (same (block_at id size block (at / block)) (λ none. (let is = row.0.is in absurd (cc))))
 
--- ---- all blocks are there
+-- ---- what holds of all blocks of slices with rows
 
-pub has_blocks-grow : (block : ℕ) (rows : Rows) (before after : Blocks) → Grows before after → HasBlocks block rows before → HasBlocks block rows after
-has_blocks-grow block rows before after grows has id slice there index low =
-    there-grows before after (block_at id slice.size block index) grows (has id slice there index low)
+module _ (P Q : BlockId → Type 0) (block : ℕ) (rows after : Rows) (carries : Carries P Q after) where
+  -- slices stay as they are
+  pub each_block-still : ((id : ℕ) → slice_row_at after id ≡ slice_row_at rows id) → EachBlock P block rows → EachBlock Q block after
+  each_block-still same each id slice there index low =
+      carries (block_at id slice.size block index) (λ none. absurd (cc)) (each id slice (sym (same id) ∙ there) index low)
 
--- slices stay as they are
-pub has_blocks-still : (block : ℕ) (rows after : Rows) (blocks : Blocks) → ((id : ℕ) → slice_row_at after id ≡ slice_row_at rows id)
-    → HasBlocks block rows blocks → HasBlocks block after blocks
-has_blocks-still block rows after blocks same has id slice there index low = has id slice (sym (same id) ∙ there) index low
-
--- a transaction on lists whose own slice has its blocks
-pub has_blocks-on : (block own more : ℕ) (rows after : Rows) (blocks : Blocks) → KeepsOthers own more rows after
-    → ((slice : SliceRow) → slice_row_at after own ≡ Some slice → (index : ℕ) → index < block_count slice.size block → IsThere blocks (block_at own slice.size block index))
-    → HasBlocks block rows blocks → HasBlocks block after blocks
-has_blocks-on block own more rows after blocks keeps those has id slice there index low = elim (cases_eq id own) [
-  | inl same ↦ subst (λ n. IsThere blocks (block_at n slice.size block index)) (sym same) (those slice (ap (slice_row_at after) (sym same) ∙ there) index low)
-  | inr apart ↦
-      let had = keeps.had id slice apart there in
-      subst (λ n. IsThere blocks (block_at id n block index)) had.size_is
-      (has id had.slice had.is index (subst (λ n. index < block_count n block) (sym had.size_is) low))
-]
+  -- a transaction on lists, after which it holds of the blocks of its own slice
+  pub each_block-on : (own more : ℕ) → KeepsOthers own more rows after
+      → ((slice : SliceRow) → slice_row_at after own ≡ Some slice → EachOfSlice Q block own slice.size) → EachBlock P block rows → EachBlock Q block after
+  each_block-on own more keeps those each id slice there = elim (cases_eq id own) [
+    | inl same ↦ subst (λ n. EachOfSlice Q block n slice.size) (sym same) (those slice (ap (slice_row_at after) (sym same) ∙ there))
+    | inr apart ↦
+        let had = keeps.had id slice apart there in
+        λ index low. carries (block_at id slice.size block index) (λ none. absurd (cc))
+        (subst (λ n. EachOfSlice P block id n) had.size_is (each id had.slice had.is) index low)
+  ]
 
 -- ---- no block has a number that is still to be given
 

@@ -1,19 +1,19 @@
 -- Laws of slices in flight, and the bytes that the blocks of a whole one have.
-use Rattle.std.proofs.Common.{◌≡◌, ◌≢◌, ℕ, ◌+◌, ◌*◌, ◌/◌, ◌%◌, ◌<◌, ◌≤◌, ◌⊎◌, inl, inr, min, List, [], length, take, drop, Option, None, Some, refl, sym, ap, subst, ◌∙◌, arith}
+use Rattle.std.proofs.Common.{◌≡◌, ◌≢◌, ℕ, ◌+◌, ◌*◌, ◌/◌, ◌%◌, ◌<◌, ◌≤◌, ◌⊎◌, inl, inr, List, [], length, take, drop, Option, None, Some, refl, sym, ap, subst, ◌∙◌, arith}
 use Rattle.std.specs.Prelude.{slice_index, unwrap_or}
-use Rattle.std.proofs.lemmas.List.{length-take, length-drop, get_or-take, get_or-drop}
+use Rattle.std.proofs.lemmas.List.{get_or-take, get_or-drop}
 use Rattle.std.proofs.lemmas.Bool.{cases_eq, cases_lt}
 use Rattle.std.proofs.lemmas.Nat.{div-add-mod', mod_below}
 use Rattle.jv_model.specs.declared.slice.Rec.{Rec}
 use Rattle.jv_model.specs.declared.slice.BlockId.{BlockId}
-use Rattle.jv_model.specs.blocks.Slices.{block_at, block_count, block_length, shown}
+use Rattle.jv_model.specs.blocks.Slices.{shown}
 use Rattle.jv_slices.proofs.BlockLaws.{index_below}
 use Rattle.jv_volume.specs.TypedRows.{Rows}
 use Rattle.jv_volume.specs.Slices.{IsUnknown, next_slice}
 use Rattle.jv_contents.specs.Bytes.{spot_byte}
 use Rattle.jv_contents.specs.Counts.{KeepsOthers}
-use Rattle.jv_contents.specs.Blocks.{Blocks, Grows, IsThere, IsPut, AreBelow, known_by}
-use Rattle.jv_contents.specs.Flights.{Flight, InFlight, IsComplete, flight_block, flight_bytes}
+use Rattle.jv_contents.specs.Blocks.{Blocks, Grows, EachOfSlice, IsPut, AreBelow, known_by}
+use Rattle.jv_contents.specs.Flights.{Flight, EachPut, InFlight, IsComplete, flight_block, flight_bytes}
 use Rattle.jv_contents.proofs.ByteLaws.{shown-slice}
 
 -- the byte of a part
@@ -21,21 +21,21 @@ part_byte : (bytes : List ℕ) (block index place : ℕ) → place < block
     → slice_index (take block (drop (index * block) bytes)) place ≡ slice_index bytes (index * block + place)
 part_byte bytes block index place low = get_or-take block (drop (index * block) bytes) place 0 low ∙ get_or-drop (index * block) bytes place 0
 
--- its length is that of its name
-part_length : (bytes : List ℕ) (block index : ℕ) → length (take block (drop (index * block) bytes)) ≡ block_length (length bytes) block index
-part_length bytes block index = length-take block (drop (index * block) bytes) ∙ ap (min block) (length-drop (index * block) bytes)
+module _ (P : BlockId → Type 0) (block : ℕ) (f : Flight) (each : EachPut P block f) where
+  -- what holds of the blocks that were put holds of one more
+  pub put-more : P (flight_block block f f.put) → EachPut P block (record f { put = f.put + 1 })
+  put-more next index low = elim (cases_lt index f.put) [
+    | inl early ↦ each index early
+    | inr late ↦ subst (λ n. P (flight_block block f n)) (omega (arith, low, late)) next
+  ]
+
+  -- and of all blocks of a whole flight
+  pub put-complete : IsComplete block f → EachOfSlice P block f.id (length f.bytes)
+  put-complete complete index low = each index (omega (arith, complete, low))
 
 module _ (block : ℕ) (rows : Rows) (blocks : Blocks) (f : Flight) (flies : InFlight block rows blocks f) where
-  -- a block that was put is there
-  pub flight-there : (index : ℕ) → index < f.put → IsThere blocks (flight_block block f index)
-  flight-there index low = record { bytes = flight_bytes block f index; is = flies.those index low; long = part_length f.bytes block index }
-
   module _ (complete : IsComplete block f) (some : 0 < block) where
-    -- all blocks of a whole flight are there
-    pub complete-there : (index : ℕ) → index < block_count (length f.bytes) block → IsThere blocks (block_at f.id (length f.bytes) block index)
-    complete-there index low = flight-there index (subst (λ n. index < n) (sym complete) low)
-
-    -- and have its bytes
+    -- all blocks of a whole flight have its bytes
     pub complete-known : (k : ℕ) → k < length f.bytes → known_by block blocks f.id (length f.bytes) k ≡ slice_index f.bytes k
     complete-known k low =
         ap (λ o. slice_index (unwrap_or o []) (k % block)) (flies.those (k / block) put)

@@ -13,12 +13,12 @@ use Rattle.jv_volume.specs.Slices.{IsUnknown, next_slice}
 use Rattle.jv_volume.specs.Whole.{is_of_slices, Quiet, SlicesStay}
 use Rattle.jv_volume.proofs.QuietLaws.{sum-stay, named_by-stay, slice_row-stay, dead-stay, lists_of-stay}
 use Rattle.jv_contents.specs.Bytes.{KnownBytes, spot_byte, bytes_of}
-use Rattle.jv_contents.specs.Blocks.{Blocks, Grows, HasBlocks, AreBelow}
+use Rattle.jv_contents.specs.Blocks.{Blocks, Grows, AreBelow}
 use Rattle.jv_contents.specs.Flights.{Flight, InFlight}
 use Rattle.jv_contents.specs.Counts.{HasDied, KeepsOthers, record_count}
 use Rattle.jv_contents.proofs.PlaceLaws.{place_in-same}
 use Rattle.jv_contents.proofs.FlightLaws.{flies-still}
-use Rattle.jv_contents.proofs.BlockLaws.{has_blocks-still, below-rows}
+use Rattle.jv_contents.proofs.BlockLaws.{below-rows}
 
 -- ---- changes that leave lists and slices
 
@@ -47,10 +47,7 @@ module _ (rows after : Rows) (stay : SlicesStay rows after) where
   pub bytes-stay : (known_bytes : KnownBytes) (inode p : ℕ) → bytes_of known_bytes after inode p ≡ bytes_of known_bytes rows inode p
   bytes-stay known_bytes inode p = ap (spot_byte known_bytes) (place_in-same (lists_of after inode) (lists_of rows inode) (λ w. lists_of-stay rows after stay inode w) p)
 
-  -- and so do all blocks, blocks that are below the next number, and flights, also where the next number is a greater one
-  pub has_blocks-stay : (block : ℕ) (blocks : Blocks) → HasBlocks block rows blocks → HasBlocks block after blocks
-  has_blocks-stay block blocks has = has_blocks-still block rows after blocks (slice_row-stay rows after stay) has
-
+  -- and so do flights, also where the next number is a greater one
   pub flies-stay : (block : ℕ) (blocks blocks' : Blocks) (f : Flight) → InFlight block rows blocks f → next_slice rows ≤ next_slice after
       → Grows blocks blocks' → ((b : BlockId) (bytes : List ℕ) → b.id ≡ f.id → blocks' b ≡ Some bytes → blocks b ≡ Some bytes)
       → InFlight block after blocks' f

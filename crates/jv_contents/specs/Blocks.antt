@@ -1,5 +1,5 @@
 -- The blocks of slices, and their bytes.
-use Rattle.std.specs.Prelude.{◌≡◌, ◌≢◌, ℕ, ◌/◌, ◌%◌, ◌<◌, List, [], length, slice_index, Option, Some, unwrap_or}
+use Rattle.std.specs.Prelude.{◌≡◌, ◌≢◌, ℕ, ◌/◌, ◌%◌, ◌<◌, List, [], length, slice_index, Option, None, Some, unwrap_or}
 use Rattle.jv_model.specs.declared.row.SliceRow.{SliceRow}
 use Rattle.jv_model.specs.declared.slice.BlockId.{BlockId}
 use Rattle.jv_model.specs.blocks.Slices.{block_at, block_count}
@@ -27,11 +27,23 @@ pub record IsThere (blocks : Blocks) (b : BlockId) : Type 0 where
   pub is : blocks b ≡ Some bytes
   pub long : length bytes ≡ b.size
 
+-- a property of each block of a slice of this size
+abbrev pub EachOfSlice : (BlockId → Type 0) → ℕ → ℕ → ℕ → Type 0
+EachOfSlice P block id size =
+    (index : ℕ) → index < block_count size block → P (block_at id size block index)
+
+-- a property of each block of each slice that has a row
+abbrev pub EachBlock : (BlockId → Type 0) → ℕ → Rows → Type 0
+EachBlock P block rows = (id : ℕ) (slice : SliceRow) → slice_row_at rows id ≡ Some slice
+    → EachOfSlice P block id slice.size
+
+-- of blocks whose slices have rows, those with the one property have the other
+abbrev pub Carries : (P Q : BlockId → Type 0) → Rows → Type 0
+Carries P Q rows = (b : BlockId) → slice_row_at rows b.id ≢ None → P b → Q b
+
 -- each block of each slice that has a row is there
 abbrev pub HasBlocks : ℕ → Rows → Blocks → Type 0
-HasBlocks block rows blocks = (id : ℕ) (slice : SliceRow) → slice_row_at rows id ≡ Some slice
-    → (index : ℕ) → index < block_count slice.size block
-    → IsThere blocks (block_at id slice.size block index)
+HasBlocks block rows blocks = EachBlock (IsThere blocks) block rows
 
 -- no block is of a slice whose number is still to be given
 abbrev pub AreBelow : Rows → Blocks → Type 0

@@ -20,6 +20,10 @@ flight_block block f index = block_at f.id (length f.bytes) block index
 abbrev pub flight_bytes : ℕ → Flight → ℕ → List ℕ
 flight_bytes block f index = take block (drop (index * block) f.bytes)
 
+-- a property of each of its blocks that were put
+abbrev pub EachPut : (BlockId → Type 0) → ℕ → Flight → Type 0
+EachPut P block f = (index : ℕ) → index < f.put → P (flight_block block f index)
+
 -- No row names the slice; its first blocks were put with its bytes, and no other block has its
 -- number.
 pub record InFlight (block : ℕ) (rows : Rows) (blocks : Blocks) (f : Flight) : Type 0 where

@@ -30,14 +30,14 @@ use Rattle.jv_volume.specs.Holding.{IsHoldable}
 use Rattle.jv_volume.proofs.HoldingLaws.{stays-committed}
 use Rattle.jv_contents.specs.Blocks.{known_by}
 use Rattle.jv_contents.specs.Bytes.{KnownBytes, tree_with}
-use Rattle.jv_contents.specs.Flights.{Flight, IsComplete}
+use Rattle.jv_contents.specs.Flights.{EachPut, Flight, IsComplete}
 use Rattle.jv_contents.proofs.FlightLaws.{complete-shown}
 use Rattle.jv_data.specs.Changing.{Changed}
 use Rattle.jv_data.specs.Records.{CommitsRecord, IsNew, committing}
 use Rattle.jv_shared.specs.Direct.{HasPut}
 use Rattle.jv_shared.specs.Flying.{Flies}
 use Rattle.jv_shared.specs.Keeping.{Leads}
-use Rattle.jv_shared.specs.Shared.{HasStore, Known, Shared, depot_in, rows_in}
+use Rattle.jv_shared.specs.Shared.{HasStore, InStore, Known, Shared, depot_in, rows_in}
 use Rattle.jv_shared.proofs.RowStepLaws.{commit-leads}
 use Rattle.jv_shared.proofs.SameLaws.{same-rows}
 use Rattle.jv_shared.proofs.StoreLaws.{block_some, rows_are}
@@ -111,7 +111,7 @@ module _ (s : State) (g : Known) (v : Shared) (store : HasStore s.tree g v) (cli
 
   -- ---- it was made
 
-  module _ (has : HasPut v.yard.setting.block (depot_in v) f)
+  module _ (stored : EachPut (InStore v) v.yard.setting.block f) (has : HasPut v.yard.setting.block (depot_in v) f)
       (commits : CommitsRecord sid now segment.inode window (whole_record pos f) started v.keeper keeper (Ok tt)) where
     abbrev Made : Type 0
     Made =
@@ -132,8 +132,8 @@ module _ (s : State) (g : Known) (v : Shared) (store : HasStore s.tree g v) (cli
 
     commit_leads : Leads f.id grown g g v left_shared
     commit_leads = subst (λ (t : Tree). Leads f.id t g g v left_shared) tree-is
-        (commit-leads s.tree g v store keeper v.carrier made.left f 1 flies has complete made.is made.whole made.others
-        made.size
+        (commit-leads s.tree g v store keeper v.carrier made.left f 1 flies stored has complete made.is made.whole
+        made.others made.size
         (ap (λ (t : Tree). t.setting) tree-is ∙ (stays-committed s.tree now segment.inode segment.from patch).setting))
 
     commit_may : c.writeback ≡ false → Commits s now c d segment.inode segment.from segment.len 0

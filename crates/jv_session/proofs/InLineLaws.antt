@@ -37,7 +37,8 @@ use Rattle.jv_session.specs.declared.line_end.LineEnd.TheVariants.{Broken as Lin
 use Rattle.jv_session.specs.declared.line_end.Stopped.{Stopped}
 use Rattle.jv_session.specs.declared.line_end.Stopped.TheVariants as stopped
 use Rattle.jv_session.specs.Stands.{ScheduleValue, IsState, IsClientAt, ClockFor, InLine}
-use Rattle.jv_session.specs.Lines.{BlocksStay, LineState, LineUses}
+use Rattle.jv_session.specs.Direct.{BlocksStay}
+use Rattle.jv_session.specs.Lines.{LineState, LineUses}
 use Rattle.jv_session.specs.InLine.{Goes, Finish, Break, FromLine, LineGoes, LineSays, IsMomentOf, StopsBefore, HasStepped, MakesStep, StepsOnce, at_moment, end_of}
 use Rattle.jv_session.proofs.BeginLaws.{not_ending}
 use Rattle.jv_session.proofs.StateLaws.{client_at, state_moment, state_stepped}
@@ -113,7 +114,7 @@ pub record StepMade (due : Due) (q : Past) (client : ℕ) (before after : LineSt
   pub on : StepsOn due q client now kinds step end
   pub goes : Goes q 1 before.journal after.journal (map (entry_of q.line now client) kinds) end
   pub in_line : InLine end after.schedule after.devices
-  pub kept : BlocksStay before.devices after.devices
+  pub direct : BlocksStay before.devices after.devices
 
 module _ (number client : ℕ) (before after : LineState) (step : Step) (m : Stepped number client before after step)
   where
@@ -235,7 +236,7 @@ module _ (number client : ℕ) (before after : LineState) (step : Step) (m : Ste
             on = ran.1;
             goes = goes_to ran.0 line ran.1;
             in_line = in_line_after ran.0 ran.1;
-            kept = leads_to.leads.kept.depot.grows;
+            direct = leads_to.leads.kept.direct;
           }
 
 -- a line that is done, and whose text there was memory for or not
@@ -247,7 +248,7 @@ module _ (q : Past) (asks : ℕ) (before after : LineState) (text : List ℕ) wh
     end = f.end;
     goes = f.goes;
     in_line = f.in_line;
-    kept = f.kept;
+    direct = f.direct;
     stops = or_left (is_over f.end) (may_stop f.end) f.over;
   }
 
@@ -257,7 +258,7 @@ module _ (q : Past) (asks : ℕ) (before after : LineState) (text : List ℕ) wh
     end = f.end;
     goes = f.goes;
     in_line = f.in_line;
-    kept = f.kept;
+    direct = f.direct;
     over = f.over;
     said = f.said ∙ sym e;
   }
@@ -322,7 +323,7 @@ breaks_none q before after count line stops left = record {
   end = q;
   goes = subst (λ more. Goes q 0 before.journal more [] q) (sym left.journal) (goes_none q before.journal count);
   in_line = in_line-left q before after left line;
-  kept = blocks_stay before.devices after.devices left.devices;
+  direct = blocks_stay before.devices after.devices left.devices;
   stops = stops;
 }
 
@@ -369,7 +370,7 @@ module _ (client number : ℕ) (before after : LineState) where
         end = made.end;
         goes = made.goes;
         in_line = made.in_line;
-        kept = made.kept;
+        direct = made.direct;
         over = is_over_at made.end (StepTaken client) made.on.after.due_is made.on.after.goes_on;
         said = made.on.after.said_is;
       }
@@ -384,7 +385,7 @@ module _ (client number : ℕ) (before after : LineState) where
         end = made.end;
         goes = made.goes;
         in_line = made.in_line;
-        kept = made.kept;
+        direct = made.direct;
         over = is_over_at made.end NoMore made.on.after.due_is tt;
         said = made.on.after.said_is ∙ ap (λ (setting : Setting). printed_line setting reply) made.in_line.setting;
       }

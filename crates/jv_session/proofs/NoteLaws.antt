@@ -152,7 +152,7 @@ module _ (v : Shared) (number : ℕ) (clock ticked : Ticks) (journal more : List
             (state_noted q.run.start h.known q.state s.clients v h.state r.state n.tree
             (let e = n.count in omega (arith, e))
             (copied_noted q r (entry_of q.line now client kind) n.leads refl refl) ran.1.clients);
-        kept = blocks_stay v v refl;
+        direct = blocks_stay v v refl;
         over = is_over_at r NoMore n.done.due_is tt;
         said = n.done.said_is ∙ ap (λ (setting : Setting). printed_line setting (Refused fault)) h.setting;
       })
@@ -185,7 +185,7 @@ module _ (v : Shared) (number : ℕ) (clock ticked : Ticks) (journal more : List
               holds = subst (λ (x : ModelClient). Holds r.state.tree x) (sym ran.1.own)
                   (holds-unmounted r.state.tree);
             }));
-        kept = blocks_stay v v refl;
+        direct = blocks_stay v v refl;
         over = is_over_at r NoMore n.done.due_is tt;
         said = n.done.said_is;
       })
@@ -216,7 +216,7 @@ module _ (v : Shared) (number : ℕ) (clock ticked : Ticks) (journal more : List
             (let e = n.count in omega (arith, e))
             (copied_noted q r (entry_of q.line now NO_CLIENT (Ticked by)) n.leads refl
             (ticked_copies q.state q.line now NO_CLIENT by (q.state.clients NO_CLIENT).doing)) ran.1.clients);
-        kept = blocks_stay v v refl;
+        direct = blocks_stay v v refl;
         over = is_over_at r NoMore n.done.due_is tt;
         said = n.done.said_is;
       })

@@ -29,7 +29,8 @@ use Rattle.jv_session.specs.declared.line_end.LineEnd.TheVariants.{Broken as Lin
 use Rattle.jv_session.specs.declared.line_end.Stopped.{Stopped}
 use Rattle.jv_session.specs.declared.line_end.Stopped.TheVariants as stopped
 use Rattle.jv_session.specs.Stands.{ScheduleValue, ClockFor, InLine, IsYardOf, busy_in, client_is_busy}
-use Rattle.jv_session.specs.Lines.{BlocksStay, LineState, LineUses}
+use Rattle.jv_session.specs.Direct.{BlocksStay}
+use Rattle.jv_session.specs.Lines.{LineState, LineUses}
 use Rattle.jv_session.specs.InLine.{Goes, Finish, Break, Breaks, FromLine, LineGoes, LineSays, StopsBefore, RunsToEnd, at_moment, end_of}
 use Rattle.jv_session.proofs.MemberLaws.{slice_get-set}
 use Rattle.jv_session.proofs.UsesLaws.{blocks_stay, both_failures, no_failures, stopped_bad, uses_none, uses_nothing, uses_still, uses_then}
@@ -53,7 +54,7 @@ pub record SoFar (q : Past) (client asks : ℕ) (start now : LineState) : Type 0
   pub there : Past
   pub goes : Goes q asks start.journal now.journal acts there
   pub in_line : InLine there now.schedule now.devices
-  pub kept : BlocksStay start.devices now.devices
+  pub direct : BlocksStay start.devices now.devices
   pub due : there.due ≡ ToAnswer client
 
 -- from each past where the line may stand, when the clock's answers from here on are those of the run's clock
@@ -87,7 +88,7 @@ reached_none client number start busy yard = record {
         there = q;
         goes = goes_none q start.journal count;
         in_line = h;
-        kept = blocks_stay start.devices start.devices refl;
+        direct = blocks_stay start.devices start.devices refl;
         due = due;
       };
 }
@@ -145,8 +146,8 @@ module _ (client number : ℕ) (start now later : LineState) (h : Reached client
       goes_more = goes_then q f.there made.end h.asks 1 start.journal now.journal later.journal f.acts acts_then
           f.goes made.goes
 
-      kept_more : BlocksStay start.devices later.devices
-      kept_more = grows-then (depot_in start.devices) (depot_in now.devices) (depot_in later.devices) f.kept made.kept
+      direct_more : BlocksStay start.devices later.devices
+      direct_more = grows-then (depot_in start.devices) (depot_in now.devices) (depot_in later.devices) f.direct made.direct
 
   leads_more_steps : (m : Stepped number client now later More)
       → LeadsSoFar client number (h.asks + 1) start later
@@ -159,7 +160,7 @@ module _ (client number : ℕ) (start now later : LineState) (h : Reached client
         there = made.end;
         goes = goes_more More m q f made;
         in_line = made.in_line;
-        kept = kept_more More m q f made;
+        direct = direct_more More m q f made;
         due = made.on.after.due_is;
       }
 
@@ -188,7 +189,7 @@ module _ (client number : ℕ) (start now later : LineState) (h : Reached client
         end = made.end;
         goes = goes_more (Done reply) m q f made;
         in_line = made.in_line;
-        kept = kept_more (Done reply) m q f made;
+        direct = direct_more (Done reply) m q f made;
         over = is_over_at made.end NoMore made.on.after.due_is tt;
         said = made.on.after.said_is ∙ ap (λ (setting : Setting). printed_line setting reply) made.in_line.setting;
       }
@@ -213,7 +214,7 @@ module _ (client number : ℕ) (start now later : LineState) (h : Reached client
         end = f.there;
         goes = subst (λ more. Goes q h.asks start.journal more f.acts f.there) (sym left.journal) f.goes;
         in_line = in_line-left f.there now later left f.in_line;
-        kept = grows-then (depot_in start.devices) (depot_in now.devices) (depot_in later.devices) f.kept
+        direct = grows-then (depot_in start.devices) (depot_in now.devices) (depot_in later.devices) f.direct
             (blocks_stay now.devices later.devices left.devices);
         stops = may_be_cut_at f.there (ToAnswer client) f.due
             (line_goes_on f.there now.schedule now.devices client c f.in_line found);

@@ -26,7 +26,8 @@ use Rattle.jv_client.specs.declared.made.Made.{Made}
 use Rattle.jv_client.specs.declared.made.Made.TheVariants as made
 use Rattle.jv_client.specs.Makes.{FailsAlone, SaysBad, UsesDevices, entries_of, faults_of, is_failure_entry, is_failure_of, kinds_of, step_of, says_failure}
 use Rattle.jv_session.specs.Stands.{ScheduleValue, IsYardOf}
-use Rattle.jv_session.specs.Lines.{AnswersSo, BlocksStay, LineState, LineUses, StaysPut, AreFailures, device_failures}
+use Rattle.jv_session.specs.Direct.{BlocksStay}
+use Rattle.jv_session.specs.Lines.{AnswersSo, LineState, LineUses, StaysPut, AreFailures, device_failures}
 use Rattle.jv_session.specs.Growing.{YardGrows}
 use Rattle.jv_session.specs.InLine.{at_moment}
 use Rattle.jv_session.proofs.GrowingLaws.{grows_none, grows_step, grows_then}
@@ -130,7 +131,7 @@ stays_none v = record {
   carrier_at = refl;
   depot_at = refl;
   shelf_at = refl;
-  blocks = refl;
+  direct = refl;
   setting = refl;
   grows = grows_none v.yard;
 }
@@ -141,7 +142,7 @@ stays_then first second third a b = record {
   carrier_at = b.carrier_at ∙ a.carrier_at;
   depot_at = b.depot_at ∙ a.depot_at;
   shelf_at = b.shelf_at ∙ a.shelf_at;
-  blocks = b.blocks ∙ a.blocks;
+  direct = b.direct ∙ a.direct;
   setting = b.setting ∙ a.setting;
   grows = grows_then first.yard second.yard third.yard a.setting a.grows b.grows;
 }
@@ -227,7 +228,7 @@ uses_step before after line now h made appends alone passes uses used at limits 
     carrier_at = uses.carrier_at;
     depot_at = uses.depot_at;
     shelf_at = uses.shelf_at;
-    blocks = uses.blocks;
+    direct = uses.direct;
     setting = uses.setting;
     grows = record { staged = grown.staged; puts = grown.puts; objects = grown.objects };
   };

@@ -318,7 +318,7 @@ module _ (p q : Past) (more : List Line) (number : ℕ) (due : Due) (said : List
     end = f.end;
     appends = appends f.acts f.end next begins b f.goes;
     stands = record { in_line = f.in_line; over = f.over };
-    kept = f.kept;
+    direct = f.direct;
     said = f.said;
   }
 
@@ -329,7 +329,7 @@ module _ (p q : Past) (more : List Line) (number : ℕ) (due : Due) (said : List
     end = f.end;
     appends = appends f.acts f.end next begins b f.goes;
     stands = f.in_line;
-    kept = f.kept;
+    direct = f.direct;
     stops = f.stops;
   }
 
@@ -372,7 +372,7 @@ module _ (line : Line) (number : ℕ) (before after : LineState) (s1 : ScheduleV
     end = f.end;
     goes = f.goes;
     in_line = f.in_line;
-    kept = f.kept;
+    direct = f.direct;
     over = f.over;
     said = f.said;
   }
@@ -383,7 +383,7 @@ module _ (line : Line) (number : ℕ) (before after : LineState) (s1 : ScheduleV
     end = f.end;
     goes = f.goes;
     in_line = f.in_line;
-    kept = f.kept;
+    direct = f.direct;
     stops = f.stops;
   }
 
@@ -462,7 +462,7 @@ module _ (text : List ℕ) (number : ℕ) (clock : Ticks) (v : Shared) (journal 
           end = q;
           goes = goes_none q journal count;
           in_line = i;
-          kept = blocks_stay v v refl;
+          direct = blocks_stay v v refl;
           over = alone.over;
           said = alone.said;
         };
@@ -480,7 +480,7 @@ module _ (text : List ℕ) (number : ℕ) (clock : Ticks) (v : Shared) (journal 
             end = q;
             goes = goes_none q journal count;
             in_line = i;
-            kept = blocks_stay v v refl;
+            direct = blocks_stay v v refl;
             stops = or_left
                 (is_over q) (may_stop q) alone.over;
           };

@@ -29,7 +29,8 @@ use Rattle.jv_session.specs.declared.line_end.LineEnd.TheVariants.{Said, Quiet, 
 use Rattle.jv_session.specs.declared.line_end.Stopped.{Stopped}
 use Rattle.jv_session.specs.declared.line_end.Stopped.TheVariants as stopped
 use Rattle.jv_session.specs.Stands.{ScheduleValue, InLine, ClockFor}
-use Rattle.jv_session.specs.Lines.{BlocksStay, LineState, LineUses}
+use Rattle.jv_session.specs.Direct.{BlocksStay}
+use Rattle.jv_session.specs.Lines.{LineState, LineUses}
 
 -- entries of the line were appended; they are allowed, and lead there
 pub record Goes (q : Past) (asks : ℕ) (before after acts : List Act) (r : Past) : Type 0 where
@@ -45,7 +46,7 @@ pub record Finish (q : Past) (asks : ℕ) (before after : LineState) (text : Lis
   pub end : Past
   pub goes : Goes q asks before.journal after.journal acts end
   pub in_line : InLine end after.schedule after.devices
-  pub kept : BlocksStay before.devices after.devices
+  pub direct : BlocksStay before.devices after.devices
   pub over : is_over end ≡ true
   pub said : end.said ≡ text
 
@@ -55,7 +56,7 @@ pub record Break (q : Past) (asks : ℕ) (before after : LineState) : Type 0 whe
   pub end : Past
   pub goes : Goes q asks before.journal after.journal acts end
   pub in_line : InLine end after.schedule after.devices
-  pub kept : BlocksStay before.devices after.devices
+  pub direct : BlocksStay before.devices after.devices
   pub stops : (is_over end || may_stop end) ≡ true
 
 abbrev pub end_of : Stopped → LineEnd

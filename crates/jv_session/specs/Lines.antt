@@ -10,12 +10,13 @@ use Rattle.jv_outside.specs.Causes.{Rose, RoseTimes}
 use Rattle.jv_outside.specs.Ticks.{Ticks, Passes}
 use Rattle.jv_rows.specs.Transactions.{IsBad}
 use Rattle.jv_volume.specs.TypedRows.{typed}
-use Rattle.jv_contents.specs.Blocks.{Grows}
 use Rattle.jv_yard.specs.YardValue.{YardValue}
-use Rattle.jv_shared.specs.Shared.{Shared, depot_in}
+use Rattle.jv_shared.specs.Shared.{Shared}
+use Rattle.jv_client.specs.Direct.{KeepsShelf}
 use Rattle.jv_client.specs.Makes.{faults_of, is_failure_entry}
 use Rattle.jv_session.specs.declared.line_end.LineEnd.{LineEnd}
 use Rattle.jv_session.specs.declared.line_end.LineEnd.TheVariants.{Said, Quiet, ClockFailed, Broken, Memory}
+use Rattle.jv_session.specs.Direct.{BlocksStay}
 use Rattle.jv_session.specs.Stands.{ScheduleValue, Stands, InLine, IsYardOf, ClockFor}
 use Rattle.jv_session.specs.Growing.{YardGrows}
 
@@ -59,10 +60,6 @@ pub record Appends (p : Past) (more : List Line) (number asks : ℕ) (before aft
   pub asked : q.asked ≡ p.asked + asks
   pub printed : q.printed ≡ p.printed ++ p.said
 
--- each block that the depot had it has later, with its bytes
-abbrev pub BlocksStay : Shared → Shared → Type 0
-BlocksStay before after = Grows (depot_in before) (depot_in after)
-
 -- the line is done and prints this
 pub record Ran (p : Past) (more : List Line) (number asks : ℕ) (before after : LineState)
     (text : List ℕ) : Type 0 where
@@ -70,7 +67,7 @@ pub record Ran (p : Past) (more : List Line) (number asks : ℕ) (before after :
   pub end : Past
   pub appends : Appends p more number asks before.journal after.journal acts end
   pub stands : Stands end after.schedule after.devices
-  pub kept : BlocksStay before.devices after.devices
+  pub direct : BlocksStay before.devices after.devices
   pub said : end.said ≡ text
 
 -- the run stopped on the line, before a step or after its last one, and the schedule stands where
@@ -81,7 +78,7 @@ pub record Cut (p : Past) (more : List Line) (number asks : ℕ)
   pub end : Past
   pub appends : Appends p more number asks before.journal after.journal acts end
   pub stands : InLine end after.schedule after.devices
-  pub kept : BlocksStay before.devices after.devices
+  pub direct : BlocksStay before.devices after.devices
   pub stops : (is_over end || may_stop end) ≡ true
 
 -- From wherever the schedule stands, when the clock still shows what the run's clock shows: the
@@ -92,14 +89,14 @@ FromThere line number before after Comes = (p : Past) (more : List Line)
     → p.state.count ≡ length before.journal
     → ClockFor p.run.clock p.asked before.clock.answers after.clock.answers → Comes p more
 
--- Devices are open where they were, and the shelf has the blocks that it had. The yard is one of
--- the same volume, which blocks were put into.
+-- Devices are open where they were. The yard is one of the same volume, which blocks were put into,
+-- and by `direct` the shelf has the blocks that it had.
 pub record StaysPut (before after : Shared) : Type 0 where
   pub keeper_at : after.keeper.opened ≡ before.keeper.opened
   pub carrier_at : after.carrier.opened ≡ before.carrier.opened
   pub depot_at : after.yard.depot.opened ≡ before.yard.depot.opened
   pub shelf_at : after.yard.shelf.opened ≡ before.yard.shelf.opened
-  pub blocks : after.yard.shelf.content ≡ before.yard.shelf.content
+  pub direct : KeepsShelf before after
   pub setting : after.yard.setting ≡ before.yard.setting
   pub grows : YardGrows before.yard after.yard
 

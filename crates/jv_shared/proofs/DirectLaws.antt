@@ -1,8 +1,7 @@
 -- What the depot has while each block goes there at once and none is removed: it stays while others go on, a look finds what
 -- its records name there, and a put adds a flight's next block.
-use Rattle.std.proofs.Common.{◌≡◌, ◌≢◌, ℕ, ◌+◌, ◌<◌, inl, inr, List, length, sym, subst, arith}
+use Rattle.std.proofs.Common.{◌≡◌, ◌≢◌, ℕ, ◌+◌, ◌<◌, List, length, sym, subst, arith}
 use Rattle.std.specs.Prelude.{Contains}
-use Rattle.std.proofs.lemmas.Bool.{cases_lt}
 use Rattle.std.proofs.lemmas.List.Elements.{All-contains, All-from_recursion}
 use Rattle.jv_model.specs.declared.setting.Setting.{Setting}
 use Rattle.jv_model.specs.declared.slice.BlockId.{BlockId}
@@ -12,32 +11,14 @@ use Rattle.jv_volume.specs.TypedRows.{Rows}
 use Rattle.jv_volume.specs.Views.{lists_of}
 use Rattle.jv_volume.specs.Slices.{WholeSlices}
 use Rattle.jv_contents.specs.Blocks.{Blocks, Grows, HasBlocks, IsPut, IsThere}
-use Rattle.jv_contents.specs.Flights.{Flight, IsComplete, flight_block, flight_bytes}
-use Rattle.jv_contents.proofs.BlockLaws.{grows-none, grows-then, there-grows}
+use Rattle.jv_contents.specs.Flights.{EachPut, Flight, flight_block, flight_bytes}
+use Rattle.jv_contents.proofs.BlockLaws.{there-grows}
+use Rattle.jv_contents.proofs.FlightLaws.{put-more}
 use Rattle.jv_contents.proofs.WholeLaws.{all-mapped}
-use Rattle.jv_shared.specs.Shared.{AreStored, InDepot, Shared, depot_in}
+use Rattle.jv_shared.specs.Shared.{InDepot, InStore, Shared, depot_in}
 use Rattle.jv_shared.specs.Seen.{SliceIsThere}
-use Rattle.jv_shared.specs.Direct.{HasNamed, HasPut, KeepsDepot}
-use Rattle.jv_shared.proofs.SeenLaws.{each_listed, listed_there}
-
--- ---- a depot that keeps its blocks
-
--- nothing has changed
-pub depot-none : (own : ℕ) (depot : Blocks) → KeepsDepot own depot depot
-depot-none own depot = record { grows = grows-none depot; only = λ b bytes apart there. there }
-
--- one step after another, of the same slice
-pub depot-then : (own : ℕ) (depot depot' depot'' : Blocks) → KeepsDepot own depot depot' → KeepsDepot own depot' depot'' → KeepsDepot own depot depot''
-depot-then own depot depot' depot'' k l = record {
-  grows = grows-then depot depot' depot'' k.grows l.grows;
-  only = λ b bytes apart there. k.only b bytes apart (l.only b bytes apart there);
-}
-
--- ---- slices with rows
-
--- where the depot has all their blocks, these are stored
-pub stored-direct : (block : ℕ) (rows : Rows) (depot : Blocks) (staged : ℕ → Blocks) → HasBlocks block rows depot → AreStored block rows depot staged
-stored-direct block rows depot staged has id slice is index low = InDepot (has id slice is index low)
+use Rattle.jv_shared.specs.Direct.{HasNamed, HasPut}
+use Rattle.jv_shared.proofs.SeenLaws.{each_listed, listed_each}
 
 -- ---- what records name
 
@@ -45,7 +26,7 @@ stored-direct block rows depot staged has id slice is index low = InDepot (has i
 pub looked_has : (rows : Rows) (block : ℕ) (depot : Blocks) → WholeSlices rows → HasBlocks block rows depot → (inode window : ℕ)
     → HasNamed block depot (lists_of rows inode window)
 looked_has rows block depot w has inode window =
-    each_listed rows (λ r. r.id ≢ 0 → SliceIsThere block depot r.id r.size) (listed_there rows block depot w has) inode window
+    each_listed rows (λ r. r.id ≢ 0 → SliceIsThere block depot r.id r.size) (listed_each rows (IsThere depot) block w has) inode window
 
 pub has_named-grows : (block : ℕ) (depot depot' : Blocks) → Grows depot depot' → (list : List Rec) → HasNamed block depot list → HasNamed block depot' list
 has_named-grows block depot depot' grows list has =
@@ -65,31 +46,26 @@ has_named-there block depot list has b r among some is low =
 pub has_put-grows : (block : ℕ) (depot depot' : Blocks) → Grows depot depot' → (f : Flight) → HasPut block depot f → HasPut block depot' f
 has_put-grows block depot depot' grows f has index low = there-grows depot depot' (flight_block block f index) grows (has index low)
 
--- of a complete one all blocks are there
-pub has_put-complete : (block : ℕ) (depot : Blocks) (f : Flight) → IsComplete block f → HasPut block depot f
-    → SliceIsThere block depot f.id (length f.bytes)
-has_put-complete block depot f complete has index low = has index (omega (arith, complete, low))
+-- what was put is stored
+pub has_put-stored : (v : Shared) (f : Flight) → HasPut v.yard.setting.block (depot_in v) f → EachPut (InStore v) v.yard.setting.block f
+has_put-stored v f has index low = InDepot (has index low)
 
 -- the put of the next block, which has the length of its name
 pub has_put-next : (block : ℕ) (depot depot' : Blocks) (f : Flight) → length (flight_bytes block f f.put) ≡ (flight_block block f f.put).size
     → Grows depot depot' → IsPut (flight_block block f f.put) (flight_bytes block f f.put) depot depot' → HasPut block depot f
     → HasPut block depot' (record f { put = f.put + 1 })
-has_put-next block depot depot' f long grows put has index low = elim (cases_lt index f.put) [
-  | inl early ↦ has_put-grows block depot depot' grows f has index early
-  | inr late ↦
-      let same : f.put ≡ index = omega (arith, low, late) in
-      subst (λ n. IsThere depot' (flight_block block f n)) same (record { bytes = flight_bytes block f f.put; is = put.here; long = long })
-]
+has_put-next block depot depot' f long grows put has =
+    put-more (IsThere depot') block f (has_put-grows block depot depot' grows f has) (record { bytes = flight_bytes block f f.put; is = put.here; long = long })
 
 -- ---- over what clients share
 
-module _ (own : ℕ) (v v' : Shared) (setting : v'.yard.setting ≡ v.yard.setting) (keeps : KeepsDepot own (depot_in v) (depot_in v')) where
+module _ (v v' : Shared) (setting : v'.yard.setting ≡ v.yard.setting) (grows : Grows (depot_in v) (depot_in v')) where
   pub has_named-stays : (list : List Rec) → HasNamed v.yard.setting.block (depot_in v) list → HasNamed v'.yard.setting.block (depot_in v') list
   has_named-stays list has =
       subst (λ (x : Setting). HasNamed x.block (depot_in v') list) (sym setting)
-      (has_named-grows v.yard.setting.block (depot_in v) (depot_in v') keeps.grows list has)
+      (has_named-grows v.yard.setting.block (depot_in v) (depot_in v') grows list has)
 
   pub has_put-stays : (f : Flight) → HasPut v.yard.setting.block (depot_in v) f → HasPut v'.yard.setting.block (depot_in v') f
   has_put-stays f has =
       subst (λ (x : Setting). HasPut x.block (depot_in v') f) (sym setting)
-      (has_put-grows v.yard.setting.block (depot_in v) (depot_in v') keeps.grows f has)
+      (has_put-grows v.yard.setting.block (depot_in v) (depot_in v') grows f has)

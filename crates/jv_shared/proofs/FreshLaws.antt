@@ -17,9 +17,8 @@ use Rattle.jv_contents.specs.Bytes.{tree_with}
 use Rattle.jv_yard.specs.Contents.{blocks_in, is_block}
 use Rattle.jv_yard.specs.Later.{IsStagedWith, contents_of}
 use Rattle.jv_yard.specs.Staging.{staged_since}
-use Rattle.jv_shared.specs.Shared.{HasStore, Known, Shared, staged_in}
+use Rattle.jv_shared.specs.Shared.{HasStore, InDepot, Known, Shared, staged_in}
 use Rattle.jv_shared.specs.Fresh.{IsFresh}
-use Rattle.jv_shared.proofs.DirectLaws.{stored-direct}
 use Rattle.jv_shared.proofs.RowStepLaws.{sized-slices}
 
 module _ (v : Shared) (s : IsFresh v) where
@@ -132,7 +131,7 @@ module _ (v : Shared) (s : IsFresh v) where
       objects_are = s.objects_are;
       staged = s.staged;
       staged_are = s.staged_are;
-      there = stored-direct v.yard.setting.block (typed s.rows) (blocks_in v.yard.setting s.objects) (staged_in v.yard s.staged) s.there;
+      there = λ id slice is index low. InDepot (s.there id slice is index low);
       copies = depot_copies;
       staged_copies = client_copies;
       kept = s.kept;

@@ -24,7 +24,6 @@ use Rattle.jv_shared.specs.Shared.{Known, Shared, depot_in, rows_in}
 use Rattle.jv_shared.specs.Seen.{IsFound, ShowsWindow}
 use Rattle.jv_shared.specs.Flying.{Flies, IsFlying}
 use Rattle.jv_shared.specs.Keeping.{Keeps, KeepsShared, Leads}
-use Rattle.jv_shared.proofs.DirectLaws.{depot-none, depot-then}
 
 -- ---- steps
 
@@ -114,13 +113,13 @@ module _ (own : ℕ) (rows rows' : Rows) (g g' : Known) (k : Keeps own rows rows
 -- ---- what clients share
 
 pub stays-none : (own : ℕ) (g : Known) (v : Shared) → KeepsShared own g g v v
-stays-none own g v = record { setting = refl; keeps = keeps-none own (rows_in v) g; depot = depot-none own (depot_in v) }
+stays-none own g v = record { setting = refl; keeps = keeps-none own (rows_in v) g; direct = grows-none (depot_in v) }
 
 pub stays-then : (own : ℕ) (g g' g'' : Known) (v v' v'' : Shared) → KeepsShared own g g' v v' → KeepsShared own g' g'' v' v'' → KeepsShared own g g'' v v''
 stays-then own g g' g'' v v' v'' k l = record {
   setting = l.setting ∙ k.setting;
   keeps = keeps-then own (rows_in v) (rows_in v') (rows_in v'') g g' g'' k.keeps l.keeps;
-  depot = depot-then own (depot_in v) (depot_in v') (depot_in v'') k.depot l.depot;
+  direct = grows-then (depot_in v) (depot_in v') (depot_in v'') k.direct l.direct;
 }
 
 -- a flight of another slice goes on

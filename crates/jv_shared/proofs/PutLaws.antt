@@ -1,5 +1,5 @@
 -- The put of a flight's next block: it leads to the same tree, and the flight goes on with one more block.
-use Rattle.std.proofs.Common.{◌≡◌, ◌≢◌, ℕ, ◌+◌, ◌<◌, ◌^◌, Bool, true, false, inl, inr, List, Option, None, Some, refl, sym, ap, subst, ◌∙◌, arith}
+use Rattle.std.proofs.Common.{◌≡◌, ◌≢◌, ℕ, ◌+◌, ◌<◌, ◌^◌, Bool, true, false, inl, inr, List, Option, None, Some, refl, sym, ap, subst, subst₂, ◌∙◌, arith}
 use Rattle.std.specs.Prelude.{if◌then◌else◌}
 use Rattle.jv_model.specs.declared.slice.BlockId.{BlockId}
 use Rattle.jv_model.specs.blocks.BlockNames.{IsBlock, name_in}
@@ -13,9 +13,9 @@ use Rattle.jv_outside.specs.Parcels.{StandsFor}
 use Rattle.jv_slices.proofs.NeedLaws.{equal_if_same, same_self}
 use Rattle.jv_volume.specs.TypedRows.{Rows, typed}
 use Rattle.jv_volume.specs.Slices.{next_slice}
-use Rattle.jv_contents.specs.Blocks.{Blocks, Grows, HasBlocks, IsPut}
+use Rattle.jv_contents.specs.Blocks.{Blocks, EachBlock, Grows, IsPut, IsThere}
 use Rattle.jv_contents.specs.Flights.{Flight, flight_block, flight_bytes}
-use Rattle.jv_contents.proofs.BlockLaws.{has_blocks-grow, tree-grows}
+use Rattle.jv_contents.proofs.BlockLaws.{each_block-still, grows-none, there-grows, tree-grows}
 use Rattle.jv_contents.proofs.FlightLaws.{next_block-free, put-below, put-grows, put-next, put_or_was}
 use Rattle.jv_yard.specs.declared.note.Note.{Note}
 use Rattle.jv_yard.specs.BlockCalls.{IsPut as PutsParcel}
@@ -23,13 +23,13 @@ use Rattle.jv_yard.specs.Contents.{blocks_in}
 use Rattle.jv_yard.specs.YardValue.{YardValue}
 use Rattle.jv_yard.proofs.CallLaws.{IsKept-same}
 use Rattle.jv_yard.proofs.ContentsLaws.{put-objects, put-other, put-same}
-use Rattle.jv_shared.specs.Shared.{HasStore, Known, Shared, depot_blocks, depot_in, rows_in, staged_in, with_block}
+use Rattle.jv_shared.specs.Shared.{HasStore, IsStored, Known, Shared, depot_blocks, depot_in, rows_in, staged_in, with_block}
 use Rattle.jv_shared.specs.Flying.{Flies}
-use Rattle.jv_shared.specs.Direct.{HasPut, KeepsDepot}
+use Rattle.jv_shared.specs.Direct.{HasPut}
 use Rattle.jv_shared.specs.Keeping.{KeepsShared, Leads}
-use Rattle.jv_shared.proofs.DirectLaws.{has_put-next, stored-direct}
+use Rattle.jv_shared.proofs.DirectLaws.{has_put-next}
 use Rattle.jv_shared.proofs.FlyingLaws.{flight_bytes-long}
-use Rattle.jv_shared.proofs.StoreLaws.{block_length, block_some, known_has, depot_are, rows_are}
+use Rattle.jv_shared.proofs.StoreLaws.{block_length, block_some, known_has, depot_are, rows_are, stored-grows}
 
 -- a block is known, and all others are as before
 pub with_block-put : (b : BlockId) (bytes : List ℕ) (g : Known) → IsPut b bytes g.blocks (with_block b bytes g).blocks
@@ -62,8 +62,8 @@ module _ (t : Tree) (g : Known) (v : Shared) (s : HasStore t g v) (f : Flight) (
   ever_grows = put-grows next bytes g.blocks learned.blocks ever_put (next_block-free v.yard.setting.block (rows_in v) g.blocks f flies.ever)
 
   -- only blocks of the flight are new
-  put_own : (blocks blocks' : Blocks) → IsPut next bytes blocks blocks' → (b : BlockId) (its : List ℕ) → b.id ≢ f.id → blocks' b ≡ Some its → blocks b ≡ Some its
-  put_own blocks blocks' put b its apart there = elim (put_or_was next bytes blocks blocks' put b its there) [
+  ever_own : (b : BlockId) (its : List ℕ) → b.id ≢ f.id → learned.blocks b ≡ Some its → g.blocks b ≡ Some its
+  ever_own b its apart there = elim (put_or_was next bytes g.blocks learned.blocks ever_put b its there) [
     | inl was ↦ was
     | inr same ↦ absurd (apart (ap (λ (x : BlockId). x.id) same))
   ]
@@ -104,8 +104,10 @@ module _ (t : Tree) (g : Known) (v : Shared) (s : HasStore t g v) (f : Flight) (
       | inr same ↦ ap learned.blocks same ∙ ever_put.here ∙ sym depot_put.here ∙ ap depot' (sym same) ∙ there
     ]
 
-    has_now : HasBlocks v.yard.setting.block (typed s.rows) depot'
-    has_now = has_blocks-grow v.yard.setting.block (typed s.rows) depot depot' depot_grows s.direct
+    -- rows stay, so that what the put leaves true of a block stays true of all blocks of their slices
+    still : (P Q : BlockId → Type 0) → ((b : BlockId) → P b → Q b) → EachBlock P v.yard.setting.block (typed s.rows)
+        → EachBlock Q v.yard.setting.block (typed s.rows)
+    still P Q stays = each_block-still P Q v.yard.setting.block (typed s.rows) (typed s.rows) (λ b row. stays b) (λ id. refl)
 
     module _ (held : Holding ObjectMap) (log : List Note) (carrier : Carriage) (content : held.content ≡ Some after) where
       abbrev put_shared : Shared
@@ -125,7 +127,10 @@ module _ (t : Tree) (g : Known) (v : Shared) (s : HasStore t g v) (f : Flight) (
         objects_are = content;
         staged = s.staged;
         staged_are = s.staged_are;
-        there = stored-direct v.yard.setting.block (typed s.rows) depot' (staged_in v.yard s.staged) has_now;
+        there = still (IsStored depot (staged_in v.yard s.staged)) (IsStored depot' (staged_in v.yard s.staged))
+            (stored-grows depot depot' (staged_in v.yard s.staged) (staged_in v.yard s.staged) depot_grows
+            (λ client. grows-none (staged_in v.yard s.staged client)))
+            s.there;
         copies = depot_learned;
         staged_copies = λ client b its there. ever_grows b its (s.staged_copies client b its there);
         kept = IsKept-same v.yard (record v.yard { depot = held; log = log }) refl refl refl s.kept;
@@ -133,19 +138,17 @@ module _ (t : Tree) (g : Known) (v : Shared) (s : HasStore t g v) (f : Flight) (
             (subst (λ (rows : Rows). f.id < next_slice rows) (rows_are t g v s) flies.ever.below) s.below;
         tree = s.tree
             ∙ sym (tree-grows (typed s.rows) s.whole.slices v.yard.setting.block g.blocks learned.blocks (block_some t g v s) (known_has t g v s) ever_grows);
-        direct = has_now;
+        direct = still (IsThere depot) (IsThere depot') (λ b. there-grows depot depot' b depot_grows) s.direct;
       }
 
       put_kept : KeepsShared f.id g learned v put_shared
       put_kept = record {
         setting = refl;
         keeps = record {
-          learns = record { blocks = ever_grows; only = put_own g.blocks learned.blocks ever_put; sizes = λ id low. refl };
+          learns = record { blocks = ever_grows; only = ever_own; sizes = λ id low. refl };
           numbers = record { next = omega arith; unknown = λ id some apart u. u };
         };
-        depot = subst (λ (blocks : Blocks). KeepsDepot f.id blocks (depot_in put_shared)) (sym (depot_are t g v s))
-            (subst (λ (blocks : Blocks). KeepsDepot f.id depot blocks) depot_then
-            (record { grows = depot_grows; only = put_own depot depot' depot_put }));
+        direct = subst₂ Grows (sym (depot_are t g v s)) depot_then depot_grows;
       }
 
       put_flies : Flies learned put_shared (record f { put = f.put + 1 })

@@ -5,6 +5,7 @@ use Rattle.std.proofs.lemmas.Bool.{cases_eq, eq-eqb, eqb-true}
 use Rattle.std.proofs.lemmas.List.Elements.{All-contains_itself, recursion_from_All}
 use Rattle.jv_model.specs.declared.row.RowKey.{RowKey}
 use Rattle.jv_model.specs.declared.row.SliceRow.{SliceRow}
+use Rattle.jv_model.specs.declared.slice.BlockId.{BlockId}
 use Rattle.jv_model.specs.declared.slice.Rec.{Rec}
 use Rattle.jv_model.specs.FiniteMap.{get}
 use Rattle.jv_model.specs.rows.RowKeys.{RowMap}
@@ -19,22 +20,20 @@ use Rattle.jv_volume.specs.Slices.{IsUnknown, WholeSlices, listed, next_slice}
 use Rattle.jv_volume.specs.Whole.{Quiet, Whole, no_bytes, SlicesStay}
 use Rattle.jv_volume.proofs.TreeOfLaws.{setting-tree_of}
 use Rattle.jv_volume.proofs.QuietLaws.{slice_row-stay}
-use Rattle.jv_contents.specs.Blocks.{AreBelow, Blocks, HasBlocks, known_by}
+use Rattle.jv_contents.specs.Blocks.{AreBelow, EachBlock, EachOfSlice, HasBlocks, IsThere, known_by}
 use Rattle.jv_contents.specs.Bytes.{KnownBytes, bytes_of, tree_with}
 use Rattle.jv_contents.specs.Counts.{KeepsOthers}
-use Rattle.jv_contents.specs.Flights.{Flight, IsComplete}
-use Rattle.jv_contents.proofs.BlockLaws.{below-rows, grows-none, has_blocks-on, named_has_row}
-use Rattle.jv_contents.proofs.FlightLaws.{flies-new}
-use Rattle.jv_contents.proofs.KeepLaws.{below-keeps, bytes-stay, has_blocks-stay, keeps-quiet, stay-counters, unknown-stay}
+use Rattle.jv_contents.specs.Flights.{EachPut, Flight, IsComplete}
+use Rattle.jv_contents.proofs.BlockLaws.{below-rows, each_block-on, each_block-still, grows-none, named_has_row}
+use Rattle.jv_contents.proofs.FlightLaws.{flies-new, put-complete}
+use Rattle.jv_contents.proofs.KeepLaws.{below-keeps, bytes-stay, keeps-quiet, stay-counters, unknown-stay}
 use Rattle.jv_contents.proofs.WholeLaws.{all-mapped}
 use Rattle.jv_yard.specs.Contents.{blocks_in}
-use Rattle.jv_shared.specs.Shared.{AreSized, HasStore, Known, Shared, depot_in, staged_in, typed_in, with_size}
-use Rattle.jv_shared.specs.Seen.{SliceIsThere}
+use Rattle.jv_shared.specs.Shared.{AreSized, AreStored, HasStore, InStore, IsStored, Known, Shared, depot_in, staged_in, typed_in, with_size}
 use Rattle.jv_shared.specs.Flying.{Flies, IsFlying}
 use Rattle.jv_shared.specs.Direct.{HasPut}
 use Rattle.jv_shared.specs.Keeping.{Keeps, KeepsNumbers, KeepsShared, Leads}
-use Rattle.jv_shared.proofs.DirectLaws.{depot-none, has_put-complete, stored-direct}
-use Rattle.jv_shared.proofs.StoreLaws.{depot_are, rows_are}
+use Rattle.jv_shared.proofs.StoreLaws.{depot_are, rows_are, stored_are}
 
 -- ---- sizes
 
@@ -67,9 +66,10 @@ module _ (t : Tree) (g : Known) (v : Shared) (s : HasStore t g v) where
   -- rows that are left, with the volume's setting and all blocks
   store_left : (keeper : Store) (carrier : Carriage) (left : RowMap) (sizes : ℕ → ℕ) → keeper.rows ≡ Some left → Whole (typed left) → AreSized sizes (typed left)
       → (tree_with (known_by v.yard.setting.block g.blocks) (typed left)).setting ≡ t.setting
+      → AreStored v.yard.setting.block (typed left) (blocks_in v.yard.setting s.objects) (staged_in v.yard s.staged)
       → HasBlocks v.yard.setting.block (typed left) (blocks_in v.yard.setting s.objects) → AreBelow (typed left) g.blocks
       → HasStore (tree_with (known_by v.yard.setting.block g.blocks) (typed left)) (record g { sizes = sizes }) (record v { keeper = keeper; carrier = carrier })
-  store_left keeper carrier left sizes is whole sized setting has below = record {
+  store_left keeper carrier left sizes is whole sized setting stored has below = record {
     rows = left;
     rows_are = is;
     whole = whole;
@@ -81,7 +81,7 @@ module _ (t : Tree) (g : Known) (v : Shared) (s : HasStore t g v) where
     objects_are = s.objects_are;
     staged = s.staged;
     staged_are = s.staged_are;
-    there = stored-direct v.yard.setting.block (typed left) (blocks_in v.yard.setting s.objects) (staged_in v.yard s.staged) has;
+    there = stored;
     copies = s.copies;
     staged_copies = s.staged_copies;
     kept = s.kept;
@@ -101,29 +101,40 @@ module _ (t : Tree) (g : Known) (v : Shared) (s : HasStore t g v) where
           learns = record { blocks = grows-none g.blocks; only = λ b bytes apart there. there; sizes = same };
           numbers = numbers;
         }));
-    depot = depot-none own (depot_in v);
+    direct = grows-none (depot_in v);
   }
 
   -- ---- transactions
 
-  -- A transaction on lists leads to the tree of the rows left, where the depot has the blocks of its own slice.
+  -- A transaction on lists leads to the tree of the rows left, where its own slice has its size, and its blocks are stored and in
+  -- the depot.
   pub lists-lead : (keeper : Store) (carrier : Carriage) (left : RowMap) (own more : ℕ) → keeper.rows ≡ Some left → Whole (typed left)
       → KeepsOthers own more (typed s.rows) (typed left)
-      → ((slice : SliceRow) → slice_row_at (typed left) own ≡ Some slice → (slice.size ≡ g.sizes own) × SliceIsThere v.yard.setting.block (depot_in v) own slice.size)
+      → ((slice : SliceRow) → slice_row_at (typed left) own ≡ Some slice → (slice.size ≡ g.sizes own)
+      × EachOfSlice (InStore v) v.yard.setting.block own slice.size × EachOfSlice (IsThere (depot_in v)) v.yard.setting.block own slice.size)
       → (tree_with (known_by v.yard.setting.block g.blocks) (typed left)).setting ≡ t.setting
       → Leads own (tree_with (known_by v.yard.setting.block g.blocks) (typed left)) g g v (record v { keeper = keeper; carrier = carrier })
   lists-lead keeper carrier left own more is whole keeps its setting = record {
     store = store_left keeper carrier left g.sizes is whole
         (sized-keeps g.sizes own more (typed s.rows) (typed left) whole.slices keeps (λ slice there. (its slice there).0) s.sized)
         setting
-        (has_blocks-on v.yard.setting.block own more (typed s.rows) (typed left) (blocks_in v.yard.setting s.objects) keeps
-        (λ slice there. subst (λ (blocks : Blocks). SliceIsThere v.yard.setting.block blocks own slice.size) (depot_are t g v s) (its slice there).1)
-        s.direct)
+        (on (InStore v) (IsStored (blocks_in v.yard.setting s.objects) (staged_in v.yard s.staged)) (stored_are t g v s)
+        (λ slice there. (its slice there).1) s.there)
+        (on (IsThere (depot_in v)) (IsThere (blocks_in v.yard.setting s.objects)) (ap IsThere (depot_are t g v s))
+        (λ slice there. (its slice there).2) s.direct)
         (below-keeps own more (typed s.rows) (typed left) g.blocks keeps s.below);
     kept = keeps_left keeper carrier left g.sizes own is
         (record { next = (let same = keeps.next in omega (arith, same)); unknown = keeps.unknown })
         (λ id low. refl);
   }
+    where
+      -- what holds of the blocks of its own slice holds of all, as before
+      on : (P Q : BlockId → Type 0) → P ≡ Q
+          → ((slice : SliceRow) → slice_row_at (typed left) own ≡ Some slice → EachOfSlice P v.yard.setting.block own slice.size)
+          → EachBlock Q v.yard.setting.block (typed s.rows) → EachBlock Q v.yard.setting.block (typed left)
+      on P Q same those =
+          each_block-on Q Q v.yard.setting.block (typed s.rows) (typed left) (λ b row held. held) own more keeps
+          (λ slice there. subst (λ (P : BlockId → Type 0). EachOfSlice P v.yard.setting.block own slice.size) same (those slice there))
 
   -- one that makes no slice
   pub others-lead : (keeper : Store) (carrier : Carriage) (left : RowMap) (more : ℕ) → keeper.rows ≡ Some left → Whole (typed left)
@@ -147,21 +158,25 @@ module _ (t : Tree) (g : Known) (v : Shared) (s : HasStore t g v) where
         (λ id low. refl);
   }
 
-  -- the commit of a flight whose blocks were all put
+  -- the commit of a flight whose blocks were all put, and are stored and in the depot
   pub commit-leads : (keeper : Store) (carrier : Carriage) (left : RowMap) (f : Flight) (more : ℕ) → Flies g v f
-      → HasPut v.yard.setting.block (depot_in v) f → IsComplete v.yard.setting.block f
+      → EachPut (InStore v) v.yard.setting.block f → HasPut v.yard.setting.block (depot_in v) f → IsComplete v.yard.setting.block f
       → keeper.rows ≡ Some left → Whole (typed left) → KeepsOthers f.id more (typed s.rows) (typed left)
       → ((slice : SliceRow) → slice_row_at (typed left) f.id ≡ Some slice → slice.size ≡ length f.bytes)
       → (tree_with (known_by v.yard.setting.block g.blocks) (typed left)).setting ≡ t.setting
       → Leads f.id (tree_with (known_by v.yard.setting.block g.blocks) (typed left)) g g v (record v { keeper = keeper; carrier = carrier })
-  commit-leads keeper carrier left f more flies has complete is whole keeps long setting =
+  commit-leads keeper carrier left f more flies stored has complete is whole keeps long setting =
       lists-lead keeper carrier left f.id more is whole keeps
       (λ slice there. (
         long slice there ∙ sym flies.size,
-        subst (λ n. SliceIsThere v.yard.setting.block (depot_in v) f.id n) (sym (long slice there))
-            (has_put-complete v.yard.setting.block (depot_in v) f complete has),
+        all (InStore v) stored slice.size (long slice there),
+        all (IsThere (depot_in v)) has slice.size (long slice there),
       ))
       setting
+    where
+      all : (P : BlockId → Type 0) → EachPut P v.yard.setting.block f → (size : ℕ) → size ≡ length f.bytes → EachOfSlice P v.yard.setting.block f.id size
+      all P each size long =
+          subst (λ n. EachOfSlice P v.yard.setting.block f.id n) (sym long) (put-complete P v.yard.setting.block f each complete)
 
   -- ---- numbers
 
@@ -187,6 +202,11 @@ module _ (t : Tree) (g : Known) (v : Shared) (s : HasStore t g v) where
         by_test true e = absurd (apart (sym (eqb-true id other e)))
         by_test false e = refl
 
+    -- what holds of all blocks of slices with rows
+    still : (P : BlockId → Type 0) → EachBlock P v.yard.setting.block (typed s.rows) → EachBlock P v.yard.setting.block (typed left)
+    still P =
+        each_block-still P P v.yard.setting.block (typed s.rows) (typed left) (λ b row held. held) (slice_row-stay (typed s.rows) (typed left) numbered_stay)
+
     -- slices that were in flight have other numbers
     pub number-apart : (f : Flight) → Flies g v f → f.id ≢ id
     number-apart f flies own =
@@ -202,7 +222,8 @@ module _ (t : Tree) (g : Known) (v : Shared) (s : HasStore t g v) where
           s.sized.slices other slice (sym (slice_row-stay (typed s.rows) (typed left) numbered_stay other) ∙ there)
           ∙ sym (numbered_size size other (λ new. (let none = unknown.no_row in let row = ap (slice_row_at (typed left)) (sym new) ∙ there in absurd (cc))))))
           (ap (λ (x : Tree). x.setting) numbered_tree)
-          (has_blocks-stay (typed s.rows) (typed left) numbered_stay v.yard.setting.block (blocks_in v.yard.setting s.objects) s.direct)
+          (still (IsStored (blocks_in v.yard.setting s.objects) (staged_in v.yard s.staged)) s.there)
+          (still (IsThere (blocks_in v.yard.setting s.objects)) s.direct)
           (below-rows (typed s.rows) (typed left) g.blocks (omega (arith, given, next)) s.below));
       kept = keeps_left keeper carrier left (with_size id size g).sizes own is
           (record {

@@ -8,6 +8,7 @@ use Rattle.jv_outside.specs.Store.{Store}
 use Rattle.jv_volume.specs.TypedRows.{Rows, typed}
 use Rattle.jv_contents.specs.Blocks.{Blocks, Grows, HasBlocks, known_by}
 use Rattle.jv_contents.specs.Bytes.{tree_with}
+use Rattle.jv_contents.proofs.BlockLaws.{grows-none}
 use Rattle.jv_yard.specs.declared.faults.YardFault.{YardFault}
 use Rattle.jv_yard.specs.declared.faults.YardFault.TheVariants.{Depot, Shelf, Memory}
 use Rattle.jv_yard.specs.Contents.{blocks_in}
@@ -15,10 +16,8 @@ use Rattle.jv_yard.specs.BlockCalls.{GetsBlock}
 use Rattle.jv_yard.specs.Refusals.{Refuses}
 use Rattle.jv_yard.specs.YardValue.{YardValue}
 use Rattle.jv_yard.proofs.CallLaws.{IsKept-same}
-use Rattle.jv_shared.specs.Shared.{HasStore, Known, Shared, depot_blocks, depot_in, rows_in, staged_in, typed_in}
-use Rattle.jv_shared.specs.Direct.{KeepsDepot}
+use Rattle.jv_shared.specs.Shared.{AreStored, HasStore, Known, Shared, depot_blocks, depot_in, rows_in, staged_in, typed_in}
 use Rattle.jv_shared.specs.Keeping.{HoldsSame, Keeps, KeepsShared, Leads}
-use Rattle.jv_shared.proofs.DirectLaws.{depot-none, stored-direct}
 use Rattle.jv_shared.proofs.KeepingLaws.{keeps-none}
 
 -- ---- which calls those are
@@ -75,7 +74,7 @@ pub same-stays : (own : ℕ) (g : Known) (v v' : Shared) → HoldsSame v v' → 
 same-stays own g v v' same = record {
   setting = same.setting;
   keeps = subst (λ (rows : Rows). Keeps own (rows_in v) rows g g) (ap typed_in (sym same.rows)) (keeps-none own (rows_in v) g);
-  depot = subst (λ (blocks : Blocks). KeepsDepot own (depot_in v) blocks) depot_same (depot-none own (depot_in v));
+  direct = subst (λ (blocks : Blocks). Grows (depot_in v) blocks) depot_same (grows-none (depot_in v));
 }
   where
     depot_same : depot_in v ≡ depot_in v'
@@ -93,20 +92,18 @@ same-store t g v v' same s = record {
   objects_are = same.objects ∙ s.objects_are;
   staged = s.staged;
   staged_are = same.blocks ∙ s.staged_are;
-  there = stored-direct v'.yard.setting.block (typed s.rows) (blocks_in v'.yard.setting s.objects) (staged_in v'.yard s.staged) has_same;
+  there = subst (λ (y : YardValue). AreStored y.setting.block (typed s.rows) (blocks_in y.setting s.objects) (staged_in y s.staged)) yard_same s.there;
   copies = subst (λ (x : Setting). Grows (blocks_in x s.objects) g.blocks) (sym same.setting) s.copies;
-  staged_copies = λ client. subst (λ (blocks : Blocks). Grows blocks g.blocks) (staged_same client) (s.staged_copies client);
+  staged_copies = λ client. subst (λ (y : YardValue). Grows (staged_in y s.staged client) g.blocks) yard_same (s.staged_copies client);
   kept = IsKept-same v.yard v'.yard same.setting same.blocks same.staged s.kept;
   below = s.below;
   tree = s.tree ∙ ap (λ (x : Setting). tree_with (known_by x.block g.blocks) (typed s.rows)) (sym same.setting);
-  direct = has_same;
+  direct = subst (λ (x : Setting). HasBlocks x.block (typed s.rows) (blocks_in x s.objects)) (sym same.setting) s.direct;
 }
   where
-    has_same : HasBlocks v'.yard.setting.block (typed s.rows) (blocks_in v'.yard.setting s.objects)
-    has_same = subst (λ (x : Setting). HasBlocks x.block (typed s.rows) (blocks_in x s.objects)) (sym same.setting) s.direct
-
-    staged_same : (client : ℕ) → staged_in v.yard s.staged client ≡ staged_in v'.yard s.staged client
-    staged_same client = λ i. staged_in (record v.yard { setting = sym same.setting i; staged = sym same.staged i }) s.staged client
+    -- setting and what is staged are the same, on which the blocks of the yard depend
+    yard_same : v.yard ≡ record v.yard { setting = v'.yard.setting; staged = v'.yard.staged }
+    yard_same = λ i. record v.yard { setting = sym same.setting i; staged = sym same.staged i }
 
 pub same-leads : (own : ℕ) (t : Tree) (g : Known) (v v' : Shared) → HoldsSame v v' → HasStore t g v → Leads own t g g v v'
 same-leads own t g v v' same s = record { store = same-store t g v v' same s; kept = same-stays own g v v' same }

@@ -22,13 +22,13 @@ use Rattle.jv_volume.specs.Views.{row_in, records_in, lists_of, node_row_at}
 use Rattle.jv_volume.specs.TreeOf.{node_of}
 use Rattle.jv_volume.specs.Slices.{listed, next_slice, WholeSlices}
 use Rattle.jv_volume.proofs.TreeOfLaws.{node_at-tree_of}
-use Rattle.jv_contents.specs.Blocks.{Blocks, HasBlocks, IsThere, known_by}
+use Rattle.jv_contents.specs.Blocks.{EachBlock, EachOfSlice, HasBlocks, IsThere, known_by}
 use Rattle.jv_contents.specs.Bytes.{KnownBytes, spot_byte, bytes_of, tree_with}
 use Rattle.jv_contents.proofs.BlockLaws.{named_has_row}
 use Rattle.jv_contents.proofs.PlaceLaws.{place_in-window}
 use Rattle.jv_contents.proofs.WholeLaws.{all-mapped}
 use Rattle.jv_shared.specs.Shared.{AreSized, Known}
-use Rattle.jv_shared.specs.Seen.{IsFound, ShowsWindow, SliceIsThere}
+use Rattle.jv_shared.specs.Seen.{IsFound, ShowsWindow}
 
 -- ---- a look
 
@@ -70,13 +70,12 @@ module _ (rows : Rows) where
           all-mapped (Contains list) P (each (list_key inode window)) list (recursion_from_All (Contains list) list (All-contains_itself list))
       by_test false = tt
 
-  -- where slices with rows have their blocks, those that a list's records name have
-  pub listed_there : (block : ℕ) (blocks : Blocks) → WholeSlices rows → HasBlocks block rows blocks
-      → (key : RowKey) (r : Rec) → Contains (listed key (get rows key)) r → r.id ≢ 0 → SliceIsThere block blocks r.id r.size
-  listed_there block blocks w has key r among named index low =
+  -- what holds of all blocks of slices with rows holds of those that a list's records name
+  pub listed_each : (P : BlockId → Type 0) (block : ℕ) → WholeSlices rows → EachBlock P block rows
+      → (key : RowKey) (r : Rec) → Contains (listed key (get rows key)) r → r.id ≢ 0 → EachOfSlice P block r.id r.size
+  listed_each P block w each key r among named =
       let row = named_has_row rows w key r among named in
-      subst (λ n. IsThere blocks (block_at r.id n block index)) row.size_is
-      (has r.id row.slice row.is index (subst (λ n. index < block_count n block) (sym row.size_is) low))
+      subst (λ n. EachOfSlice P block r.id n) row.size_is (each r.id row.slice row.is)
 
 module _ (block : ℕ) (rows : Rows) (g : Known) (w : WholeSlices rows) (sized : AreSized g.sizes rows) (has : HasBlocks block rows g.blocks) where
   -- what the records of a list name is found
@@ -88,7 +87,7 @@ module _ (block : ℕ) (rows : Rows) (g : Known) (w : WholeSlices rows) (sized :
       | inr high ↦ (let none = (w.below r.id high).no_row in let is = row.is in absurd (cc))
     ]);
     sized = All-contains HasSize list r (All-from_recursion HasSize list (sized.records key)) among;
-    there = listed_there rows block g.blocks w has key r among;
+    there = listed_each rows (IsThere g.blocks) block w has key r among;
   }
     where
       list : List Rec

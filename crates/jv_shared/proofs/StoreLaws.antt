@@ -13,13 +13,13 @@ use Rattle.jv_outside.specs.Blocks.{staged_at}
 use Rattle.jv_outside.specs.Objects.{ObjectMap, bytes_at}
 use Rattle.jv_volume.specs.TypedRows.{Rows, typed}
 use Rattle.jv_volume.specs.Views.{lists_of}
-use Rattle.jv_contents.specs.Blocks.{Blocks, HasBlocks, IsThere}
-use Rattle.jv_contents.proofs.BlockLaws.{there-grows}
+use Rattle.jv_contents.specs.Blocks.{Blocks, Grows, HasBlocks, IsThere}
+use Rattle.jv_contents.proofs.BlockLaws.{each_block-still, there-grows}
 use Rattle.jv_yard.specs.BlockCalls.{IsBlockBy, IsBlockOf}
 use Rattle.jv_yard.specs.Contents.{blocks_in, is_block}
 use Rattle.jv_yard.specs.Staging.{staged_since}
 use Rattle.jv_yard.proofs.ContentsLaws.{is_block-says, read-depot}
-use Rattle.jv_shared.specs.Shared.{HasStore, InDepot, IsStored, Known, OnShelf, Shared, depot_blocks, depot_in, rows_in, staged_in, typed_in}
+use Rattle.jv_shared.specs.Shared.{HasStore, InDepot, InStore, IsStored, Known, OnShelf, Shared, depot_blocks, depot_in, rows_in, staged_blocks, staged_in, typed_in}
 use Rattle.jv_shared.specs.Lengths.{IsLength}
 use Rattle.jv_shared.specs.Seen.{IsView, ShowsWindow}
 use Rattle.jv_shared.specs.Direct.{HasNamed}
@@ -40,6 +40,13 @@ present_block setting objects b bytes is = by_test (is_block setting.block b) re
     by_test true e h = e
     by_test false e h = absurd (cc)
 
+-- what is stored stays so where the depot and each client's blocks on the shelf grow
+pub stored-grows : (depot depot' : Blocks) (staged staged' : ℕ → Blocks) → Grows depot depot' → ((client : ℕ) → Grows (staged client) (staged' client))
+    → (b : BlockId) → IsStored depot staged b → IsStored depot' staged' b
+stored-grows depot depot' staged staged' grows more b (InDepot there) = InDepot (there-grows depot depot' b grows there)
+stored-grows depot depot' staged staged' grows more b (OnShelf client there) =
+    OnShelf client (there-grows (staged client) (staged' client) b (more client) there)
+
 module _ (t : Tree) (g : Known) (v : Shared) (s : HasStore t g v) where
   -- ---- rows, blocks and bytes
 
@@ -48,6 +55,9 @@ module _ (t : Tree) (g : Known) (v : Shared) (s : HasStore t g v) where
 
   pub depot_are : depot_in v ≡ blocks_in v.yard.setting s.objects
   depot_are = ap (depot_blocks v.yard.setting) s.objects_are
+
+  pub stored_are : InStore v ≡ IsStored (blocks_in v.yard.setting s.objects) (staged_in v.yard s.staged)
+  stored_are i = IsStored (depot_are i) (staged_blocks v.yard (s.staged_are i))
 
   -- rows that are known are these
   pub rows_known : (rows : RowMap) → v.keeper.rows ≡ Some rows → rows_in v ≡ typed rows
@@ -66,7 +76,9 @@ module _ (t : Tree) (g : Known) (v : Shared) (s : HasStore t g v) where
 
   -- so all blocks of slices with rows are
   pub known_has : HasBlocks v.yard.setting.block (typed s.rows) g.blocks
-  known_has id slice is index low = stored_known (block_at id slice.size v.yard.setting.block index) (s.there id slice is index low)
+  known_has =
+      each_block-still (IsStored (blocks_in v.yard.setting s.objects) (staged_in v.yard s.staged)) (IsThere g.blocks) v.yard.setting.block
+      (typed s.rows) (typed s.rows) (λ b row. stored_known b) (λ id. refl) s.there
 
   -- ---- looks and reads
 

@@ -7,7 +7,6 @@ use Rattle.jv_volume.specs.TypedRows.{Rows}
 use Rattle.jv_volume.specs.Slices.{IsUnknown, next_slice}
 use Rattle.jv_contents.specs.Blocks.{Grows}
 use Rattle.jv_shared.specs.Shared.{HasStore, Known, Shared, depot_in, rows_in}
-use Rattle.jv_shared.specs.Direct.{KeepsDepot}
 
 -- More is known later: no block changes, new ones are of the step's own slice, and only a slice
 -- that had no number gets a size.
@@ -28,12 +27,12 @@ pub record Keeps (own : ℕ) (rows rows' : Rows) (g g' : Known) : Type 0 where
   pub learns : Learns own (next_slice rows) g g'
   pub numbers : KeepsNumbers own rows rows'
 
--- A step on what clients share that leaves all this alone. The volume's setting is the same, and
--- the depot keeps its blocks.
+-- A step on what clients share that leaves all this alone. The volume's setting is the same. By
+-- `direct` the depot keeps its blocks, as it does while none is removed.
 pub record KeepsShared (own : ℕ) (g g' : Known) (v v' : Shared) : Type 0 where
   pub setting : v'.yard.setting ≡ v.yard.setting
   pub keeps : Keeps own (rows_in v) (rows_in v') g g'
-  pub depot : KeepsDepot own (depot_in v) (depot_in v')
+  pub direct : Grows (depot_in v) (depot_in v')
 
 -- A step after which the tree is another one's, or still the same.
 pub record Leads (own : ℕ) (t' : Tree) (g g' : Known) (v v' : Shared) : Type 0 where

@@ -3,18 +3,17 @@ use Rattle.std.specs.Prelude.{◌≡◌, ◌≢◌, ℕ, ◌+◌, ◌*◌, ◌<�
 use Rattle.std.specs.List.{AllByRecursion}
 use Rattle.jv_model.specs.declared.limits.TheConstants.{WINDOW}
 use Rattle.jv_model.specs.declared.slice.Rec.{Rec}
-use Rattle.jv_model.specs.blocks.Slices.{IsRecord, block_at, block_count, stored_place}
+use Rattle.jv_model.specs.blocks.Slices.{IsRecord, stored_place}
 use Rattle.jv_model.specs.tree.Tree.{Content}
 use Rattle.jv_volume.specs.TypedRows.{Rows}
 use Rattle.jv_volume.specs.Slices.{next_slice}
-use Rattle.jv_contents.specs.Blocks.{Blocks, IsThere, known_by}
+use Rattle.jv_contents.specs.Blocks.{Blocks, EachOfSlice, IsThere, known_by}
 use Rattle.jv_contents.specs.Bytes.{spot_byte}
 use Rattle.jv_shared.specs.Shared.{Known, Shared, rows_in}
 
 -- each block of a slice of this size is there
 abbrev pub SliceIsThere : ℕ → Blocks → ℕ → ℕ → Type 0
-SliceIsThere block blocks id size =
-    (index : ℕ) → index < block_count size block → IsThere blocks (block_at id size block index)
+SliceIsThere block blocks id size = EachOfSlice (IsThere blocks) block id size
 
 -- what a record names has a number, with the size and the blocks that are known of it
 pub record IsFound (block : ℕ) (rows : Rows) (g : Known) (r : Rec) : Type 0 where

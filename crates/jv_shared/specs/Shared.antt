@@ -1,10 +1,10 @@
 -- What all clients share, and when it is a tree's.
-use Rattle.std.specs.Prelude.{◌≡◌, ◌≢◌, ℕ, ◌<◌, ◌&&◌, ◌==◌, if◌then◌else◌, List, is_some, Option, None, Some}
+use Rattle.std.specs.Prelude.{◌≡◌, ◌≢◌, ℕ, ◌&&◌, ◌==◌, if◌then◌else◌, List, is_some, Option, None, Some}
 use Rattle.jv_model.specs.declared.row.SliceRow.{SliceRow}
 use Rattle.jv_model.specs.declared.setting.Setting.{Setting}
 use Rattle.jv_model.specs.declared.slice.BlockId.{BlockId}
 use Rattle.jv_model.specs.FiniteMap.{empty_map}
-use Rattle.jv_model.specs.blocks.Slices.{block_at, block_count, is_same_block}
+use Rattle.jv_model.specs.blocks.Slices.{is_same_block}
 use Rattle.jv_model.specs.rows.RowKeys.{RowMap}
 use Rattle.jv_model.specs.tree.Tree.{Tree}
 use Rattle.jv_model.specs.blocks.BlockNames.{name_in}
@@ -16,7 +16,7 @@ use Rattle.jv_volume.specs.TypedRows.{Rows, typed}
 use Rattle.jv_volume.specs.Views.{setting_at, slice_row_at}
 use Rattle.jv_volume.specs.Slices.{ListsHave}
 use Rattle.jv_volume.specs.Whole.{Whole}
-use Rattle.jv_contents.specs.Blocks.{AreBelow, Blocks, Grows, HasBlocks, IsThere, known_by}
+use Rattle.jv_contents.specs.Blocks.{AreBelow, Blocks, EachBlock, Grows, HasBlocks, IsThere, known_by}
 use Rattle.jv_contents.specs.Bytes.{tree_with}
 use Rattle.jv_yard.specs.Contents.{blocks_in, is_block}
 use Rattle.jv_yard.specs.Staging.{staged_since}
@@ -79,9 +79,16 @@ pub data IsStored (depot : Blocks) (staged : ℕ → Blocks) (b : BlockId) : Typ
 
 -- each block of each slice that has a row is stored
 abbrev pub AreStored : ℕ → Rows → Blocks → (ℕ → Blocks) → Type 0
-AreStored block rows depot staged = (id : ℕ) (slice : SliceRow) → slice_row_at rows id ≡ Some slice
-    → (index : ℕ) → index < block_count slice.size block
-    → IsStored depot staged (block_at id slice.size block index)
+AreStored block rows depot staged = EachBlock (IsStored depot staged) block rows
+
+-- the blocks that a client has staged, none where the shelf's aren't known
+abbrev pub staged_blocks : YardValue → Option StagedMap → ℕ → Blocks
+staged_blocks yard None = λ client b. None
+staged_blocks yard (Some staged) = staged_in yard staged
+
+-- a block is stored in what clients share
+abbrev pub InStore : Shared → BlockId → Type 0
+InStore v = IsStored (depot_in v) (staged_blocks v.yard v.yard.shelf.content)
 
 -- The tree is that of the keeper's rows, which are known and whole, with the bytes that their
 -- slices' blocks have. Each of these blocks is stored; all copies of a block have its bytes, and
