@@ -201,7 +201,7 @@ module _ (now entry : ℕ) (h : ClientValue) (d : Doing) (before used : Shared) 
       (makes-ended now entry h (ended h) before used failed (RefusedReply fault) refl ready (ended-rests h)
       (subst (λ (x : Made). UsesDevices x before used) fails.made_is devices)
       (subst (λ (x : Made). YardUse now h x before.yard used.yard) fails.made_is yard)
-      (cache-stays h d busy (ended h) failed before.yard used.yard (NoBlock refl (λ goes. refl))
+      (cache-stays h d busy (ended h) failed before.yard used.yard (NoBlock refl (λ goes. absurd (cc goes)))
       (failure-stays fault fail) refl tt) tt
       (λ s g count store holds is. fails-leads busy fail same s g store holds is))
 

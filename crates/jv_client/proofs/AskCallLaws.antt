@@ -5,9 +5,11 @@ use Rattle.std.specs.Prelude.{IfSome, IsSome, IsSomeAnd, IsTrue, OnErr, OnOk, is
 use Rattle.std.specs.Option.{option_map}
 use Rattle.jv_model.specs.declared.limits.TheConstants.{LAST_CLIENT}
 use Rattle.jv_model.specs.declared.act.ActKind.TheVariants.{Look, Quiet}
+use Rattle.jv_model.specs.declared.act.Told.TheVariants.{Refused as ToldRefused}
 use Rattle.jv_model.specs.declared.fault.Fault.{Fault}
 use Rattle.jv_model.specs.declared.fault.Fault.TheVariants.{NoMemory}
 use Rattle.jv_model.specs.declared.fault.TxFault.{TxFault}
+use Rattle.jv_model.specs.declared.op.Reply.TheVariants.{Refused}
 use Rattle.jv_model.specs.declared.slice.BlockId.{BlockId}
 use Rattle.jv_model.specs.client.ModelClient.{file_of, with_file}
 use Rattle.jv_model.specs.client.Profile.{handle_of}
@@ -32,14 +34,13 @@ use Rattle.jv_client.specs.declared.doing.Doing.{Doing}
 use Rattle.jv_client.specs.declared.doing.Progress.{Progress}
 use Rattle.jv_client.specs.declared.doing.Progress.TheVariants.{Reading, Working}
 use Rattle.jv_client.specs.declared.made.Made.{Made}
+use Rattle.jv_client.specs.declared.made.Made.TheVariants as made
 use Rattle.jv_client.specs.declared.reading.Ahead.{Ahead}
 use Rattle.jv_client.specs.ClientValue.{ClientValue, session_here}
 use Rattle.jv_client.specs.Ending.{ended}
 use Rattle.jv_client.specs.Getting.{Fills, HasFilled, IsMissed, IsMissedBy, IsUnread, ReadsBlock}
 use Rattle.jv_client.specs.Makes.{Makes}
 use Rattle.jv_client.specs.Reading.{ClientComesTo, GoesOnAfter, IsAhead, OnlyLooksUp, fetch_at, fetch_in, need_at}
-use Rattle.jv_client.specs.Reading.{next_of}
-use Rattle.jv_client.proofs.LooksLaws.{needs-found}
 use Rattle.jv_client.specs.Reading.{need_in}
 use Rattle.jv_client.specs.Reading.{put_at}
 use Rattle.jv_client.specs.Transacting.{EndsUnmade, Fails}
@@ -48,7 +49,7 @@ use Rattle.jv_client.proofs.AnswerLaws.{makes-as}
 use Rattle.jv_client.proofs.ReaderLaws.{Asking, asking, cached-known, is_asking}
 use Rattle.jv_client.proofs.GoneOnLaws.{over}
 use Rattle.jv_client.proofs.LookLaws.{seen_handles, seen_opened, view_of}
-use Rattle.jv_client.proofs.UnlookedLaws.{look-out, look-unmade}
+use Rattle.jv_client.proofs.UnlookedLaws.{look-out, look-unmade, looked-before}
 use Rattle.jv_client.proofs.GotLaws.{get-missed, get-unread}
 use Rattle.jv_client.proofs.ReadCallLaws.{get-came, get-lost, look-came, look-lost, taken_out}
 
@@ -130,7 +131,9 @@ module _ (now entry : ℕ) (h c : ClientValue) (window : ℕ) (before : Shared)
         (fails.after_is ∙ ap ended (same ∙ asked.is)) refl fails.made_is
         (look-out now entry block h asked.d asked.offset asked.len asked.cache asked.fetch window asked.asks before refl
         keeper asked.cache
-        (needs-found block h asked.d asked.fetch asked.cache window asked.asks.needs)
+        (looked-before now entry block h asked.d asked.offset asked.len asked.cache asked.fetch window asked.asks before
+        refl keeper (made.Answer (ToldRefused NoMemory) (Refused NoMemory)) (over h.handles asked.cache h) refl
+        (λ goes. absurd (cc goes)))
         (cached-known asked.asks before refl)
         looks.looks.rows_are looks.looks.opened_at looks.looks.counts)
 
@@ -149,26 +152,30 @@ module _ (now entry : ℕ) (h c : ClientValue) (window : ℕ) (before : Shared)
 
         -- the reading goes ahead
         pub looks-came : (fetch : Fetching) (ahead : Ahead) (after : ClientValue) (done : Made)
-            → fetch_in c.doing ≡ Some fetch → OnlyLooksUp (next_of ahead) mid then → ClientComesTo fetch mid ahead
+            → fetch_in c.doing ≡ Some fetch → OnlyLooksUp fetch (Some ahead) mid then → ClientComesTo fetch mid ahead
             → GoesOnAfter (Look inode window) ahead then after done → Makes now entry h after before used done
         looks-came fetch ahead after done taken only comes goes =
+            let of_fetch = took-fetch block h c (NeedsLook window) a ready_before ready flushed need fetch taken in
             look-came now entry block h asked.d asked.offset asked.len asked.cache asked.fetch window asked.asks before refl
             keeper looked (here (Ok looked) looks) ahead then after done
-            (subst (λ (x : ClientValue). OnlyLooksUp (next_of ahead) x then) same_mid only)
+            (subst (λ (x : ClientValue). OnlyLooksUp asked.fetch (Some ahead) x then) same_mid
+            (subst (λ (f : Fetching). OnlyLooksUp f (Some ahead) mid then) of_fetch only))
             (subst (λ (x : ClientValue). ClientComesTo asked.fetch x ahead) same_mid
-            (subst (λ (f : Fetching). ClientComesTo f mid ahead)
-            (took-fetch block h c (NeedsLook window) a ready_before ready flushed need fetch taken) comes))
+            (subst (λ (f : Fetching). ClientComesTo f mid ahead) of_fetch comes))
             (subst (λ n. GoesOnAfter (Look n window) ahead then after done) of_inode goes)
 
         -- or memory ran out
-        pub looks-lost : (back after : ClientValue) (done : Made) → OnlyLooksUp None mid then
+        pub looks-lost : (fetch : Fetching) (back after : ClientValue) (done : Made) → fetch_in c.doing ≡ Some fetch
+            → OnlyLooksUp fetch None mid then
             → back
             ≡ record then { handles = with_file handle (unseen_by window (file_of then.handles handle)) then.handles }
             → Fails NoMemory back after done → Makes now entry h after before used done
-        looks-lost back after done only dropped fails =
+        looks-lost fetch back after done taken only dropped fails =
             look-lost now entry block h asked.d asked.offset asked.len asked.cache asked.fetch window asked.asks before refl
             keeper looked (here (Ok looked) looks) then after done
-            (subst (λ (x : ClientValue). OnlyLooksUp None x then) same_mid only)
+            (subst (λ (x : ClientValue). OnlyLooksUp asked.fetch None x then) same_mid
+            (subst (λ (f : Fetching). OnlyLooksUp f None mid then)
+            (took-fetch block h c (NeedsLook window) a ready_before ready flushed need fetch taken) only))
             (fails.after_is ∙ ap ended (dropped
             ∙ ap (λ n. record then { handles = with_file n (unseen_by window (file_of then.handles n)) then.handles })
             of_handle))
@@ -258,22 +265,22 @@ module _ (now entry : ℕ) (h c : ClientValue) (b : BlockId) (before : Shared)
 
     -- the reading goes ahead
     pub gets-came : (ahead : Ahead) (after : ClientValue) (done : Made)
-        → OnlyLooksUp (next_of ahead) (record v { cache = cache; doing = doing }) then → ClientComesTo filled mid ahead
+        → OnlyLooksUp filled (Some ahead) (record v { cache = cache; doing = doing }) then → ClientComesTo filled mid ahead
         → GoesOnAfter Quiet ahead then after done → Makes now entry h after before yard_used done
     gets-came ahead after done only comes goes =
         get-came now entry length_of h wanted.d wanted.offset wanted.len wanted.cache wanted.fetch b wanted.asks before
         refl id_low yard bytes in_name filled fills.kept in_place ahead then after done
-        (subst (λ (x : ClientValue). OnlyLooksUp (next_of ahead) x then) now_mid only)
+        (subst (λ (x : ClientValue). OnlyLooksUp filled (Some ahead) x then) now_mid only)
         (subst (λ (x : ClientValue). ClientComesTo filled x ahead) now_mid comes) goes
 
     -- or memory ran out
     pub gets-lost : (after : ClientValue) (done : Made)
-        → OnlyLooksUp None (record v { cache = cache; doing = doing }) then → Fails NoMemory then after done
+        → OnlyLooksUp filled None (record v { cache = cache; doing = doing }) then → Fails NoMemory then after done
         → Makes now entry h after before yard_used done
     gets-lost after done only fails =
         get-lost now entry length_of h wanted.d wanted.offset wanted.len wanted.cache wanted.fetch b wanted.asks before
         refl id_low yard bytes in_name filled fills.kept in_place then after done
-        (subst (λ (x : ClientValue). OnlyLooksUp None x then) now_mid only) fails.after_is fails.made_is
+        (subst (λ (x : ClientValue). OnlyLooksUp filled None x then) now_mid only) fails.after_is fails.made_is
 
 -- ---- the client in between
 
@@ -371,10 +378,10 @@ pub open_after : (c v : ClientValue) (next : Need) → IsReady c → need_in c.d
     → (doing : Option Doing) → doing ≡ option_map (put_at (Working 0 0 0)) v.doing → (handle window : ℕ) (view : View)
     → IfSome c.doing (λ d. handle ≡ handle_of d.op) → (old new stored : List (Option Handle)) → old ≡ v.handles
     → stored ≡ new → new ≡ with_file handle (seen_by window view (file_of old handle)) old
-    → (next_then : Option Need) (then : ClientValue)
-    → OnlyLooksUp next_then (record v { handles = stored; doing = doing }) then
+    → (fetch : Fetching) (to : Option Ahead) (then : ClientValue)
+    → OnlyLooksUp fetch to (record v { handles = stored; doing = doing }) then
     → (now : List (Option Handle)) → now ≡ then.handles → IsSome (file_of now handle)
-open_after c v next ready need same doing taken handle window view names old new stored same_old same_new set next_then then
+open_after c v next ready need same doing taken handle window view names old new stored same_old same_new set fetch to then
     only now is = by_doing c.doing refl names
   where
     handles : now ≡ seen_handles handle window view c.handles

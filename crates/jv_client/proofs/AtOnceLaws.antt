@@ -1,7 +1,7 @@
 -- An operation is answered that has nothing to ask for: a close, a flush, a read of no bytes, a look at the cache's numbers, and a
 -- write that there is room for.
 use Rattle.std.proofs.Common.{◌≡◌, ℕ, ◌+◌, Bool, true, false, not, [], ◌∷◌, length, Option, None, Some, refl, sym, ap, subst, ◌∙◌, arith}
-use Rattle.std.specs.Prelude.{◌==◌, IfSome, if◌then◌else◌, filter, is_some}
+use Rattle.std.specs.Prelude.{◌==◌, IfSome, if◌then◌else◌, filter, is_some, unwrap_or}
 use Rattle.std.proofs.lemmas.Bool.{not-true}
 use Rattle.jv_model.specs.declared.act.ActKind.TheVariants.{Answered as IsAnswered}
 use Rattle.jv_model.specs.declared.act.Told.{Told}
@@ -18,8 +18,8 @@ use Rattle.jv_model.specs.client.Profile.{handle_of}
 use Rattle.jv_model.specs.client.Submission.{is_flushed}
 use Rattle.jv_model.specs.client.ModelClient.{ModelClient, Working as AtWork, inode_at, with_file}
 use Rattle.jv_model.specs.journal.State.{State, after_told}
-use Rattle.jv_model.specs.journal.Steps.{Start}
-use Rattle.jv_model.specs.client.OpForms.{is_umount}
+use Rattle.jv_model.specs.journal.Steps.{Start, asked_of}
+use Rattle.jv_model.specs.client.OpForms.{is_read, is_umount}
 use Rattle.jv_steps.specs.IsStep.{IsStep}
 use Rattle.jv_steps.proofs.AnswerStepLaws.{closed-at_once, flushed-at_once, read-at_once, stats-answered}
 use Rattle.jv_shared.specs.Shared.{HasStore, Known, Shared}
@@ -27,11 +27,16 @@ use Rattle.jv_shared.proofs.KeepingLaws.{stays-none}
 use Rattle.jv_shared.proofs.SameLaws.{same-none}
 use Rattle.jv_requests.specs.Request.{Request}
 use Rattle.jv_requests.proofs.StillLaws.{still-request}
+use Rattle.jv_fetching.specs.Ahead.{blocks_ahead}
+use Rattle.jv_fetching.specs.Fetching.{Fetching, begins}
 use Rattle.jv_client.specs.declared.doing.Doing.{Doing}
+use Rattle.jv_client.specs.declared.doing.Progress.{Progress}
+use Rattle.jv_client.specs.declared.doing.Progress.TheVariants.{Working, Reading}
 use Rattle.jv_client.specs.declared.made.Made.TheVariants as made
 use Rattle.jv_client.specs.ClientValue.{ClientValue}
 use Rattle.jv_client.specs.Ending.{ended, told_here}
 use Rattle.jv_client.specs.Held.{Holds, IsClient, in_flight, is_last_here, stage_of}
+use Rattle.jv_client.specs.Reading.{ahead_from, fetch_at, views_here}
 use Rattle.jv_client.specs.Makes.{Makes, is_failure_of}
 use Rattle.jv_client.specs.UnderWay.{Answered, Closes, Copies, Describes, Ends, Flushes, FlushesFor, GoesOn, IsForm, IsReady, IsUnderWay, Leaves, Mounts, Reads, ReadsNothing, Syncs, SaysStats, Transacts, Truncates, Writes, answer_here, ends_itself, has_segment, keeps, left, says_stats}
 use Rattle.jv_client.proofs.HeldLaws.{client-doing, doing_of, holds-doing}
@@ -42,7 +47,7 @@ use Rattle.jv_client.proofs.AnswerLaws.{Rests, ended-rests, makes-as, makes-ende
 use Rattle.jv_client.proofs.AnswerLaws.{told-rests, uses-none}
 use Rattle.jv_client.specs.CacheUse.{CacheUse}
 use Rattle.jv_client.specs.Stats.{IsStatsOf, AnswersNumbers}
-use Rattle.jv_client.proofs.CacheUseLaws.{NoBlock, cache-ended, cache-stays}
+use Rattle.jv_client.proofs.CacheUseLaws.{NoBlock, NoRead, RestsBy, cache-ended, cache-stays}
 use Rattle.jv_client.proofs.FormLaws.{flushed-same, none_left, nothing_asked, under_way}
 
 -- ---- an answer alone, while devices are as they were
@@ -122,11 +127,10 @@ module _ (now entry : ℕ) (h : ClientValue) (v : Shared) (d : Doing) (busy : h.
   IsAnsweredBy told said = Makes now entry h (told_here d.op told h) v v (made.Answer told said)
 
   -- what the answer leaves of the cache
-  leaves_cache : (told : Told) (said : Reply) → AnswersNumbers h (made.Answer told said)
+  leaves_cache : (told : Told) (said : Reply) → RestsBy h d (made.Answer told said) → AnswersNumbers h (made.Answer told said)
       → CacheUse h (told_here d.op told h) (made.Answer told said) v.yard v.yard
-  leaves_cache told said numbers =
-      cache-ended h d busy (told_here d.op told h) (made.Answer told said) v.yard v.yard h told
-      (NoBlock refl (λ goes. refl)) refl refl refl numbers
+  leaves_cache told said by numbers =
+      cache-ended h d busy (told_here d.op told h) (made.Answer told said) v.yard v.yard h told by refl refl refl numbers
 
   -- the model has all committed that it flushes
   flushed : (s : State) (g : Known) → IsClient g v (s.clients h.id) s.count h
@@ -139,7 +143,7 @@ module _ (now entry : ℕ) (h : ClientValue) (v : Shared) (d : Doing) (busy : h.
   closed_by-handle handle of_op of_does last =
       let told = Fine 0 0 0 0 in
       answers-makes now entry h (told_here d.op told h) v told reply.Done ready (told-rests d.op told h)
-      (leaves_cache told reply.Done tt) (λ device. refl)
+      (leaves_cache told reply.Done (NoRead (ap is_read of_op)) tt) (λ device. refl)
       (λ s g store holds is.
       let c = s.clients h.id in
       let last_too = is_last-same g v c s.count h is.held handle ∙ last in
@@ -161,7 +165,7 @@ module _ (now entry : ℕ) (h : ClientValue) (v : Shared) (d : Doing) (busy : h.
   flushed_by-handle handle of_op of_does =
       let told = Fine 0 0 0 0 in
       answers-makes now entry h (told_here d.op told h) v told reply.Done ready (told-rests d.op told h)
-      (leaves_cache told reply.Done tt) (λ device. refl)
+      (leaves_cache told reply.Done (NoRead (ap is_read of_op)) tt) (λ device. refl)
       (λ s g store holds is.
       let c = s.clients h.id in
       told-well h d v told reply.Done (ap (λ o. keeps_bytes o told) of_op) s g store holds is now
@@ -170,13 +174,25 @@ module _ (now entry : ℕ) (h : ClientValue) (v : Shared) (d : Doing) (busy : h.
       (client-doing g v c s.count h d busy is) done.started done.stage (flushed s g is) done.first handle of_op
       of_does))
 
+  -- no block is ahead of an operation that has nothing to read
+  none_ahead : d.does ≡ does.Answers answer.NoData → (block : ℕ) → ahead_from block h d ≡ []
+  none_ahead of_does block =
+      ap (λ (o : Option Fetching). blocks_ahead (views_here h.handles d.op) (unwrap_or o (begins block (asked_of d.does))))
+      (at_work d.progress done.stage)
+      ∙ ap (λ (x : Does). blocks_ahead (views_here h.handles d.op) (begins block (asked_of x))) of_does
+    where
+      at_work : (p : Progress) → stage_of p ≡ AtWork 0 done.started → fetch_at p ≡ None
+      at_work (Working quiets started id) e = refl
+      at_work (Reading fetch next) e = absurd (cc e)
+
   -- a read of no byte
   nothing-read : (handle offset len : ℕ) → d.op ≡ op.Read handle offset len → d.does ≡ does.Answers answer.NoData
       → IsAnsweredBy (Looks 0 0 0) (reply.Data [])
   nothing-read handle offset len of_op of_does =
       let told = Looks 0 0 0 in
       answers-makes now entry h (told_here d.op told h) v told (reply.Data []) ready (told-rests d.op told h)
-      (leaves_cache told (reply.Data []) tt) (λ device. refl)
+      (leaves_cache told (reply.Data []) (NoBlock refl (λ goes. record { alone = refl; none = none_ahead of_does })) tt)
+      (λ device. refl)
       (λ s g store holds is.
       let c = s.clients h.id in
       told-well h d v told (reply.Data []) (ap (λ o. keeps_bytes o told) of_op) s g store holds is now
@@ -195,7 +211,7 @@ module _ (now entry : ℕ) (h : ClientValue) (v : Shared) (d : Doing) (busy : h.
       let told = Fine hits misses cached (length h.pending) in
       let said = reply.CacheStats hits misses cached (length h.pending) in
       answers-makes now entry h (ended h) v told said ready (ended-rests h)
-      (cache-stays h d busy (ended h) (made.Answer told said) v.yard v.yard (NoBlock refl (λ goes. refl))
+      (cache-stays h d busy (ended h) (made.Answer told said) v.yard v.yard (NoRead (ap is_read of_op))
       (ap is_umount of_op) refl numbers)
       (λ device. refl)
       (λ s g store holds is.

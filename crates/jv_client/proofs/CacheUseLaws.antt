@@ -1,8 +1,8 @@
 -- What steps do with the client's cache, by how they end.
-use Rattle.std.proofs.Common.{◌≡◌, true, false, Option, None, Some, refl, sym, ap, subst, ◌∙◌}
+use Rattle.std.proofs.Common.{◌≡◌, ℕ, true, false, [], Option, None, Some, refl, sym, ap, subst, ◌∙◌}
 use Rattle.std.specs.Prelude.{IfSome, is_some}
 use Rattle.jv_cache.specs.Cached.{Cached}
-use Rattle.jv_fetching.specs.declared.need.Need.{Need}
+use Rattle.jv_fetching.specs.declared.need.Need.TheVariants.{Nothing}
 use Rattle.jv_model.specs.client.Pending.{Segment}
 use Rattle.jv_model.specs.declared.act.Told.{Told}
 use Rattle.jv_model.specs.declared.act.Told.TheVariants.{Fine, Looks, Refused as ToldRefused}
@@ -17,10 +17,10 @@ use Rattle.jv_yard.specs.YardValue.{YardValue}
 use Rattle.jv_client.specs.declared.doing.Doing.{Doing}
 use Rattle.jv_client.specs.declared.made.Made.{Made}
 use Rattle.jv_client.specs.CacheUse.{CacheUse, Flushes, LooksOnly, MovesCache, MovesInRead}
-use Rattle.jv_client.specs.CacheUse.{ends_mount, goes_well, has_got, is_gone, leaves}
+use Rattle.jv_client.specs.CacheUse.{answers_alone, ends_mount, goes_well, has_got, is_gone, leaves}
 use Rattle.jv_client.specs.ClientValue.{ClientValue}
 use Rattle.jv_client.specs.Ending.{finished_here, refused_here, told_here}
-use Rattle.jv_client.specs.Reading.{Untouched, need_in}
+use Rattle.jv_client.specs.Reading.{Untouched, ahead_from}
 use Rattle.jv_client.specs.UnderWay.{has_segment, left, left_of}
 use Rattle.jv_client.specs.Stats.{AnswersNumbers}
 
@@ -46,17 +46,6 @@ refused-keeps (Stale (Session sid)) h e = absurd (cc e)
 refused-keeps (Stale (Node inode)) h e = refl
 refused-keeps _ h e = refl
 
--- and no need
-finished-idle : (o : Op) (h : ClientValue) → need_in (finished_here o h).doing ≡ None
-finished-idle op.Umount h = refl
-finished-idle (op.Close handle) h = refl
-finished-idle _ h = refl
-
-refused-idle : (fault : Fault) (h : ClientValue) → need_in (refused_here fault h).doing ≡ None
-refused-idle (Stale (Session sid)) h = refl
-refused-idle (Stale (Node inode)) h = refl
-refused-idle _ h = refl
-
 told-drops : (o : Op) (told : Told) (h : ClientValue) → ends_mount o told ≡ true → (told_here o told h).cache ≡ None
 told-drops o (Fine a b c d) h e = finished-drops o h e
 told-drops o (Looks first second len) h e = finished-drops o h e
@@ -73,27 +62,31 @@ pub failure-stays : (fault : Fault) → is_failure (ToldRefused fault) ≡ true 
 failure-stays (Stale (Session sid)) e = absurd (cc e)
 failure-stays _ e = refl
 
-told-idle : (o : Op) (told : Told) (h : ClientValue) → need_in (told_here o told h).doing ≡ None
-told-idle o (Fine a b c d) h = finished-idle o h
-told-idle o (Looks first second len) h = finished-idle o h
-told-idle o (ToldRefused fault) h = refused-idle fault h
-
 -- ---- a step that looks nothing up
 
--- in a flush, of an operation that reads nothing, or one that got no block and after which none is needed
-pub data RestsBy (h : ClientValue) (d : Doing) (done : Made) (next : Option Need) : Type 0 where
-  InFlush : is_some (left h) ≡ true → RestsBy h d done next
-  NoRead : is_read d.op ≡ false → RestsBy h d done next
-  NoBlock : has_got done ≡ false → (goes_well done ≡ true → None ≡ next) → RestsBy h d done next
+-- an operation is answered that has no block ahead
+pub record ReadsNone (h : ClientValue) (d : Doing) (done : Made) : Type 0 where
+  pub alone : answers_alone done ≡ true
+  pub none : (block : ℕ) → ahead_from block h d ≡ []
 
-rests : (h : ClientValue) (d : Doing) (done : Made) (before used : YardValue) (next : Option Need) (is : Option Cached)
-    → RestsBy h d done next → is_read d.op ≡ true → is ≡ h.cache → MovesInRead h d done before used next is
-rests h d done before used next is (InFlush some) read same = Flushes some same
-rests h d done before used next is (NoRead none) read same = absurd (cc (sym none ∙ read))
-rests h d done before used next is (NoBlock got goes) read same = by_left (left h) refl
+-- in a flush, of an operation that reads nothing, or of one that got no block: it failed, or had none to get
+pub data RestsBy (h : ClientValue) (d : Doing) (done : Made) : Type 0 where
+  InFlush : is_some (left h) ≡ true → RestsBy h d done
+  NoRead : is_read d.op ≡ false → RestsBy h d done
+  NoBlock : has_got done ≡ false → (goes_well done ≡ true → ReadsNone h d done) → RestsBy h d done
+
+rests : (h : ClientValue) (d : Doing) (done : Made) (before used : YardValue) (after : ClientValue) (is : Option Cached)
+    → RestsBy h d done → is_read d.op ≡ true → is ≡ h.cache → MovesInRead h d done before used after is
+rests h d done before used after is (InFlush some) read same = Flushes some same
+rests h d done before used after is (NoRead none) read same = absurd (cc (sym none ∙ read))
+rests h d done before used after is (NoBlock got goes) read same = by_left (left h) refl
   where
-    by_left : (segment : Option Segment) → left h ≡ segment → MovesInRead h d done before used next is
-    by_left None e = LooksOnly None e got goes (Untouched same)
+    by_left : (segment : Option Segment) → left h ≡ segment → MovesInRead h d done before used after is
+    by_left None e =
+        LooksOnly (ahead_from before.setting.block h d) Nothing e got
+        (λ well. (let none = goes well in
+        record { alone = none.alone; none = none.none before.setting.block; nothing = refl }))
+        (Untouched same)
     by_left (Some segment) e = Flushes (ap is_some e) same
 
 -- what is left to flush of an operation that has a segment
@@ -108,39 +101,36 @@ module _ (h : ClientValue) (d : Doing) (busy : h.doing ≡ Some d) (after : Clie
   in_doing moves = subst (λ o. IfSome o (λ (d : Doing). MovesCache d h after done before used)) (sym busy) moves
 
   -- the mount goes on, and the cache is the same
-  pub cache-stays : RestsBy h d done (need_in after.doing) → leaves d.op done ≡ false → after.cache ≡ h.cache
+  pub cache-stays : RestsBy h d done → leaves d.op done ≡ false → after.cache ≡ h.cache
       → AnswersNumbers h done → CacheUse h after done before used
   cache-stays by goes same numbers = record {
     moves = in_doing (record {
       drops = λ ends. absurd (cc (sym goes ∙ ends));
       stays = λ e other. same;
-      reads = λ e read. rests h d done before used (need_in after.doing) after.cache by read same;
+      reads = λ e read. rests h d done before used after after.cache by read same;
     });
     numbers = numbers;
   }
 
   -- an answer leaves what it leaves of a client with the same cache
-  pub cache-ended : (mid : ClientValue) (told : Told) → RestsBy h d done None → leaves d.op done ≡ ends_mount d.op told
+  pub cache-ended : (mid : ClientValue) (told : Told) → RestsBy h d done → leaves d.op done ≡ ends_mount d.op told
       → mid.cache ≡ h.cache → after ≡ told_here d.op told mid → AnswersNumbers h done
       → CacheUse h after done before used
   cache-ended mid told by ends same is numbers =
-      let idle : need_in after.doing ≡ None =
-      ap (λ (c : ClientValue). need_in c.doing) is ∙ told-idle d.op told mid in
       let keeps : leaves d.op done ≡ false → after.cache ≡ h.cache =
       λ goes. ap (λ (c : ClientValue). c.cache) is ∙ told-keeps d.op told mid (sym ends ∙ goes) ∙ same in
       record {
         moves = in_doing (record {
           drops = λ left. ap (λ (c : ClientValue). c.cache) is ∙ told-drops d.op told mid (sym ends ∙ left);
           stays = λ goes other. keeps goes;
-          reads = λ goes read. subst (λ next. MovesInRead h d done before used next after.cache) (sym idle)
-              (rests h d done before used None after.cache by read (keeps goes));
+          reads = λ goes read. rests h d done before used after after.cache by read (keeps goes);
         });
         numbers = numbers;
       }
 
   module _ (read : is_read d.op ≡ true) where
     -- a read goes on, or is answered
-    pub cache-read : leaves d.op done ≡ false → MovesInRead h d done before used (need_in after.doing) after.cache
+    pub cache-read : leaves d.op done ≡ false → MovesInRead h d done before used after after.cache
         → AnswersNumbers h done → CacheUse h after done before used
     cache-read goes moves numbers = record {
       moves = in_doing (record {
@@ -153,17 +143,15 @@ module _ (h : ClientValue) (d : Doing) (busy : h.doing ≡ Some d) (after : Clie
 
     -- or refused
     pub cache-refused : (c : ClientValue) (fault : Fault) → leaves d.op done ≡ is_gone fault
-        → MovesInRead h d done before used None c.cache → after ≡ refused_here fault c → AnswersNumbers h done
+        → MovesInRead h d done before used after c.cache → after ≡ refused_here fault c → AnswersNumbers h done
         → CacheUse h after done before used
     cache-refused c fault ends moves is numbers = record {
       moves = in_doing (record {
         drops = λ left. ap (λ (c : ClientValue). c.cache) is ∙ refused-drops fault c (sym ends ∙ left);
         stays = λ e other. absurd (cc (sym read ∙ other));
         reads = λ goes is_read.
-            subst (λ next. MovesInRead h d done before used next after.cache)
-            (sym (ap (λ (c : ClientValue). need_in c.doing) is ∙ refused-idle fault c))
-            (subst (MovesInRead h d done before used None)
-            (sym (ap (λ (c : ClientValue). c.cache) is ∙ refused-keeps fault c (sym ends ∙ goes))) moves);
+            subst (MovesInRead h d done before used after)
+            (sym (ap (λ (c : ClientValue). c.cache) is ∙ refused-keeps fault c (sym ends ∙ goes))) moves;
       });
       numbers = numbers;
     }

@@ -24,7 +24,7 @@ use Rattle.jv_model.specs.tree.FileBytes.{copy, truncate}
 use Rattle.jv_model.specs.client.ModelClient.{ModelClient, inode_at}
 use Rattle.jv_model.specs.client.Profile.{handle_of}
 use Rattle.jv_model.specs.journal.State.{State, after_told, caller, without_views}
-use Rattle.jv_model.specs.client.OpForms.{is_umount}
+use Rattle.jv_model.specs.client.OpForms.{is_read, is_umount}
 use Rattle.jv_model.specs.tree.Trash.{due_after}
 use Rattle.jv_outside.specs.Store.{Store}
 use Rattle.jv_rows.specs.Transactions.{IsFor}
@@ -48,7 +48,7 @@ use Rattle.jv_client.specs.Held.{IsClient, IsHeld, Holds, in_flight}
 use Rattle.jv_client.specs.UnderWay.{IsReady, left}
 use Rattle.jv_client.specs.Makes.{Makes, StepsTo}
 use Rattle.jv_client.specs.Transacting.{EndsUnmade}
-use Rattle.jv_client.proofs.CacheUseLaws.{NoBlock, cache-stays}
+use Rattle.jv_client.proofs.CacheUseLaws.{NoRead, cache-stays}
 use Rattle.jv_client.proofs.AnswerLaws.{request-lands}
 use Rattle.jv_client.proofs.DirectLaws.{direct-unseen}
 use Rattle.jv_client.proofs.HeldLaws.{client-doing, doing_of, holds-doing, holds-later}
@@ -246,7 +246,7 @@ module _ (now : ℕ) (h : ClientValue) (d : Doing) (busy : h.doing ≡ Some d) (
         answered-makes now entry h (ended (blind inode h)) (Truncated inode len) (Fine 0 0 0 0) reply.Done v keeper
         (record { id = refl; limits = refl; idle = refl })
         (cache-stays h d busy (ended (blind inode h)) (Both (Truncated inode len) (Fine 0 0 0 0) reply.Done) v.yard v.yard
-        (NoBlock refl (λ goes. refl)) (ap is_umount of_op) refl tt)
+        (NoRead (ap is_read of_op)) (ap is_umount of_op) refl tt)
         ready tx.opened_at tx.counts (refl, λ device. refl)
         (λ s g number has holds is. truncate-leads s g has holds is handle len of_op (due_after now)
         (model-truncates s g has holds is handle len of_op (due_after now) (Ok tt) tried))
@@ -267,7 +267,7 @@ module _ (now : ℕ) (h : ClientValue) (d : Doing) (busy : h.doing ≡ Some d) (
         (reply.Count count) v keeper (record { id = refl; limits = refl; idle = refl })
         (cache-stays h d busy (ended (blind inode h))
         (Both (Copied first_inode from inode to count) (Fine count 0 0 0) (reply.Count count)) v.yard v.yard
-        (NoBlock refl (λ goes. refl)) (ap is_umount of_op) refl tt)
+        (NoRead (ap is_read of_op)) (ap is_umount of_op) refl tt)
         ready tx.opened_at tx.counts
         (refl, λ device. refl)
         (λ s g number has holds is. copy-leads s g has holds is source from target to len of_op (due_after now) count

@@ -43,7 +43,6 @@ use Rattle.jv_client.specs.UnderWay.{IsReady, answer_here, ends_itself, left, le
 use Rattle.jv_client.specs.Makes.{IsCalm, Makes, StepsTo, SaysBad, UsesDevices, asks_nothing, faults_of}
 use Rattle.jv_client.specs.Makes.{step_of, says_failure}
 use Rattle.jv_client.specs.Flushing.{Follows, Answers, Writes, GoesOn, written_alone}
-use Rattle.jv_fetching.specs.declared.need.Need.{Need}
 use Rattle.jv_client.proofs.CacheUseLaws.{InFlush, RestsBy, cache-ended, cache-stays, left-some}
 use Rattle.jv_client.proofs.AfterCommitLaws.{falls-without, way-without}
 use Rattle.jv_client.proofs.AnswerLaws.{Rests, makes-as, makes-ended, rests-flight, same-yard, told-rests}
@@ -265,7 +264,7 @@ module _ (h : ClientValue) (d : Doing) (v : Shared) (keeper : Store) (at : Segme
 
   module _ (fewer : length between.pending + at.len ≡ length h.pending) (entry : ℕ) where
     -- it had a segment to flush
-    flushing : {done : Made} {next : Option Need} → RestsBy h d done next
+    flushing : {done : Made} → RestsBy h d done
     flushing = InFlush (left-some h d is_commit.busy (ap is_some is_commit.next))
 
     makes-on : (goes : segment_left d.flush between.pending ≡ None → ends_itself between d ≡ false)

@@ -42,7 +42,8 @@ use Rattle.jv_handles.proofs.HandleLaws.{handle-stays}
 use Rattle.jv_reading.specs.Parts.{IsNamed}
 use Rattle.jv_fetching.specs.declared.need.Need.{Need}
 use Rattle.jv_fetching.specs.declared.need.Need.TheVariants.{Block as NeedsBlock, Nothing}
-use Rattle.jv_fetching.specs.Calls.{HasCached, IsCacheOf, Keeps, Wants, first_seen}
+use Rattle.jv_fetching.specs.Ahead.{blocks_ahead}
+use Rattle.jv_fetching.specs.Calls.{Asks, HasCached, IsCacheOf, Keeps, Wants, first_seen}
 use Rattle.jv_fetching.specs.Fetching.{Fetching}
 use Rattle.jv_fetching.specs.Going.{IsFetching}
 use Rattle.jv_fetching.specs.Laws.{IsOfView}
@@ -56,14 +57,16 @@ use Rattle.jv_requests.proofs.GetLaws.{GotBlock, MayGet, get-answered, get-reque
 use Rattle.jv_client.specs.declared.doing.Doing.{Doing}
 use Rattle.jv_client.specs.declared.made.Made.{Made}
 use Rattle.jv_client.specs.declared.made.Made.TheVariants as made
+use Rattle.jv_client.specs.declared.reading.Ahead.{Ahead}
+use Rattle.jv_client.specs.declared.reading.Ahead.TheVariants.{Needs, Read}
 use Rattle.jv_client.specs.declared.reading.Found.{Found}
 use Rattle.jv_client.specs.ClientValue.{ClientValue}
 use Rattle.jv_yard.specs.Refusals.{yard_fault}
 use Rattle.jv_client.specs.Getting.{Fills, IsMissed, IsUnread}
 use Rattle.jv_client.specs.Held.{Holds, IsClient, IsHeld, in_flight}
 use Rattle.jv_client.specs.Makes.{Makes, StepsTo, SaysBad, UsesDevices, faults_of, step_of, says_failure}
-use Rattle.jv_client.specs.CacheUse.{KeepsOne, LooksOnly, MovesInRead, goes_well, has_got, may_have_got}
-use Rattle.jv_client.specs.Reading.{GoesAhead, LooksOn, NeedsNext, read_of, told_read}
+use Rattle.jv_client.specs.CacheUse.{HasAhead, KeepsOne, LooksOnly, MovesInRead, goes_well, has_got, may_have_got, need_then}
+use Rattle.jv_client.specs.Reading.{GoesAhead, LooksOn, NeedsNext, read_of, told_read, views_here, views_of}
 use Rattle.jv_client.specs.UnderWay.{LacksNeed}
 use Rattle.jv_client.proofs.CacheUseLaws.{cache-read}
 use Rattle.jv_client.specs.YardUse.{PutsNone, YardUse}
@@ -254,11 +257,11 @@ module _ (now entry block : ℕ) (h : ClientValue) (d : Doing) (offset len : ℕ
   -- ---- it came
 
   module _ (bytes : List ℕ) (gets : GetsBlock h.id name before.yard yard (Ok (Some bytes))) (filled : Fetching)
-      (kept : Cached) (fills : Fills b bytes fetch filled cache kept) (later : Cached) (next : Option Need)
-      (looks : LooksOn next kept later)
+      (kept : Cached) (fills : Fills b bytes fetch filled cache kept) (later : Cached) (to : Option Ahead)
+      (looks : LooksOn file.views filled to kept later)
     where
       looks_up : LooksUp kept later
-      looks_up = looks-on next kept later looks
+      looks_up = looks-on file.views filled to kept later looks
 
       pub cached-then : (s : State) (g : Known) → HasStore s.tree g before
           → IsClient g before (s.clients h.id) s.count h
@@ -340,17 +343,29 @@ module _ (now entry block : ℕ) (h : ClientValue) (d : Doing) (offset len : ℕ
               (none-kept d.op handle offset len asks.reads.op_is found.first found.second (length found.bytes)) holds;
         }
 
+      -- what is ahead, by the views of the handle
+      seen-ahead : (f : Fetching) → blocks_ahead (views_here h.handles d.op) f ≡ blocks_ahead file.views f
+      seen-ahead f = ap (λ (o : Option Handle). blocks_ahead (views_of o) f) asks.reads.opened
+
+      -- where it came
+      looks-by : (goal : Option Ahead) → to ≡ goal → LooksOn file.views filled goal kept later
+      looks-by goal is = subst (λ o. LooksOn file.views filled o kept later) is looks
+
       -- the cache kept the block that was needed, and the next ones were looked up
-      moves-kept : (done : Made) → may_have_got done ≡ true → MovesInRead h d done before.yard yard next (Some later)
-      moves-kept done may_have = KeepsOne fetch b bytes cache kept later (flushed-asking asks) may_have
+      moves-kept : (done : Made) (after : ClientValue) → may_have_got done ≡ true → (rest : List BlockId)
+          → Asks (blocks_ahead file.views filled) rest (need_then after) kept later
+          → (goes_well done ≡ true → HasAhead d after (views_here h.handles d.op) rest)
+          → MovesInRead h d done before.yard yard after (Some later)
+      moves-kept done after may_have rest asked leaves =
+          KeepsOne fetch b bytes (blocks_ahead file.views filled) rest cache kept later (flushed-asking asks) may_have
           (subst (λ n. NeedsNext n h d fetch (NeedsBlock b) cache) (sym length_is) asks.needs) asks.wants asks.lacks
-          gets fills.cache_is looks refl
+          (seen-ahead fetch ∙ fills.ahead file.views) gets fills.cache_is asked leaves refl
 
       -- it goes on
-      pub get-on : (f : Fetching) (need : Need) → next ≡ Some need → GoesAhead file.views kept filled f
+      pub get-on : (f : Fetching) (need : Need) → to ≡ Some (Needs f need) → GoesAhead file.views kept filled f
           → Wants file.views f need → need ≢ Nothing → LacksNeed need kept
           → Makes now entry h (going_on h.handles later f need d h) before used (made.Request Quiet)
-      get-on f need next_is goes wants more lacks =
+      get-on f need to_is goes wants more lacks =
           let can = goes.can (fills.can file.views asks.can) in
           let few = goes.few in
           let less = fills.falls in
@@ -363,8 +378,8 @@ module _ (now entry block : ℕ) (h : ClientValue) (d : Doing) (offset len : ℕ
             yard = yard-got now h (made.Request Quiet) before.yard yard gets.0;
             cache = cache-read h d asks.busy (going_on h.handles later f need d h) (made.Request Quiet) before.yard yard
                 (ap is_read asks.reads.op_is) refl
-                (subst (λ o. MovesInRead h d (made.Request Quiet) before.yard yard o (Some later)) next_is
-                (moves-kept (made.Request Quiet) refl)) tt;
+                (moves-kept (made.Request Quiet) (going_on h.handles later f need d h) refl (blocks_ahead file.views f)
+                (looks-by (Some (Needs f need)) to_is) (λ well. record { seen = refl; are = sym (seen-ahead f) })) tt;
             alone = refl;
             falls = (
               falls-on block h d offset len cache fetch (NeedsBlock b) asks h.handles file asks.reads.opened refl
@@ -375,12 +390,12 @@ module _ (now entry block : ℕ) (h : ClientValue) (d : Doing) (offset len : ℕ
           }
 
       -- or it is answered
-      pub get-over : next ≡ None → (found : Found)
+      pub get-over : (found : Found) → to ≡ Some (Read found)
           → ((blocks : Blocks) (all : List Asked) → HasCached blocks file.views filled.block kept
           → IsFetching blocks file.views all filled
           → IsReadBy (known_by filled.block blocks) file.views all (read_of found))
           → Makes now entry h (over h.handles later h) before used (made.Both Quiet (told_read found) (Data found.bytes))
-      get-over next_is found read = record {
+      get-over found to_is read = record {
         id = refl;
         limits = refl;
         ready = record { buffer = asks.buffer; doing = tt };
@@ -388,31 +403,33 @@ module _ (now entry block : ℕ) (h : ClientValue) (d : Doing) (offset len : ℕ
         yard = yard-got now h (made.Both Quiet (told_read found) (Data found.bytes)) before.yard yard gets.0;
         cache = cache-read h d asks.busy (over h.handles later h) (made.Both Quiet (told_read found) (Data found.bytes))
             before.yard yard (ap is_read asks.reads.op_is) (ap is_umount asks.reads.op_is)
-            (subst (λ o. MovesInRead h d (made.Both Quiet (told_read found) (Data found.bytes)) before.yard yard o
-            (Some later)) next_is (moves-kept (made.Both Quiet (told_read found) (Data found.bytes)) refl)) tt;
+            (moves-kept (made.Both Quiet (told_read found) (Data found.bytes)) (over h.handles later h) refl []
+            (looks-by (Some (Read found)) to_is) (λ well. record { seen = refl; are = refl })) tt;
         alone = (refl, λ device. refl);
         falls = refl;
         leads = λ s g number has holds client. leads-over s g has holds client found read;
       }
 
       -- or memory ran out
-      pub get-out : next ≡ None → Makes now entry h (over h.handles later h) before used
+      pub get-out : to ≡ None → Makes now entry h (over h.handles later h) before used
           (made.Answer (ToldRefused NoMemory) (RefusedReply NoMemory))
-      get-out next_is = failed now entry block h d offset len cache fetch (NeedsBlock b) asks before used
+      get-out to_is = failed now entry block h d offset len cache fetch (NeedsBlock b) asks before used
           (same-gets before yard h.id name (Ok (Some bytes)) gets) NoMemory later cached-then refl
           (uses-got (made.Answer (ToldRefused NoMemory) (RefusedReply NoMemory)) before yard (λ device. refl) gets.0 tt)
           (yard-got now h (made.Answer (ToldRefused NoMemory) (RefusedReply NoMemory)) before.yard yard gets.0)
-          (subst (λ o. MovesInRead h d (made.Answer (ToldRefused NoMemory) (RefusedReply NoMemory)) before.yard yard o
-          (Some later)) next_is (moves-kept (made.Answer (ToldRefused NoMemory) (RefusedReply NoMemory)) refl))
+          (let some = looks-by None to_is in
+          moves-kept (made.Answer (ToldRefused NoMemory) (RefusedReply NoMemory)) (over h.handles later h) refl some.0 some.1
+          (λ well. absurd (cc well)))
 
   -- ---- it didn't come
 
   -- the cache is as the beginning of the reading left it
-  moves-none : (done : Made) → has_got done ≡ false → (goes_well done ≡ true → ⊥)
-      → MovesInRead h d done before.yard yard None (Some cache)
-  moves-none done none fails =
-      let looked = needs-looked block h d fetch cache (NeedsBlock b) asks.needs in
-      LooksOnly looked.0 (flushed-asking asks) none (λ goes. absurd (fails goes)) looked.1
+  moves-none : (done : Made) (after : ClientValue) → has_got done ≡ false → (goes_well done ≡ true → ⊥)
+      → MovesInRead h d done before.yard yard after (Some cache)
+  moves-none done after none fails =
+      let looked = needs-looked before.yard.setting.block h d fetch cache (NeedsBlock b)
+      (subst (λ n. NeedsNext n h d fetch (NeedsBlock b) cache) (sym length_is) asks.needs) in
+      LooksOnly looked.0 looked.1 (flushed-asking asks) none (λ goes. absurd (fails goes)) looked.2
 
   pub get-unread : (fault : Fault) → IsUnread h.id b before.yard yard fault
       → Makes now entry h (over h.handles cache h) before used (made.Answer (ToldRefused fault) (RefusedReply fault))
@@ -423,8 +440,8 @@ module _ (now entry block : ℕ) (h : ClientValue) (d : Doing) (offset len : ℕ
       (same-gets before yard h.id name (Err unread.why) unread.gets) (yard_fault unread.why) cache (cached-known asks before length_is)
       (fails-yard unread.why) (uses-unread unread.why before yard unread.gets)
       (yard-unread now h (unread_as unread.why) unread.why before.yard yard unread.gets)
-      (moves-none (made.Answer (ToldRefused (yard_fault unread.why)) (RefusedReply (yard_fault unread.why))) refl
-      (λ goes. absurd (cc goes))))
+      (moves-none (made.Answer (ToldRefused (yard_fault unread.why)) (RefusedReply (yard_fault unread.why)))
+      (over h.handles cache h) refl (λ goes. absurd (cc goes))))
 
   -- it isn't there, which no volume has whose blocks are all there
   pub get-missed : (inode window : ℕ) → IsMissed h.id b before.yard yard
@@ -441,8 +458,8 @@ module _ (now entry block : ℕ) (h : ClientValue) (d : Doing) (offset len : ℕ
     cache = cache-read h d asks.busy (over h.handles cache h)
         (made.Both (Miss inode window) (ToldRefused (TryAgain 0)) (RefusedReply (TryAgain 0))) before.yard yard
         (ap is_read asks.reads.op_is) refl
-        (moves-none (made.Both (Miss inode window) (ToldRefused (TryAgain 0)) (RefusedReply (TryAgain 0))) refl
-        (λ goes. absurd (cc goes))) tt;
+        (moves-none (made.Both (Miss inode window) (ToldRefused (TryAgain 0)) (RefusedReply (TryAgain 0)))
+        (over h.handles cache h) refl (λ goes. absurd (cc goes))) tt;
     alone = (refl, λ device. refl);
     falls = refl;
     leads = λ s g number has holds client.

@@ -6,8 +6,10 @@ use Rattle.jv_model.specs.declared.slice.BlockId.{BlockId}
 use Rattle.jv_cache.specs.declared.key.BlockKey.{BlockKey}
 use Rattle.jv_cache.specs.Cached.{Cached, found_in, noted_in}
 use Rattle.jv_pending.specs.Held.{PendingValue}
-use Rattle.jv_fetching.specs.declared.need.Need.{Need}
+use Rattle.jv_handles.specs.Views.{SeenViews}
 use Rattle.jv_fetching.specs.Calls.{cache_key}
+use Rattle.jv_fetching.specs.Fetching.{Fetching}
+use Rattle.jv_client.specs.declared.reading.Ahead.{Ahead}
 use Rattle.jv_client.specs.Reading.{LooksOn}
 use Rattle.jv_client.proofs.LooksLaws.{looks-on}
 use Rattle.jv_client.specs.ClientValue.{HasLimits}
@@ -24,11 +26,12 @@ all-noted : (cache : Cached) (blocks : List BlockId)
 all-noted cache [] = refl
 all-noted cache (b ∷ blocks) = all-noted (noted_in cache (cache_key b)) blocks ∙ noted cache (cache_key b)
 
-pub limits-looked : (next : Option Need) (limits : Limits) (pending : PendingValue) (was : Option Cached)
+pub limits-looked : (views : SeenViews) (fetch : Fetching) (to : Option Ahead) (limits : Limits) (pending : PendingValue) (was : Option Cached)
     (cache later : Cached)
-    → was ≡ Some cache → LooksOn next cache later → HasLimits limits pending was → HasLimits limits pending (Some later)
-limits-looked next limits pending was cache later is on has =
-    let looks = looks-on next cache later on in
+    → was ≡ Some cache → LooksOn views fetch to cache later → HasLimits limits pending was
+    → HasLimits limits pending (Some later)
+limits-looked views fetch to limits pending was cache later is on has =
+    let looks = looks-on views fetch to cache later on in
     let there : HasLimits limits pending (Some cache) = subst (HasLimits limits pending) is has in
     record {
       buffer = has.buffer;

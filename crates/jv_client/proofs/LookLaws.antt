@@ -1,5 +1,5 @@
 -- A reading looks at a window: it goes on with the view, or it is answered.
-use Rattle.std.proofs.Common.{◌≡◌, ◌≢◌, ℕ, ◌+◌, ◌≤◌, ◌<◌, false, List, [], ◌∷◌, length, Option, None, Some, Ok, refl}
+use Rattle.std.proofs.Common.{◌≡◌, ◌≢◌, ℕ, ◌+◌, ◌≤◌, ◌<◌, false, true, List, [], ◌∷◌, length, Option, None, Some, Ok, refl}
 use Rattle.std.proofs.Common.{sym, ap}
 use Rattle.std.proofs.Common.{subst, ◌∙◌, arith}
 use Rattle.std.specs.Prelude.{is_some, unwrap_or}
@@ -9,6 +9,7 @@ use Rattle.jv_model.specs.declared.fault.Device.{Device}
 use Rattle.jv_model.specs.declared.fault.Device.TheVariants.{Keeper, Depot, Shelf, Carrier}
 use Rattle.jv_model.specs.declared.op.Reply.TheVariants.{Data}
 use Rattle.jv_model.specs.declared.op.Step.TheVariants.{More, Done}
+use Rattle.jv_model.specs.declared.slice.BlockId.{BlockId}
 use Rattle.jv_model.specs.client.ModelClient.{ModelClient, Doing as ModelDoing, View as ModelView}
 use Rattle.jv_model.specs.client.ModelClient.{Reading as ModelReading, file_of, session_of, with_file}
 use Rattle.jv_model.specs.client.Profile.{handle_of}
@@ -37,7 +38,8 @@ use Rattle.jv_handles.proofs.HandleLaws.{handle-looked, handle-stays, handles-lo
 use Rattle.jv_handles.proofs.SeenLaws.{view_at-own, views-later}
 use Rattle.jv_fetching.specs.declared.need.Need.{Need}
 use Rattle.jv_fetching.specs.declared.need.Need.TheVariants.{Look as NeedsLook, Nothing}
-use Rattle.jv_fetching.specs.Calls.{FindsAll, HasCached, IsCacheOf, LooksFor, Wants, first_seen, first_unseen}
+use Rattle.jv_fetching.specs.Ahead.{blocks_ahead}
+use Rattle.jv_fetching.specs.Calls.{Asks, HasCached, IsCacheOf, Wants, first_seen, first_unseen}
 use Rattle.jv_fetching.specs.Fetching.{Fetching, fetch_left}
 use Rattle.jv_fetching.specs.Going.{CanFetch, IsFetching}
 use Rattle.jv_fetching.specs.Shows.{IsReadBy}
@@ -55,13 +57,12 @@ use Rattle.jv_client.specs.declared.reading.Found.{Found}
 use Rattle.jv_client.specs.ClientValue.{ClientValue, session_here}
 use Rattle.jv_client.specs.Held.{Holds, IsClient, IsHeld, in_flight}
 use Rattle.jv_client.specs.Makes.{Makes, StepsTo, SaysBad, UsesDevices, faults_of, step_of, says_failure}
-use Rattle.jv_client.specs.CacheUse.{LooksOnly, MovesInRead, has_got}
-use Rattle.jv_client.specs.Reading.{GoesAhead, LookedUp, LooksOn, cache_in, read_of, told_read}
+use Rattle.jv_client.specs.CacheUse.{HasAhead, LooksThen, MovesInRead, goes_well, has_got, need_then}
+use Rattle.jv_client.specs.Reading.{GoesAhead, NeedsNext, read_of, told_read, views_of}
 use Rattle.jv_client.specs.UnderWay.{LacksNeed}
 use Rattle.jv_client.proofs.CacheUseLaws.{cache-read}
 use Rattle.jv_client.proofs.ReadingLaws.{lacks-later}
-use Rattle.jv_fetching.proofs.CacheLaws.{LooksUp, finds_looks, for_looks}
-use Rattle.jv_client.proofs.LooksLaws.{needs-found, on-after}
+use Rattle.jv_fetching.proofs.CacheLaws.{LooksUp, for_looks}
 use Rattle.jv_client.proofs.AnswerLaws.{same-yard}
 use Rattle.jv_client.proofs.DirectLaws.{direct-looked}
 use Rattle.jv_client.proofs.EndingLaws.{holds-told}
@@ -311,19 +312,21 @@ module _ (now entry block : ℕ) (h : ClientValue) (d : Doing) (offset len : ℕ
             (none-kept d.op handle offset len asks.reads.op_is found.first found.second (length found.bytes)) holds_then;
       }
 
-  -- blocks were looked up, and no other thing was done with the cache
-  looked-on : (done : Made) → has_got done ≡ false → (next : Option Need) (later : Cached) → LooksOn next cache later
-      → MovesInRead h d done before.yard before.yard next (Some later)
-  looked-on done none next later looks =
-      LooksOnly next (flushed-asking asks) none (λ goes. refl)
-      (LookedUp next later (on-after next (cache_in h.limits.entries h.cache) cache later
-      (needs-found block h d fetch cache window asks.needs) looks) refl)
+  -- blocks were looked up by the view, and no other thing was done with the cache
+  pub looked-on : (done : Made) (after : ClientValue) → has_got done ≡ false → (rest : List BlockId) (later : Cached)
+      → Asks (blocks_ahead seen.views fetch) rest (need_then after) cache later
+      → (goes_well done ≡ true → HasAhead d after seen.views rest)
+      → MovesInRead h d done before.yard before.yard after (Some later)
+  looked-on done after none rest later looks leaves =
+      LooksThen fetch window view rest seen.views cache later (flushed-asking asks) none
+      (subst (λ n. NeedsNext n h d fetch (NeedsLook window) cache) (sym length_is) asks.needs)
+      (ap (λ (o : Option Handle). with_view window view (views_of o)) (sym asks.reads.opened)) looks leaves refl
 
   -- it goes on
-  pub look-on : (later : Cached) (f : Fetching) (need : Need) → LooksFor need cache later
-      → GoesAhead seen.views cache fetch f → Wants seen.views f need → need ≢ Nothing → LacksNeed need cache
+  pub look-on : (later : Cached) (f : Fetching) (need : Need)
+      → Asks (blocks_ahead seen.views fetch) (blocks_ahead seen.views f) need cache later → GoesAhead seen.views cache fetch f → Wants seen.views f need → need ≢ Nothing → LacksNeed need cache
       → Makes now entry h (going_on handles later f need d h) before used (made.Request (Look file.inode window))
-  look-on later f need looks_for goes wants more lacks = let looks_up = for_looks need cache later looks_for in record {
+  look-on later f need asked goes wants more lacks = let looks_up = for_looks need cache later asked.looks in record {
     id = refl;
     limits = refl;
     ready = ready-on block h d offset len cache fetch (NeedsLook window) asks handles seen opened refl later f need
@@ -333,7 +336,8 @@ module _ (now entry block : ℕ) (h : ClientValue) (d : Doing) (offset len : ℕ
     yard = same-yard now h (made.Request (Look file.inode window)) before.yard;
     cache = cache-read h d asks.busy (going_on handles later f need d h) (made.Request (Look file.inode window))
         before.yard before.yard (ap is_read asks.reads.op_is) refl
-        (looked-on (made.Request (Look file.inode window)) refl (Some need) later looks_for) tt;
+        (looked-on (made.Request (Look file.inode window)) (going_on handles later f need d h) refl
+        (blocks_ahead seen.views f) later asked (λ goes. record { seen = ap views_of opened; are = refl })) tt;
     alone = refl;
     falls = (
       falls-on block h d offset len cache fetch (NeedsLook window) asks handles seen opened refl later f need
@@ -344,12 +348,12 @@ module _ (now entry block : ℕ) (h : ClientValue) (d : Doing) (offset len : ℕ
   }
 
   -- or it is answered
-  pub look-over : (later : Cached) → FindsAll cache later → (found : Found)
+  pub look-over : (later : Cached) → Asks (blocks_ahead seen.views fetch) [] Nothing cache later → (found : Found)
       → ((blocks : Blocks) (all : List Asked) → HasCached blocks seen.views fetch.block cache
       → IsFetching blocks seen.views all fetch → IsReadBy (known_by fetch.block blocks) seen.views all (read_of found))
       → Makes now entry h (over handles later h) before used
       (made.Both (Look file.inode window) (told_read found) (Data found.bytes))
-  look-over later finds found read = let looks_up = finds_looks cache later finds in record {
+  look-over later asked found read = let looks_up = for_looks Nothing cache later asked.looks in record {
     id = refl;
     limits = refl;
     ready = record { buffer = asks.buffer; doing = tt };
@@ -359,7 +363,8 @@ module _ (now entry block : ℕ) (h : ClientValue) (d : Doing) (offset len : ℕ
     cache = cache-read h d asks.busy (over handles later h)
         (made.Both (Look file.inode window) (told_read found) (Data found.bytes)) before.yard before.yard
         (ap is_read asks.reads.op_is) (ap is_umount asks.reads.op_is)
-        (looked-on (made.Both (Look file.inode window) (told_read found) (Data found.bytes)) refl None later finds) tt;
+        (looked-on (made.Both (Look file.inode window) (told_read found) (Data found.bytes)) (over handles later h) refl []
+        later asked (λ goes. record { seen = ap views_of opened; are = refl })) tt;
     alone = (refl, λ device. refl);
     falls = refl;
     leads = λ s g number has holds client. leads-over s g number has holds client later looks_up found read;

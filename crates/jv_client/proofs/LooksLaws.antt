@@ -1,53 +1,104 @@
 -- What is looked up as a reading goes ahead.
-use Rattle.std.proofs.Common.{◌≡◌, ℕ, Option, None, Some, refl, sym, ap, subst}
-use Rattle.std.specs.Prelude.{IsErr, Result, Ok, Err}
+use Rattle.std.proofs.Common.{◌≡◌, ℕ, List, [], Option, None, Some, refl, sym, ap, subst, ◌∙◌}
+use Rattle.std.specs.Prelude.{IfSome, IsErr, IsSome, Result, Ok, Err, unwrap_or}
+use Rattle.jv_model.specs.declared.profile.Does.{Does}
+use Rattle.jv_model.specs.declared.profile.Does.TheVariants as does
+use Rattle.jv_model.specs.declared.slice.BlockId.{BlockId}
+use Rattle.jv_model.specs.client.ModelClient.{file_of}
+use Rattle.jv_model.specs.client.Profile.{handle_of}
+use Rattle.jv_model.specs.journal.Reading.{Asked, asked_parts}
+use Rattle.jv_model.specs.journal.Steps.{asked_of}
 use Rattle.jv_cache.specs.Cached.{Cached}
+use Rattle.jv_handles.specs.declared.handle.Handle.{Handle}
+use Rattle.jv_handles.specs.Views.{SeenViews, no_views}
+use Rattle.jv_fetching.specs.declared.begun.Begun.{Begun}
 use Rattle.jv_fetching.specs.declared.need.Need.{Need}
-use Rattle.jv_fetching.specs.declared.need.Need.TheVariants.{Look as NeedsLook}
-use Rattle.jv_fetching.specs.Calls.{FindsAll}
-use Rattle.jv_fetching.proofs.CacheLaws.{LooksUp, finds_looks, finds_none, finds_then, for_after, for_looks}
+use Rattle.jv_fetching.specs.declared.need.Need.TheVariants.{Nothing}
+use Rattle.jv_fetching.specs.Ahead.{ahead_of, blocks_ahead, parts_blocks}
+use Rattle.jv_fetching.specs.Calls.{Asks, AsksSome, Wants}
+use Rattle.jv_fetching.specs.Fetching.{Fetching, begins}
+use Rattle.jv_fetching.proofs.CacheLaws.{LooksUp, for_looks}
 use Rattle.jv_client.specs.declared.doing.Doing.{Doing}
-use Rattle.jv_client.specs.ClientValue.{ClientValue}
-use Rattle.jv_client.specs.Reading.{Already, FromStart, LookedUp, LooksAhead, LooksOn, NeedsNext, Untouched, cache_in}
-use Rattle.jv_client.specs.Reading.{next_in}
+use Rattle.jv_client.specs.declared.doing.Progress.{Progress}
+use Rattle.jv_client.specs.declared.doing.Progress.TheVariants.{Working, Reading}
 use Rattle.jv_client.specs.declared.reading.Ahead.{Ahead}
-use Rattle.jv_fetching.specs.Fetching.{Fetching}
+use Rattle.jv_client.specs.ClientValue.{ClientValue}
+use Rattle.jv_client.specs.Reading.{Already, FromStart, LookedUp, LooksAhead, LooksOn, NeedsNext, Untouched, ahead_from}
+use Rattle.jv_client.specs.Reading.{OnlyLooksUp, cache_in, came, fetch_at, fetch_from, need_at, next_of, views_here}
+use Rattle.jv_client.specs.Reading.{views_in, views_of}
 
-pub looks-on : (next : Option Need) (before after : Cached) → LooksOn next before after → LooksUp before after
-looks-on None before after looks = finds_looks before after looks
-looks-on (Some next) before after looks = for_looks next before after looks
+pub looks-on : (views : SeenViews) (fetch : Fetching) (to : Option Ahead) (before after : Cached)
+    → LooksOn views fetch to before after → LooksUp before after
+looks-on views fetch None before after (rest, asks) = for_looks Nothing before after asks.looks
+looks-on views fetch (Some ahead) before after asks = for_looks (next_of ahead) before after asks.looks
 
--- after an error the cache had what was looked up
-pub err-looks : {E : Type 0} (result : Result Ahead E) (before after : Cached) → IsErr result → FindsAll before after
-    → LooksOn (next_in result) before after
-err-looks (Ok ahead) before after err finds = absurd (cc err)
-err-looks (Err e) before after err finds = finds
+-- after an error some blocks were looked up
+pub err-looks : {E : Type 0} (views : SeenViews) (fetch : Fetching) (result : Result Ahead E) (before after : Cached)
+    → IsErr result → AsksSome (blocks_ahead views fetch) before after → LooksOn views fetch (came result) before after
+err-looks views fetch (Ok ahead) before after err some = absurd (cc err)
+err-looks views fetch (Err e) before after err some = some
 
--- blocks that are there were looked up first
-pub on-after : (next : Option Need) (before start after : Cached) → FindsAll before start → LooksOn next start after
-    → LooksOn next before after
-on-after None before start after finds looks = finds_then before start after finds looks
-on-after (Some next) before start after finds looks = for_after next before start after finds looks
+-- ---- what is ahead
+
+-- of a reading that has read all
+pub none-ahead : (views : SeenViews) (fetch : Fetching) (next : Need) → next ≡ Nothing → Wants views fetch next
+    → blocks_ahead views fetch ≡ []
+none-ahead views fetch next none wants =
+    let over : Wants views fetch Nothing = subst (Wants views fetch) none wants in
+    ap (λ (begun : Option Begun). ahead_of views fetch.block begun fetch.parts) over.0
+    ∙ ap (λ (parts : List Asked). parts_blocks views fetch.block parts) over.1
+
+-- of one that has read nothing yet
+not-reading : (p : Progress) → need_at p ≡ None → fetch_at p ≡ None
+not-reading (Working quiets started id) none = refl
+not-reading (Reading fetch next) none = absurd (cc none)
+
+pub from-start : (block : ℕ) (h : ClientValue) (d : Doing) (offset len : ℕ) (file : Handle) → need_at d.progress ≡ None
+    → d.does ≡ does.Reads offset len → file_of h.handles (handle_of d.op) ≡ Some file
+    → ahead_from block h d ≡ blocks_ahead file.views (begins block (asked_parts offset len))
+from-start block h d offset len file first is opened =
+    ap (λ (o : Option Handle). blocks_ahead (views_of o) (fetch_from block d)) opened
+    ∙ ap (λ (o : Option Fetching). blocks_ahead file.views (unwrap_or o (begins block (asked_of d.does))))
+    (not-reading d.progress first)
+    ∙ ap (λ (x : Does). blocks_ahead file.views (begins block (asked_of x))) is
+
+-- by the views of its handle
+pub views-in : (h : ClientValue) (d : Doing) (file : Handle) → h.doing ≡ Some d
+    → file_of h.handles (handle_of d.op) ≡ Some file → views_in h ≡ file.views
+views-in h d file busy opened =
+    ap (λ (o : Option Doing). elim o [ None ↦ no_views | Some d ↦ views_here h.handles d.op ]) busy ∙ ap views_of opened
+
+-- so by these were looked up what was
+pub only-looks : (fetch : Fetching) (to : Option Ahead) (h : ClientValue) (handle : ℕ) (file : Handle)
+    (cache later : Cached) → IsSome h.doing → IfSome h.doing (λ d. handle ≡ handle_of d.op)
+    → file_of h.handles handle ≡ Some file → h.cache ≡ Some cache → LooksOn file.views fetch to cache later
+    → OnlyLooksUp fetch to h (record h { cache = Some later })
+only-looks fetch to h handle file cache later busy names opened was looks = record {
+  cache = cache;
+  later = later;
+  was = was;
+  looks = subst (λ (views : SeenViews). LooksOn views fetch to cache later) (sym (by_doing h.doing refl busy names)) looks;
+  after_is = refl;
+}
+  where
+    by_doing : (o : Option Doing) → h.doing ≡ o → IsSome o → IfSome o (λ d. handle ≡ handle_of d.op)
+        → views_in h ≡ file.views
+    by_doing None e some named = absurd (cc some)
+    by_doing (Some d) e some named =
+        views-in h d file e (ap (file_of h.handles) (sym named) ∙ opened)
 
 -- ---- before the request
 
--- the cache that is there
-in-there : (entries : ℕ) (was : Option Cached) (cache : Cached) → was ≡ Some cache → cache_in entries was ≡ cache
-in-there entries was cache is = ap (cache_in entries) is
-
-module _ (block : ℕ) (h : ClientValue) (d : Doing) (fetch : Fetching) (cache : Cached) where
-  -- before a look the cache had what was looked up
-  pub needs-found : (window : ℕ) → NeedsNext block h d fetch (NeedsLook window) cache
-      → FindsAll (cache_in h.limits.entries h.cache) cache
-  needs-found window (Already progress is) =
-      subst (λ (before : Cached). FindsAll before cache) (sym (in-there h.limits.entries h.cache cache is))
-      (finds_none cache)
-  needs-found window (FromStart offset len file none does opened goes wants looks) =
-      subst (FindsAll (cache_in h.limits.entries h.cache)) (sym looks.last) looks.finds
-
-  -- what was looked up where the request failed
-  pub needs-looked : (next : Need) → NeedsNext block h d fetch next cache
-      → (need : Option Need) × LooksAhead h.limits.entries h.cache (Some cache) need
-  needs-looked next (Already progress is) = (None, Untouched (sym is))
-  needs-looked next (FromStart offset len file none does opened goes wants looks) =
-      (Some next, LookedUp (Some next) cache looks refl)
+-- what was looked up where the request failed
+pub needs-looked : (block : ℕ) (h : ClientValue) (d : Doing) (fetch : Fetching) (cache : Cached) (next : Need)
+    → NeedsNext block h d fetch next cache
+    → (rest : List BlockId) × (need : Need)
+    × LooksAhead (ahead_from block h d) h.limits.entries h.cache (Some cache) rest need
+needs-looked block h d fetch cache next (Already progress is) = (ahead_from block h d, Nothing, Untouched (sym is))
+needs-looked block h d fetch cache next (FromStart offset len file none does opened goes wants looks) = (
+  blocks_ahead file.views fetch,
+  next,
+  LookedUp (blocks_ahead file.views fetch) next cache
+      (subst (λ (due : List BlockId). Asks due (blocks_ahead file.views fetch) next (cache_in h.limits.entries h.cache) cache)
+      (sym (from-start block h d offset len file none does opened)) looks) refl,
+)

@@ -20,8 +20,7 @@ use Rattle.jv_handles.proofs.UnseenLaws.{unseen_by-seen_by}
 use Rattle.jv_shared.specs.Shared.{Shared}
 use Rattle.jv_yard.specs.BlockCalls.{GetsBlock}
 use Rattle.jv_yard.specs.YardValue.{YardValue}
-use Rattle.jv_fetching.specs.declared.need.Need.TheVariants.{Block as NeedsBlock, Look as NeedsLook}
-use Rattle.jv_fetching.specs.declared.need.Need.{Need}
+use Rattle.jv_fetching.specs.declared.need.Need.TheVariants.{Block as NeedsBlock, Look as NeedsLook, Nothing}
 use Rattle.jv_fetching.specs.Fetching.{Fetching}
 use Rattle.jv_client.specs.declared.doing.Doing.{Doing}
 use Rattle.jv_client.specs.declared.doing.Progress.TheVariants.{Reading, Working}
@@ -33,16 +32,16 @@ use Rattle.jv_client.specs.ClientValue.{ClientValue, session_here}
 use Rattle.jv_client.specs.Ending.{ended}
 use Rattle.jv_client.specs.Getting.{Fills}
 use Rattle.jv_client.specs.Makes.{Makes}
-use Rattle.jv_client.specs.Reading.{ClientComesTo, GoesOnAfter, LooksOn, OnlyLooksUp, cache_in, next_of, put_at}
+use Rattle.jv_client.specs.Reading.{ClientComesTo, GoesOnAfter, LooksOn, OnlyLooksUp, put_at, views_of}
 use Rattle.jv_client.specs.UnderWay.{moved_to}
 use Rattle.jv_client.proofs.AnswerLaws.{makes-as}
 use Rattle.jv_client.proofs.ReaderLaws.{IsAsking, cached-known}
 use Rattle.jv_client.proofs.GoneOnLaws.{going_on, over}
-use Rattle.jv_client.proofs.LookLaws.{look-on, look-over, not_seen, seen_handle, seen_handles, seen_opened, view_of}
+use Rattle.jv_client.proofs.LookLaws.{look-on, look-over, looked-on, not_seen, seen_handle, seen_handles, seen_opened}
+use Rattle.jv_client.proofs.LookLaws.{view_of}
 use Rattle.jv_client.proofs.UnlookedLaws.{look-out}
 use Rattle.jv_client.proofs.GotLaws.{get-on, get-out, get-over}
-use Rattle.jv_fetching.proofs.CacheLaws.{cache_of-looks, finds_looks, finds_then}
-use Rattle.jv_client.proofs.LooksLaws.{needs-found}
+use Rattle.jv_fetching.proofs.CacheLaws.{cache_of-looks, for_looks}
 
 -- the client whose reading was taken out, with these handles and this cache
 abbrev pub taken_out : List (Option Handle) → Cached → Doing → ClientValue → ClientValue
@@ -55,19 +54,22 @@ taken_out handles cache d h = record h {
 -- ---- what was looked up
 
 -- of that client
-record LookedUp (next : Option Need) (handles : List (Option Handle)) (cache : Cached) (d : Doing)
-    (h after : ClientValue) : Type 0 where
+record LookedUp (fetch : Fetching) (to : Option Ahead) (handles : List (Option Handle)) (file : Handle) (cache : Cached)
+    (d : Doing) (h after : ClientValue) : Type 0 where
   later : Cached
-  looks : LooksOn next cache later
+  looks : LooksOn file.views fetch to cache later
   after_is : after ≡ taken_out handles later d h
 
-looked_up : (next : Option Need) (handles : List (Option Handle)) (cache : Cached) (d : Doing) (h after : ClientValue)
-    → OnlyLooksUp next (taken_out handles cache d h) after → LookedUp next handles cache d h after
-looked_up next handles cache d h after only =
+looked_up : (fetch : Fetching) (to : Option Ahead) (handles : List (Option Handle)) (file : Handle) (cache : Cached)
+    (d : Doing) (h after : ClientValue) → file_of handles (handle_of d.op) ≡ Some file
+    → OnlyLooksUp fetch to (taken_out handles cache d h) after → LookedUp fetch to handles file cache d h after
+looked_up fetch to handles file cache d h after opened only =
     let same : only.cache ≡ cache = (let was : Some cache ≡ Some only.cache = only.was in cc) in
+    let by_views : LooksOn file.views fetch to only.cache only.later =
+    subst (λ (o : Option Handle). LooksOn (views_of o) fetch to only.cache only.later) opened only.looks in
     record {
       later = only.later;
-      looks = subst (λ (cache : Cached). LooksOn next cache only.later) same only.looks;
+      looks = subst (λ (cache : Cached). LooksOn file.views fetch to cache only.later) same by_views;
       after_is = only.after_is;
     }
 
@@ -94,11 +96,11 @@ module _ (now entry block : ℕ) (h : ClientValue) (d : Doing) (offset len : ℕ
 
   -- the reading goes ahead
   pub look-came : (ahead : Ahead) (then after : ClientValue) (done : Made)
-      → OnlyLooksUp (next_of ahead) (taken_out handles cache d h) then
+      → OnlyLooksUp fetch (Some ahead) (taken_out handles cache d h) then
       → ClientComesTo fetch (taken_out handles cache d h) ahead
       → GoesOnAfter (Look file.inode window) ahead then after done → Makes now entry h after before used done
   look-came (Needs f need) then after done only comes goes =
-      let up = looked_up (Some need) handles cache d h then only in
+      let up = looked_up fetch (Some (Needs f need)) handles seen cache d h then opened only in
       let to = comes (put_at (Working 0 0 0) d) seen cache refl opened refl in
       let is : after ≡ going_on handles up.later f need d h =
       goes.0 ∙ ap (λ (x : ClientValue). record x { doing = option_map (moved_to (Reading f need)) x.doing }) up.after_is in
@@ -107,7 +109,7 @@ module _ (now entry block : ℕ) (h : ClientValue) (d : Doing) (offset len : ℕ
       (look-on now entry block h d offset len cache fetch window asks before length_is keeper looked looks up.later
       f need up.looks to.0 to.1 to.2 to.3)
   look-came (Read found) then after done only comes goes =
-      let up = looked_up None handles cache d h then only in
+      let up = looked_up fetch (Some (Read found)) handles seen cache d h then opened only in
       let to = comes (put_at (Working 0 0 0) d) seen cache refl opened refl in
       let is : after ≡ over handles up.later h = goes.after_is ∙ ap ended up.after_is in
       makes-as now entry h after (over handles up.later h) before used used done _ is refl goes.made_is
@@ -115,14 +117,15 @@ module _ (now entry block : ℕ) (h : ClientValue) (d : Doing) (offset len : ℕ
       up.looks found to)
 
   -- or memory ran out then, and the view is dropped again
-  pub look-lost : (then after : ClientValue) (done : Made) → OnlyLooksUp None (taken_out handles cache d h) then
+  pub look-lost : (then after : ClientValue) (done : Made) → OnlyLooksUp fetch None (taken_out handles cache d h) then
       → after ≡ ended (record then {
         handles = with_file (handle_of d.op) (unseen_by window (file_of then.handles (handle_of d.op))) then.handles;
       })
       → done ≡ made.Answer (ToldRefused NoMemory) (Refused NoMemory)
       → Makes now entry h after before used done
   look-lost then after done only after_is made_is =
-      let up = looked_up None handles cache d h then only in
+      let up = looked_up fetch None handles seen cache d h then opened only in
+      let some = up.looks in
       let back : with_file (handle_of d.op) (unseen_by window (file_of handles (handle_of d.op))) handles ≡ h.handles =
       unseen_by-seen_by window (view_of entry looked) h.handles (handle_of d.op) file asks.reads.opened
       (not_seen file.views fetch.parts window asks.wants.1) handles refl in
@@ -135,10 +138,11 @@ module _ (now entry block : ℕ) (h : ClientValue) (d : Doing) (offset len : ℕ
       makes-as now entry h after (over h.handles up.later h) before used used done
       (made.Answer (ToldRefused NoMemory) (Refused NoMemory)) is refl made_is
       (look-out now entry block h d offset len cache fetch window asks before length_is keeper up.later
-      (finds_then (cache_in h.limits.entries h.cache) cache up.later
-      (needs-found block h d fetch cache window asks.needs) up.looks)
+      (looked-on now entry block h d offset len cache fetch window asks before length_is keeper looked looks
+      (made.Answer (ToldRefused NoMemory) (Refused NoMemory)) (over h.handles up.later h) refl some.0 up.later some.1
+      (λ goes. absurd (cc goes)))
       (λ s g has client. cache_of-looks g.sizes before.yard.setting.block g.blocks cache up.later
-      (finds_looks cache up.later up.looks)
+      (for_looks Nothing cache up.later some.1.looks)
       (cached-known asks before length_is s g has client))
       looks.looks.rows_are looks.looks.opened_at looks.looks.counts)
 
@@ -153,32 +157,32 @@ module _ (now entry block : ℕ) (h : ClientValue) (d : Doing) (offset len : ℕ
   now_used = record before { yard = yard }
 
   pub get-came : (ahead : Ahead) (then after : ClientValue) (done : Made)
-      → OnlyLooksUp (next_of ahead) (taken_out h.handles kept d h) then
+      → OnlyLooksUp filled (Some ahead) (taken_out h.handles kept d h) then
       → ClientComesTo filled (taken_out h.handles kept d h) ahead
       → GoesOnAfter Quiet ahead then after done → Makes now entry h after before now_used done
   get-came (Needs f need) then after done only comes goes =
-      let up = looked_up (Some need) h.handles kept d h then only in
+      let up = looked_up filled (Some (Needs f need)) h.handles asks.reads.file kept d h then asks.reads.opened only in
       let to = comes (put_at (Working 0 0 0) d) asks.reads.file kept refl asks.reads.opened refl in
       let is : after ≡ going_on h.handles up.later f need d h =
       goes.0 ∙ ap (λ (x : ClientValue). record x { doing = option_map (moved_to (Reading f need)) x.doing }) up.after_is in
       makes-as now entry h after (going_on h.handles up.later f need d h) before now_used now_used done (made.Request Quiet) is refl
       goes.1
       (get-on now entry block h d offset len cache fetch b asks before length_is low yard bytes gets filled kept fills
-      up.later (Some need) up.looks f need refl to.0 to.1 to.2 to.3)
+      up.later (Some (Needs f need)) up.looks f need refl to.0 to.1 to.2 to.3)
   get-came (Read found) then after done only comes goes =
-      let up = looked_up None h.handles kept d h then only in
+      let up = looked_up filled (Some (Read found)) h.handles asks.reads.file kept d h then asks.reads.opened only in
       let to = comes (put_at (Working 0 0 0) d) asks.reads.file kept refl asks.reads.opened refl in
       let is : after ≡ over h.handles up.later h = goes.after_is ∙ ap ended up.after_is in
       makes-as now entry h after (over h.handles up.later h) before now_used now_used done _ is refl goes.made_is
       (get-over now entry block h d offset len cache fetch b asks before length_is low yard bytes gets filled kept fills
-      up.later None up.looks refl found to)
+      up.later (Some (Read found)) up.looks found refl to)
 
   -- or memory ran out then
-  pub get-lost : (then after : ClientValue) (done : Made) → OnlyLooksUp None (taken_out h.handles kept d h) then
+  pub get-lost : (then after : ClientValue) (done : Made) → OnlyLooksUp filled None (taken_out h.handles kept d h) then
       → after ≡ ended then → done ≡ made.Answer (ToldRefused NoMemory) (Refused NoMemory)
       → Makes now entry h after before now_used done
   get-lost then after done only after_is made_is =
-      let up = looked_up None h.handles kept d h then only in
+      let up = looked_up filled None h.handles asks.reads.file kept d h then asks.reads.opened only in
       makes-as now entry h after (over h.handles up.later h) before now_used now_used done
       (made.Answer (ToldRefused NoMemory) (Refused NoMemory)) (after_is ∙ ap ended up.after_is) refl made_is
       (get-out now entry block h d offset len cache fetch b asks before length_is low yard bytes gets filled kept fills

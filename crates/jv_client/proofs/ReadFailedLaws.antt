@@ -107,7 +107,8 @@ module _ (now entry block : ℕ) (h : ClientValue) (d : Doing) (offset len : ℕ
   pub failed : is_failure (ToldRefused fault) ≡ true
       → UsesDevices (made.Answer (ToldRefused fault) (Refused fault)) before used
       → YardUse now h (made.Answer (ToldRefused fault) (Refused fault)) before.yard used.yard
-      → MovesInRead h d (made.Answer (ToldRefused fault) (Refused fault)) before.yard used.yard None (Some later)
+      → MovesInRead h d (made.Answer (ToldRefused fault) (Refused fault)) before.yard used.yard
+      (over h.handles later h) (Some later)
       → Makes now entry h (over h.handles later h) before used (made.Answer (ToldRefused fault) (Refused fault))
   failed fails uses yard moves =
       failed-by uses yard

@@ -1,5 +1,5 @@
 -- Readings: how one begins, goes ahead without a request, and what it returns.
-use Rattle.std.proofs.Common.{◌≡◌, ℕ, zero, ◌+◌, ◌-◌, ◌*◌, ◌/◌, ◌≤◌, ◌<◌, true, false, List, length}
+use Rattle.std.proofs.Common.{◌≡◌, ℕ, zero, ◌+◌, ◌-◌, ◌*◌, ◌/◌, ◌≤◌, ◌<◌, true, false, List, [], length}
 use Rattle.std.proofs.Common.{suc, Option, None, Some, refl, sym, ap, subst, ◌∙◌, arith}
 use Rattle.std.specs.Prelude.{is_some, not, IfSome, IsSomeAnd, IsTrue, OnErr, Result, Ok, Err}
 use Rattle.std.specs.Option.{option_map}
@@ -7,6 +7,7 @@ use Rattle.jv_model.specs.declared.limits.TheConstants.{FILE_END, WINDOW}
 use Rattle.jv_model.specs.declared.op.Op.TheVariants as op
 use Rattle.jv_model.specs.declared.profile.Does.{Does}
 use Rattle.jv_model.specs.declared.profile.Does.TheVariants as does
+use Rattle.jv_model.specs.declared.slice.BlockId.{BlockId}
 use Rattle.jv_model.specs.client.ModelClient.{ModelClient, OpenFile, file_of}
 use Rattle.jv_model.specs.client.Profile.{handle_of}
 use Rattle.jv_model.specs.client.Submission.{is_flushed}
@@ -24,7 +25,8 @@ use Rattle.jv_fetching.specs.declared.need.Need.{Need}
 use Rattle.jv_fetching.specs.declared.need.Need.TheVariants.{Block as NeedsBlock, Look as NeedsLook, Nothing}
 use Rattle.jv_fetching.specs.Fetching.{Fetching, begins, fetched_of}
 use Rattle.jv_fetching.specs.Going.{CanFetch, IsFetching}
-use Rattle.jv_fetching.specs.Calls.{AreSizedBy, Asks, FindsAll, HasCached, IsCacheOf, LooksFor, Wants, cache_key}
+use Rattle.jv_fetching.specs.Ahead.{blocks_ahead}
+use Rattle.jv_fetching.specs.Calls.{AreSizedBy, Asks, AsksSome, HasCached, IsCacheOf, Wants, cache_key}
 use Rattle.jv_fetching.specs.Calls.{first_seen}
 use Rattle.jv_fetching.specs.Shows.{IsReadBy, One, Two}
 use Rattle.jv_fetching.proofs.CacheLaws.{LooksUp, cache_of-empty, cache_of-has, cache_of-looks, looks_keep}
@@ -45,9 +47,9 @@ use Rattle.jv_client.specs.UnderWay.{IsAt, IsReading, IsReady, IsUnderWay, Lacks
 use Rattle.jv_client.specs.UnderWay.{covered, left_of, reading_steps, steps_in, steps_left, steps_of}
 use Rattle.jv_client.specs.Reading.{Already, Begins, ClientComesTo, ComesTo, FromStart, GoesAhead, IsAhead, IsCachedAs}
 use Rattle.jv_client.specs.Reading.{IsMade, LookedUp, LooksOn, OnlyLooksUp, ReadsAtOnce, Untouched, cache_in, need_at, need_in}
-use Rattle.jv_client.specs.Reading.{new_cache, next_of, put_at, read_of}
+use Rattle.jv_client.specs.Reading.{new_cache, put_at, read_of, start_ahead, views_in}
 use Rattle.jv_client.proofs.FormLaws.{that_does, under_way}
-use Rattle.jv_client.proofs.LooksLaws.{looks-on}
+use Rattle.jv_client.proofs.LooksLaws.{looks-on, views-in}
 
 -- ---- an operation that reads
 
@@ -220,17 +222,18 @@ module _ (h : ClientValue) where
 -- ---- a block that is needed isn't in the cache
 
 -- when it is asked for
-pub asks-lacks : (next : Need) (f g : Fetching) (before after : Cached) → Asks next f g before after → LacksNeed next before
-asks-lacks (NeedsLook window) f g before after asks = tt
-asks-lacks (NeedsBlock b) f g before after asks = asks.looks.last.1
-asks-lacks Nothing f g before after asks = tt
+pub asks-lacks : (due rest : List BlockId) (next : Need) (before after : Cached) → Asks due rest next before after
+    → LacksNeed next before
+asks-lacks due rest (NeedsLook window) before after asks = tt
+asks-lacks due rest (NeedsBlock b) before after asks = asks.looks.last.1
+asks-lacks due rest Nothing before after asks = tt
 
--- where nothing is, each block that was looked up is there
-pub asks-none : (next : Need) (f g : Fetching) (before after : Cached) → next ≡ Nothing → Asks next f g before after
-    → FindsAll before after
-asks-none next f g before after none asks =
-    let looks : LooksFor Nothing before after = subst (λ n. LooksFor n before after) none asks.looks in
-    subst (FindsAll before) (sym looks.last) looks.finds
+-- where nothing is needed, each block that was ahead was looked up and is there
+pub asks-all : (due rest : List BlockId) (next : Need) (before after : Cached) → next ≡ Nothing → rest ≡ []
+    → Asks due rest next before after → Asks due [] Nothing before after
+asks-all due rest next before after none all asks =
+    subst (λ (rest : List BlockId). Asks due rest Nothing before after) all
+    (subst (λ n. Asks due rest n before after) none asks)
 
 -- and after look-ups
 pub lacks-later : (next : Need) (before after : Cached) → LooksUp before after → LacksNeed next before
@@ -276,11 +279,21 @@ module _ (offset len block : ℕ) (h : ClientValue) (d : Doing) (busy : h.doing 
     later-knows sizes block blocks known =
         cache_of-looks sizes block blocks cache later looks (has.knows sizes block blocks known)
 
-    pub begins-cached : FindsAll cache later → IsCachedAs h went
-    begins-cached finds = record {
+    -- what it has ahead
+    abbrev due : List BlockId
+    due = blocks_ahead on.file.views start
+
+    same-ahead : start_ahead offset len block h ≡ due
+    same-ahead = ap (λ (views : SeenViews). blocks_ahead views start) (views-in h d on.file busy opened)
+
+    pub begins-cached : (rest : List BlockId) → Asks due rest Nothing cache later → IsCachedAs offset len block h went
+    begins-cached rest asks = record {
       cache = Some later;
+      rest = rest;
       after_is = refl;
-      ahead = LookedUp None later (subst (λ (cache : Cached). FindsAll cache later) has.is finds) refl;
+      ahead = LookedUp rest Nothing later
+          (subst (λ (bs : List BlockId). Asks bs rest Nothing (cache_in h.limits.entries h.cache) later) (sym same-ahead)
+          (subst (λ (cache : Cached). Asks due rest Nothing cache later) has.is asks)) refl;
       knows = later-knows;
     }
 
@@ -295,7 +308,7 @@ module _ (offset len block : ℕ) (h : ClientValue) (d : Doing) (busy : h.doing 
 
     -- and needs something
     module _ (fetch : Fetching) (next : Need) (comes : ComesTo on.file.views cache start (ahead.Needs fetch next))
-        (for : LooksFor next cache later) where
+        (for : Asks due (blocks_ahead on.file.views fetch) next cache later) where
       abbrev put : Doing
       put = put_at (Reading fetch next) d
 
@@ -331,8 +344,8 @@ module _ (offset len block : ℕ) (h : ClientValue) (d : Doing) (busy : h.doing 
             let one : later ≡ other = cc same in
             FromStart offset len on.file (ap need_in (sym busy) ∙ first) is opened
             (subst (λ (cache : Cached). GoesAhead on.file.views cache start fetch) has.is goes) comes.1
-            (subst (LooksFor next (cache_in h.limits.entries h.cache)) one
-            (subst (λ (cache : Cached). LooksFor next cache later) has.is for));
+            (subst (Asks due (blocks_ahead on.file.views fetch) next (cache_in h.limits.entries h.cache)) one
+            (subst (λ (cache : Cached). Asks due (blocks_ahead on.file.views fetch) next cache later) has.is for));
         is = refl;
         reads = (offset, len, is);
         fewer = (let few = goes.few in let weight = fetches_go_on.weight block offset len on.some on.low in
@@ -363,10 +376,12 @@ module _ (offset len block : ℕ) (h : ClientValue) (d : Doing) (busy : h.doing 
       }
 
     -- or it has read all
-    pub begins-read : (found : Found) → ComesTo on.file.views cache start (ahead.Read found) → FindsAll cache later
-        → ReadsAtOnce offset len block h went found
-    begins-read found comes finds = record {
-      same = begins-cached finds;
+    pub begins-read : (found : Found) → ComesTo on.file.views cache start (ahead.Read found)
+        → Asks due [] Nothing cache later → ReadsAtOnce offset len block h went found
+    unfolding begins-cached
+    begins-read found comes asks = record {
+      same = begins-cached [] asks;
+      all = refl;
       read = λ d' file sizes blocks busy' opened' sized known.
           let same : d ≡ d' = (let both : Some d ≡ Some d' = sym busy ∙ busy' in cc both) in
           let named : Some on.file ≡ Some file = sym opened ∙ ap (λ (d : Doing). file_of h.handles (handle_of d.op)) same
@@ -420,7 +435,8 @@ made_in entries None after cache made is =
 
 module _ (entries : ℕ) (h middle after : ClientValue) (made : Option Cached) (entries_are : entries ≡ h.limits.entries)
     (is_made : IsMade entries h.cache made)
-    (middle_is : middle ≡ record h { cache = made }) (came : Option Need) (looks : OnlyLooksUp came middle after) where
+    (middle_is : middle ≡ record h { cache = made }) (fetch : Fetching) (to : Option Ahead)
+    (looks : OnlyLooksUp fetch to middle after) where
   was : made ≡ Some looks.cache
   was = sym (ap (λ (h : ClientValue). h.cache) middle_is) ∙ looks.was
 
@@ -435,18 +451,30 @@ module _ (entries : ℕ) (h middle after : ClientValue) (made : Option Cached) (
   after_went = looks.after_is ∙ ap (λ (h : ClientValue). record h { cache = Some looks.later }) middle_is
 
   looks-up : LooksUp looks.cache looks.later
-  looks-up = looks-on came looks.cache looks.later looks.looks
+  looks-up = looks-on (views_in middle) fetch to looks.cache looks.later looks.looks
 
-  pub ahead-cached : came ≡ None → IsCachedAs h after
-  ahead-cached none = record {
-    cache = Some looks.later;
-    after_is = after_went;
-    ahead = LookedUp None looks.later (subst (λ (cache : Cached). FindsAll cache looks.later) has_cache.is
-        (subst (λ o. LooksOn o looks.cache looks.later) none looks.looks)) refl;
-    knows = λ sizes block blocks known.
-        cache_of-looks sizes block blocks looks.cache looks.later looks-up
-        (has_cache.knows sizes block blocks known);
-  }
+  -- the same views
+  looks-here : LooksOn (views_in h) fetch to looks.cache looks.later
+  looks-here = subst (λ (c : ClientValue). LooksOn (views_in c) fetch to looks.cache looks.later) middle_is looks.looks
+
+  -- it failed
+  pub ahead-cached : (offset len block : ℕ) → fetch ≡ begins block (asked_parts offset len) → to ≡ None
+      → IsCachedAs offset len block h after
+  ahead-cached offset len block starts none =
+      let some : AsksSome (start_ahead offset len block h) looks.cache looks.later =
+      subst (λ (f : Fetching). AsksSome (blocks_ahead (views_in h) f) looks.cache looks.later) starts
+      (subst (λ o. LooksOn (views_in h) fetch o looks.cache looks.later) none looks-here) in
+      record {
+        cache = Some looks.later;
+        rest = some.0;
+        after_is = after_went;
+        ahead = LookedUp some.0 Nothing looks.later
+            (subst (λ (cache : Cached). Asks (start_ahead offset len block h) some.0 Nothing cache looks.later) has_cache.is
+            some.1) refl;
+        knows = λ sizes block blocks known.
+            cache_of-looks sizes block blocks looks.cache looks.later looks-up
+            (has_cache.knows sizes block blocks known);
+      }
 
   module _ (offset len block : ℕ) (does : does_of h.doing ≡ Some (does.Reads offset len)) (ready : IsReady h)
       (none : left h ≡ None) (first : need_in h.doing ≡ None) where
@@ -461,47 +489,55 @@ module _ (entries : ℕ) (h middle after : ClientValue) (made : Option Cached) (
         (subst (λ (fetch : Fetching). ComesTo here.file.file.views looks.cache fetch outcome) of_fetch (comes here.d here.file.file looks.cache (ap (λ (h : ClientValue). h.doing) middle_is ∙ here.busy)
         (ap (λ (h : ClientValue). file_of h.handles (handle_of here.d.op)) middle_is ∙ here.opened) looks.was))
 
-    pub begins-none : (start : Fetching) (outcome : Ahead) (fetch : Fetching) (next : Need) → came ≡ next_of outcome
-        → start ≡ begins block (asked_parts offset len) → outcome ≡ ahead.Needs fetch next
-        → ClientComesTo start middle outcome → (doing : Option Doing) (end : ClientValue)
-        → doing ≡ option_map (put_at (Reading fetch next)) after.doing → end ≡ record after { doing = doing }
+    -- what was looked up on the way
+    looks-by : (goal : Ahead) → fetch ≡ begins block (asked_parts offset len) → to ≡ Some goal
+        → LooksOn here.file.file.views (begins block (asked_parts offset len)) (Some goal) looks.cache looks.later
+    looks-by goal starts is =
+        subst (λ (views : SeenViews). LooksOn views (begins block (asked_parts offset len)) (Some goal) looks.cache looks.later)
+        (views-in h here.d here.file.file here.busy here.opened)
+        (subst (λ (f : Fetching). LooksOn (views_in h) f (Some goal) looks.cache looks.later) starts
+        (subst (λ o. LooksOn (views_in h) fetch o looks.cache looks.later) is looks-here))
+
+    pub begins-none : (outcome : Ahead) (f : Fetching) (next : Need) → to ≡ Some outcome
+        → fetch ≡ begins block (asked_parts offset len) → outcome ≡ ahead.Needs f next
+        → ClientComesTo fetch middle outcome → (doing : Option Doing) (end : ClientValue)
+        → doing ≡ option_map (put_at (Reading f next)) after.doing → end ≡ record after { doing = doing }
         → Begins offset len block h end None
-    begins-none start outcome fetch next came_is of_start of_ahead comes doing end doing_is put_is =
+    begins-none outcome f next to_is of_start of_ahead comes doing end doing_is put_is =
         let d = here.d in
-        let to = comes-here start outcome (ahead.Needs fetch next) of_start of_ahead comes in
-        let for : LooksFor next looks.cache looks.later =
-        subst (λ o. LooksOn o looks.cache looks.later) (came_is ∙ ap next_of of_ahead) looks.looks in
-        let end_is : end ≡ record after { doing = option_map (put_at (Reading fetch next)) after.doing } =
+        let comes' = comes-here fetch outcome (ahead.Needs f next) of_start of_ahead comes in
+        let for = looks-by (ahead.Needs f next) of_start (to_is ∙ ap Some of_ahead) in
+        let end_is : end ≡ record after { doing = option_map (put_at (Reading f next)) after.doing } =
         put_is ∙ ap (λ (o : Option Doing). record after { doing = o }) doing_is in
-        let began : ClientValue = record h { cache = Some looks.later; doing = Some (put_at (Reading fetch next) d) } in
+        let began : ClientValue = record h { cache = Some looks.later; doing = Some (put_at (Reading f next) d) } in
         let is : end ≡ began =
         end_is
-        ∙ ap (λ (h : ClientValue). record h { doing = option_map (put_at (Reading fetch next)) h.doing }) after_went
+        ∙ ap (λ (h : ClientValue). record h { doing = option_map (put_at (Reading f next)) h.doing }) after_went
         ∙ ap (λ (o : Option Doing). record h {
           cache = Some looks.later;
-          doing = option_map (put_at (Reading fetch next)) o;
+          doing = option_map (put_at (Reading f next)) o;
         }) here.busy in
         subst (λ (c : ClientValue). IsAhead block h c × IsReady c) (sym is) (
           begins-ahead offset len block h d here.busy here.does_is ready none first here.file looks.cache looks.later has_cache
-              looks-up fetch next to for,
+              looks-up f next comes' for,
           begins-ready offset len block h d here.busy here.does_is ready none first here.file looks.cache looks.later has_cache
-              looks-up fetch next to for,
+              looks-up f next comes' for,
         )
 
-    pub begins-some : (start : Fetching) (outcome : Ahead) (found : Found) → came ≡ next_of outcome
-        → start ≡ begins block (asked_parts offset len) → outcome ≡ ahead.Read found
-        → ClientComesTo start middle outcome → Begins offset len block h after (Some found)
-    begins-some start outcome found came_is of_start of_ahead comes =
-        let finds : FindsAll looks.cache looks.later =
-        subst (λ o. LooksOn o looks.cache looks.later) (came_is ∙ ap next_of of_ahead) looks.looks in
+    pub begins-some : (outcome : Ahead) (found : Found) → to ≡ Some outcome
+        → fetch ≡ begins block (asked_parts offset len) → outcome ≡ ahead.Read found
+        → ClientComesTo fetch middle outcome → Begins offset len block h after (Some found)
+    begins-some outcome found to_is of_start of_ahead comes =
         subst (λ (c : ClientValue). ReadsAtOnce offset len block h c found) (sym after_went)
         (begins-read offset len block h here.d here.busy here.does_is ready none first here.file looks.cache looks.later
-        has_cache looks-up found (comes-here start outcome (ahead.Read found) of_start of_ahead comes) finds)
+        has_cache looks-up found (comes-here fetch outcome (ahead.Read found) of_start of_ahead comes)
+        (looks-by (ahead.Read found) of_start (to_is ∙ ap Some of_ahead)))
 
 -- a client that only kept its cache
-pub same-cached : (h : ClientValue) → IsCachedAs h h
-same-cached h = record {
+pub same-cached : (offset len block : ℕ) (h : ClientValue) → IsCachedAs offset len block h h
+same-cached offset len block h = record {
   cache = h.cache;
+  rest = start_ahead offset len block h;
   after_is = refl;
   ahead = Untouched refl;
   knows = λ sizes block blocks known. known;

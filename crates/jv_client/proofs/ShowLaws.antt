@@ -1,5 +1,5 @@
 -- A reading that asks for nothing is answered with what its views show, or with the memory that it lacks.
-use Rattle.std.proofs.Common.{◌≡◌, ℕ, ◌+◌, not, true, false, [], ◌∷◌, length, Option, None, Some}
+use Rattle.std.proofs.Common.{◌≡◌, ℕ, ◌+◌, not, true, false, List, [], ◌∷◌, length, Option, None, Some}
 use Rattle.std.proofs.Common.{refl, sym, ap, subst, ◌∙◌, arith}
 use Rattle.std.specs.Prelude.{is_some, IfSome}
 use Rattle.std.proofs.lemmas.Bool.{false_from_ne_true, or_from}
@@ -13,6 +13,7 @@ use Rattle.jv_model.specs.declared.op.Reply.TheVariants.{Data, Refused as Refuse
 use Rattle.jv_model.specs.declared.op.Step.TheVariants.{Done}
 use Rattle.jv_model.specs.declared.profile.Does.{Does}
 use Rattle.jv_model.specs.declared.profile.Does.TheVariants as does
+use Rattle.jv_model.specs.declared.slice.BlockId.{BlockId}
 use Rattle.jv_model.specs.client.ModelClient.{ModelClient, Doing as ModelDoing, file_of}
 use Rattle.jv_model.specs.client.Profile.{handle_of}
 use Rattle.jv_model.specs.journal.Reading.{asked_parts}
@@ -23,7 +24,11 @@ use Rattle.jv_contents.specs.Blocks.{Blocks, known_by}
 use Rattle.jv_shared.specs.Shared.{HasStore, Known, Shared}
 use Rattle.jv_shared.proofs.SameLaws.{same-none, same-stays}
 use Rattle.jv_handles.specs.declared.handle.Handle.{Handle}
+use Rattle.jv_handles.specs.Views.{SeenViews}
+use Rattle.jv_fetching.specs.declared.need.Need.TheVariants.{Nothing}
+use Rattle.jv_fetching.specs.Ahead.{blocks_ahead}
 use Rattle.jv_fetching.specs.Calls.{IsCacheOf}
+use Rattle.jv_fetching.specs.Fetching.{begins}
 use Rattle.jv_fetching.specs.Shows.{IsReadBy}
 use Rattle.jv_steps.specs.IsStep.{IsStep}
 use Rattle.jv_steps.proofs.ReadStepLaws.{read-answered_alone, told-read}
@@ -41,14 +46,16 @@ use Rattle.jv_client.specs.Held.{GoesOn, IsClient, IsHeld, in_flight, stage_of}
 use Rattle.jv_client.specs.Makes.{Makes, says_failure}
 use Rattle.jv_client.specs.Transacting.{Fails}
 use Rattle.jv_client.specs.UnderWay.{IsReady, asks_more, does_of, has_more, has_not_seen, has_segment, left}
-use Rattle.jv_client.specs.Reading.{Begins, IsAhead, IsCachedAs, ReadsAtOnce, Shows, need_in, read_of, told_read}
+use Rattle.jv_client.specs.Reading.{Begins, IsAhead, IsCachedAs, LooksAhead, ReadsAtOnce, Shows, ahead_from, need_in}
+use Rattle.jv_client.specs.Reading.{read_of, start_ahead, told_read}
 use Rattle.jv_client.specs.CacheUse.{CacheUse, LooksOnly}
 use Rattle.jv_client.proofs.CacheUseLaws.{cache-read}
+use Rattle.jv_client.proofs.LooksLaws.{from-start, views-in}
 use Rattle.jv_client.proofs.FormLaws.{under_way}
 use Rattle.jv_client.proofs.HeldLaws.{client-doing, doing_of, holds-doing}
 use Rattle.jv_client.proofs.KeptLaws.{client-ended}
 use Rattle.jv_client.proofs.AnswerLaws.{makes-as, makes-ended, not_ending, request-lands, same-yard, uses-none}
-use Rattle.jv_client.proofs.ReadingLaws.{NotBegun, ReadsFile, flushed-here, flushed-model, not-begun, reads-as, reads-file}
+use Rattle.jv_client.proofs.ReadingLaws.{NotBegun, ReadsFile, ReadsHere, flushed-here, flushed-model, not-begun, reads-as}
 use Rattle.jv_client.proofs.ReadingLaws.{reads-here, seen_first, seen_window, sized-here, there}
 
 -- ---- a client with another cache
@@ -124,32 +131,51 @@ module _ (now entry : ℕ) (h : ClientValue) (ready : IsReady h) (v : Shared) (c
 
 -- ---- memory ran out before it asked for anything
 
-module _ (now entry : ℕ) (h middle after : ClientValue) (d : Doing) (busy : h.doing ≡ Some d) (ready : IsReady h)
+-- the blocks that it has ahead as it begins
+due-here : (offset len block : ℕ) (h : ClientValue) (here : ReadsHere h offset len) → need_in h.doing ≡ None
+    → start_ahead offset len block h ≡ ahead_from block h here.d
+due-here offset len block h here first =
+    ap (λ (views : SeenViews). blocks_ahead views (begins block (asked_parts offset len)))
+    (views-in h here.d here.file.file here.busy here.opened)
+    ∙ sym (from-start block h here.d offset len here.file.file (ap need_in (sym here.busy) ∙ first) here.does_is here.opened)
+
+module _ (now entry offset len : ℕ) (h middle after : ClientValue) (here : ReadsHere h offset len) (ready : IsReady h)
     (v : Shared) (done : Made) where
-  pub fails-reading : is_read d.op ≡ true → left h ≡ None → IsCachedAs h middle → Fails NoMemory middle after done
-      → Makes now entry h after v v done
-  fails-reading read none same fails =
+  pub fails-reading : left h ≡ None → need_in h.doing ≡ None → IsCachedAs offset len v.yard.setting.block h middle
+      → Fails NoMemory middle after done → Makes now entry h after v v done
+  fails-reading none first same fails =
       makes-as now entry h after (record h { cache = same.cache; doing = None }) v v v done
       (made.Answer (ToldRefused NoMemory) (RefusedReply NoMemory))
       (fails.after_is ∙ ap ended same.after_is) refl fails.made_is
       (answered-alone now entry h ready v same.cache same.knows (ToldRefused NoMemory) (RefusedReply NoMemory)
-      (cache-read h d busy (record h { cache = same.cache; doing = None })
-      (made.Answer (ToldRefused NoMemory) (RefusedReply NoMemory)) v.yard v.yard read refl
-      (LooksOnly None none refl (λ goes. refl) same.ahead) tt)
+      (cache-read h here.d here.busy (record h { cache = same.cache; doing = None })
+      (made.Answer (ToldRefused NoMemory) (RefusedReply NoMemory)) v.yard v.yard (ap is_read here.file.op_is) refl
+      (LooksOnly same.rest Nothing none refl (λ goes. absurd (cc goes))
+      (subst (λ (due : List BlockId). LooksAhead due h.limits.entries h.cache same.cache same.rest Nothing)
+      (due-here offset len v.yard.setting.block h here first) same.ahead)) tt)
       (λ device. refl)
-      (λ s g store is. failure-request s g v v store (same-none v) h.id now (in_flight h) (doing_of d)
-      (client-doing g v (s.clients h.id) s.count h d busy is) (not_ending d) NoMemory refl))
+      (λ s g store is. failure-request s g v v store (same-none v) h.id now (in_flight h) (doing_of here.d)
+      (client-doing g v (s.clients h.id) s.count h here.d here.busy is) (not_ending here.d) NoMemory refl))
 
 -- ---- it has read all
 
-module _ (now entry offset len : ℕ) (h middle : ClientValue) (d : Doing) (busy : h.doing ≡ Some d)
-    (is : d.does ≡ does.Reads offset len) (ready : IsReady h) (none : left h ≡ None) (first : need_in h.doing ≡ None)
-    (v : Shared) (found : Found) (reads : ReadsAtOnce offset len v.yard.setting.block h middle found) where
-  on : ReadsFile h d offset len
-  on = reads-file h d offset len is (under_way h d busy ready).form
+module _ (now entry offset len : ℕ) (h middle : ClientValue) (here : ReadsHere h offset len) (ready : IsReady h)
+    (none : left h ≡ None) (first : need_in h.doing ≡ None) (v : Shared) (found : Found)
+    (reads : ReadsAtOnce offset len v.yard.setting.block h middle found) where
+  abbrev d : Doing
+  d = here.d
 
-  opened : file_of h.handles (handle_of d.op) ≡ Some on.file
-  opened = ap (λ o. file_of h.handles (handle_of o)) on.op_is ∙ on.opened
+  abbrev busy : h.doing ≡ Some d
+  busy = here.busy
+
+  abbrev is : d.does ≡ does.Reads offset len
+  is = here.does_is
+
+  abbrev on : ReadsFile h d offset len
+  on = here.file
+
+  abbrev opened : file_of h.handles (handle_of d.op) ≡ Some on.file
+  opened = here.opened
 
   not_begun : NotBegun d
   not_begun = not-begun h d (under_way h d busy ready) (flushed-here h d busy none) (ap need_in (sym busy) ∙ first)
@@ -207,7 +233,9 @@ module _ (now entry offset len : ℕ) (h middle : ClientValue) (d : Doing) (busy
       (answered-alone now entry h ready v reads.same.cache reads.same.knows (told_read found) (Data found.bytes)
       (cache-read h d busy (record h { cache = reads.same.cache; doing = None })
       (made.Answer (told_read found) (Data found.bytes)) v.yard v.yard (ap is_read on.op_is) (ap is_umount on.op_is)
-      (LooksOnly None none refl (λ goes. refl) reads.same.ahead) tt)
+      (LooksOnly reads.same.rest Nothing none refl (λ goes. record { alone = refl; none = reads.all; nothing = refl })
+      (subst (λ (due : List BlockId). LooksAhead due h.limits.entries h.cache reads.same.cache reads.same.rest Nothing)
+      (due-here offset len v.yard.setting.block h here first) reads.same.ahead)) tt)
       (λ device. refl) (λ s g store is. read-request s g store is))
 
 -- ---- from the outcome of a reading that begins
@@ -228,14 +256,15 @@ module _ (offset len block : ℕ) (h middle : ClientValue) (result : Option Foun
   begun-shows now entry after v done found does ready none first same is shows =
       let here = reads-here h offset len does ready in
       let to : ReadsAtOnce offset len block h middle found = subst (Begins offset len block h middle) is begins in
-      shows-reading now entry offset len h middle here.d here.busy here.does_is ready none first v found
+      shows-reading now entry offset len h middle here ready none first v found
       (subst (λ n. ReadsAtOnce offset len n h middle found) same to) after done shows
 
 -- or memory ran out
-pub begun-fails : (now entry offset len : ℕ) (h middle after : ClientValue) (v : Shared) (done : Made)
-    → does_of h.doing ≡ Some (does.Reads offset len) → IsReady h → left h ≡ None → IsCachedAs h middle
+pub begun-fails : (now entry offset len block : ℕ) (h middle after : ClientValue) (v : Shared) (done : Made)
+    → does_of h.doing ≡ Some (does.Reads offset len) → IsReady h → left h ≡ None → need_in h.doing ≡ None
+    → block ≡ v.yard.setting.block → IsCachedAs offset len block h middle
     → Fails NoMemory middle after done → Makes now entry h after v v done
-begun-fails now entry offset len h middle after v done does ready none same fails =
+begun-fails now entry offset len block h middle after v done does ready none first length_is same fails =
     let here = reads-here h offset len does ready in
-    fails-reading now entry h middle after here.d here.busy ready v done (ap is_read here.file.op_is) none same
-    fails
+    fails-reading now entry offset len h middle after here ready v done none first
+    (subst (λ n. IsCachedAs offset len n h middle) length_is same) fails

@@ -1,6 +1,6 @@
 -- A look that reached no view: it is refused since the session or the file is gone, the keeper failed, memory ran out, or
 -- a row is Bad.
-use Rattle.std.proofs.Common.{◌≡◌, ℕ, ◌+◌, true, false, [], ◌∷◌, Option, None, Some, Err, refl, sym, ap, subst}
+use Rattle.std.proofs.Common.{◌≡◌, ℕ, ◌+◌, true, false, [], ◌∷◌, Option, Some, Err, refl, sym, ap, subst}
 use Rattle.std.proofs.Common.{◌∙◌, arith}
 use Rattle.std.specs.Prelude.{unwrap_or}
 use Rattle.std.specs.Option.{option_map}
@@ -35,8 +35,7 @@ use Rattle.jv_shared.proofs.SameLaws.{same-rows, same-stays}
 use Rattle.jv_handles.specs.declared.handle.Handle.{Handle}
 use Rattle.jv_handles.specs.Held.{IsHandle}
 use Rattle.jv_fetching.specs.declared.need.Need.TheVariants.{Look as NeedsLook}
-use Rattle.jv_fetching.specs.declared.need.Need.{Need}
-use Rattle.jv_fetching.specs.Calls.{FindsAll, IsCacheOf}
+use Rattle.jv_fetching.specs.Calls.{IsCacheOf}
 use Rattle.jv_fetching.specs.Fetching.{Fetching}
 use Rattle.jv_fetching.specs.Going.{IsFetching}
 use Rattle.jv_fetching.proofs.SameLaws.{fetches_show}
@@ -56,7 +55,7 @@ use Rattle.jv_client.specs.Held.{Holds, IsClient, in_flight}
 use Rattle.jv_client.specs.Makes.{Makes, StepsTo, UsesDevices, faults_of, is_same_device}
 use Rattle.jv_client.specs.Transacting.{EndsUnmade, refusal_of}
 use Rattle.jv_client.specs.CacheUse.{LooksOnly, MovesInRead, goes_well, has_got}
-use Rattle.jv_client.specs.Reading.{LookedUp, cache_in, put_at}
+use Rattle.jv_client.specs.Reading.{NeedsNext, put_at}
 use Rattle.jv_client.specs.UnderWay.{IsReady}
 use Rattle.jv_client.proofs.CacheUseLaws.{cache-read, cache-refused}
 use Rattle.jv_client.proofs.AnswerLaws.{refused-rests, rests-flight, rests-ready, same-yard}
@@ -66,7 +65,7 @@ use Rattle.jv_client.proofs.KeptLaws.{cache-goes, held-goes, told-client}
 use Rattle.jv_client.proofs.WrittenLaws.{names-held}
 use Rattle.jv_client.proofs.ReaderLaws.{IsAsking, asking, busy_in, cached-known, file_by, flushed-asking, handle_in}
 use Rattle.jv_client.proofs.ReaderLaws.{may_read, none_flying, opened_in}
-use Rattle.jv_client.proofs.LooksLaws.{needs-found}
+use Rattle.jv_client.proofs.LooksLaws.{needs-looked}
 use Rattle.jv_client.proofs.GoneOnLaws.{over}
 use Rattle.jv_client.proofs.ReadFailedLaws.{failed, held-cache}
 use Rattle.jv_client.proofs.LookLaws.{uses-look}
@@ -119,26 +118,28 @@ module _ (now entry block : ℕ) (h : ClientValue) (d : Doing) (offset len : ℕ
   c = asking h cache d fetch (NeedsLook window)
 
   -- the blocks that were looked up before it
-  looked-before : (done : Made) → has_got done ≡ false → (next : Option Need)
-      → (goes_well done ≡ true → None ≡ next)
-      → MovesInRead h d done before.yard before.yard next (Some cache)
-  looked-before done none next goes =
-      LooksOnly None (flushed-asking asks) none goes
-      (LookedUp None cache (needs-found block h d fetch cache window asks.needs) refl)
+  pub looked-before : (done : Made) (after : ClientValue) → has_got done ≡ false → (goes_well done ≡ true → ⊥)
+      → MovesInRead h d done before.yard before.yard after (Some cache)
+  looked-before done after none fails =
+      let looked = needs-looked before.yard.setting.block h d fetch cache (NeedsLook window)
+      (subst (λ n. NeedsNext n h d fetch (NeedsLook window) cache) (sym length_is) asks.needs) in
+      LooksOnly looked.0 looked.1 (flushed-asking asks) none (λ goes. absurd (fails goes)) looked.2
 
   -- memory ran out, before the look or after it
-  pub look-out : (later : Cached) → FindsAll (cache_in h.limits.entries h.cache) later
+  pub look-out : (later : Cached)
+      → MovesInRead h d (made.Answer (ToldRefused NoMemory) (Refused NoMemory)) before.yard before.yard
+      (over h.handles later h) (Some later)
       → ((s : State) (g : Known) → HasStore s.tree g before → IsClient g before (s.clients h.id) s.count h
       → IsCacheOf g.sizes before.yard.setting.block g.blocks later)
       → keeper.rows ≡ before.keeper.rows → keeper.opened ≡ before.keeper.opened → keeper.faults ≡ before.keeper.faults
       → Makes now entry h (over h.handles later h) before used (made.Answer (ToldRefused NoMemory) (Refused NoMemory))
-  look-out later looked cached rows opened faults =
+  look-out later moves cached rows opened faults =
       failed now entry block h d offset len cache fetch (NeedsLook window) asks before used
       (same-rows before keeper before.carrier rows) NoMemory later cached refl
       (uses-look (made.Answer (ToldRefused NoMemory) (Refused NoMemory)) before keeper (λ device. refl) rows opened faults
       tt)
       (same-yard now h (made.Answer (ToldRefused NoMemory) (Refused NoMemory)) before.yard)
-      (LooksOnly None (flushed-asking asks) refl (λ goes. refl) (LookedUp None later looked refl))
+      moves
 
   -- ---- it was refused
 
@@ -240,7 +241,8 @@ module _ (now entry block : ℕ) (h : ClientValue) (d : Doing) (offset len : ℕ
         yard = same-yard now h (made.Both Quiet (ToldRefused why) (Refused why)) before.yard;
         cache = cache-refused h d asks.busy (refused_here why c) (made.Both Quiet (ToldRefused why) (Refused why))
             before.yard before.yard (ap is_read asks.reads.op_is) c why refl
-            (looked-before (made.Both Quiet (ToldRefused why) (Refused why)) refl None (λ goes. refl)) refl tt;
+            (looked-before (made.Both Quiet (ToldRefused why) (Refused why)) (refused_here why c) refl
+            (λ goes. absurd (cc goes))) refl tt;
         alone = (refl, calm-refusal fault);
         falls = rests.idle;
         leads = λ s g number has holds client. refused-so fault looks s g has holds client;
@@ -259,7 +261,8 @@ module _ (now entry block : ℕ) (h : ClientValue) (d : Doing) (offset len : ℕ
         yard = same-yard now h (made.Both Quiet (ToldRefused fault) (Refused fault)) before.yard;
         cache = cache-read h d asks.busy (refused_here fault c) (made.Both Quiet (ToldRefused fault) (Refused fault))
             before.yard before.yard (ap is_read asks.reads.op_is) refl
-            (looked-before (made.Both Quiet (ToldRefused fault) (Refused fault)) refl None (λ goes. refl)) tt;
+            (looked-before (made.Both Quiet (ToldRefused fault) (Refused fault)) (refused_here fault c) refl
+            (λ goes. absurd (cc goes))) tt;
         alone = (refl, λ device. refl);
         falls = refl;
         leads = λ s g number has holds client.
@@ -277,7 +280,7 @@ module _ (now entry block : ℕ) (h : ClientValue) (d : Doing) (offset len : ℕ
         yard = same-yard now h (made.Broken at bytes) before.yard;
         cache = cache-read h d asks.busy c (made.Broken at bytes) before.yard before.yard (ap is_read asks.reads.op_is)
             refl
-            (looked-before (made.Broken at bytes) refl (Some (NeedsLook window)) (λ goes. absurd (cc goes))) tt;
+            (looked-before (made.Broken at bytes) c refl (λ goes. absurd (cc goes))) tt;
         alone = tt;
         falls = record {
           progress = Reading fetch (NeedsLook window);
@@ -297,11 +300,12 @@ module _ (now entry block : ℕ) (h : ClientValue) (d : Doing) (offset len : ℕ
       (same-rows before keeper before.carrier looks.looks.rows_are) (DeviceFailed Keeper) cache (cached-known asks before length_is) refl
       (uses-failed before keeper looks.looks.rows_are looks.looks.opened_at looks.looks.counts)
       (same-yard now h (made.Answer (ToldRefused (DeviceFailed Keeper)) (Refused (DeviceFailed Keeper))) before.yard)
-      (looked-before (made.Answer (ToldRefused (DeviceFailed Keeper)) (Refused (DeviceFailed Keeper))) refl None
-      (λ goes. refl))))
+      (looked-before (made.Answer (ToldRefused (DeviceFailed Keeper)) (Refused (DeviceFailed Keeper)))
+      (over h.handles cache h) refl (λ goes. absurd (cc goes)))))
   look-unmade (OfRows Memory) after done ready looks ends =
       subst (λ x. Makes now entry h after before used x) (sym ends.made_is)
       (subst (λ x. Makes now entry h x before used (made.Answer (ToldRefused NoMemory) (Refused NoMemory)))
       (sym ends.after_is)
-      (look-out cache (needs-found block h d fetch cache window asks.needs) (cached-known asks before length_is)
+      (look-out cache (looked-before (made.Answer (ToldRefused NoMemory) (Refused NoMemory)) (over h.handles cache h) refl
+      (λ goes. absurd (cc goes))) (cached-known asks before length_is)
       looks.looks.rows_are looks.looks.opened_at looks.looks.counts))

@@ -12,7 +12,7 @@ use Rattle.jv_model.specs.declared.profile.Does.TheVariants as does
 use Rattle.jv_model.specs.client.Pending.{first_segment, written}
 use Rattle.jv_model.specs.client.ModelClient.{file_of}
 use Rattle.jv_model.proofs.PendingLaws.{no_first_segment}
-use Rattle.jv_model.specs.client.OpForms.{is_umount}
+use Rattle.jv_model.specs.client.OpForms.{is_read, is_umount}
 use Rattle.jv_pending.specs.Held.{PendingValue}
 use Rattle.jv_steps.proofs.AnswerStepLaws.{written-at_once}
 use Rattle.jv_handles.specs.declared.handle.Handle.{Handle}
@@ -29,7 +29,7 @@ use Rattle.jv_client.proofs.HeldLaws.{client-doing, doing_of}
 use Rattle.jv_client.proofs.KeptLaws.{held-goes}
 use Rattle.jv_client.proofs.AnswerLaws.{makes-as}
 use Rattle.jv_client.proofs.FormLaws.{flushed-same, none_left, under_way}
-use Rattle.jv_client.proofs.CacheUseLaws.{NoBlock, cache-stays}
+use Rattle.jv_client.proofs.CacheUseLaws.{NoRead, cache-stays}
 use Rattle.jv_client.proofs.AtOnceLaws.{answers-makes, is_done}
 use Rattle.jv_client.proofs.WrittenLaws.{model_wrote, wrote, wrote-client, wrote-holds}
 
@@ -122,7 +122,7 @@ module _ (h : ClientValue) (d : Doing) (busy : h.doing ≡ Some d) (ready : IsRe
       answers-makes now entry h (wrote w.handle w.offset w.bytes h) v (Fine count 0 0 0) (Count count) ready
       (record { id = refl; limits = refl; idle = refl })
       (cache-stays h d busy (wrote w.handle w.offset w.bytes h) (made.Answer (Fine count 0 0 0) (Count count)) v.yard v.yard
-      (NoBlock refl (λ goes. refl)) (ap is_umount w.op_is) refl tt)
+      (NoRead (ap is_read w.op_is)) (ap is_umount w.op_is) refl tt)
       (λ device. refl)
       (λ s g store holds is.
       let c = s.clients h.id in

@@ -1,5 +1,5 @@
 -- What a client gets of a block that it asks for.
-use Rattle.std.specs.Prelude.{◌≡◌, ℕ, ◌<◌, List, length, Option, None, Some, IfSome, Result, Ok, Err}
+use Rattle.std.specs.Prelude.{◌≡◌, ℕ, ◌<◌, List, ◌∷◌, length, Option, None, Some, IfSome, Result, Ok, Err}
 use Rattle.jv_model.specs.declared.act.ActKind.{ActKind}
 use Rattle.jv_model.specs.declared.act.ActKind.TheVariants.{Miss}
 use Rattle.jv_model.specs.declared.fault.Fault.{Fault}
@@ -12,6 +12,7 @@ use Rattle.jv_cache.specs.Cached.{Cached}
 use Rattle.jv_contents.specs.Blocks.{Blocks}
 use Rattle.jv_handles.specs.Handles.{inode_here}
 use Rattle.jv_handles.specs.Views.{SeenViews}
+use Rattle.jv_fetching.specs.Ahead.{blocks_ahead}
 use Rattle.jv_fetching.specs.Calls.{Keeps, LacksBlock}
 use Rattle.jv_fetching.specs.Fetching.{Fetching, fetch_left, first_window}
 use Rattle.jv_fetching.specs.Going.{CanFetch, IsFetching}
@@ -66,6 +67,7 @@ pub record Fills (b : BlockId) (bytes : List ℕ) (before after : Fetching)
   pub block : after.block ≡ before.block
   pub can : (views : SeenViews) → CanFetch views before → CanFetch views after
   pub falls : fetch_left after < fetch_left before
+  pub ahead : (views : SeenViews) → blocks_ahead views before ≡ b ∷ blocks_ahead views after
   pub cache_is : Keeps b bytes cache kept
   pub reads : (blocks : Blocks) (views : SeenViews) (all : List Asked) → blocks b ≡ Some bytes
       → IsFetching blocks views all before → IsFetching blocks views all after

@@ -1,24 +1,29 @@
 -- A reading within a step: how far it goes without a request, and what it leaves of the client.
 use Rattle.std.specs.Prelude.{◌≡◌, ◌≢◌, ℕ, ◌≤◌, ◌<◌, List, [], length, Option, None, Some, IfSome, Result, Ok, Err}
+use Rattle.std.specs.Prelude.{unwrap_or}
 use Rattle.std.specs.Option.{option_map}
 use Rattle.jv_model.specs.declared.act.ActKind.{ActKind}
 use Rattle.jv_model.specs.declared.act.Told.{Told}
 use Rattle.jv_model.specs.declared.act.Told.TheVariants.{Looks}
+use Rattle.jv_model.specs.declared.op.Op.{Op}
 use Rattle.jv_model.specs.declared.op.Reply.TheVariants.{Data}
 use Rattle.jv_model.specs.declared.profile.Does.TheVariants as does
 use Rattle.jv_model.specs.client.ModelClient.{ModelClient, file_of}
 use Rattle.jv_model.specs.client.Profile.{handle_of}
+use Rattle.jv_model.specs.declared.slice.BlockId.{BlockId}
 use Rattle.jv_model.specs.journal.Reading.{Asked, asked_parts}
+use Rattle.jv_model.specs.journal.Steps.{asked_of}
 use Rattle.jv_cache.specs.Cached.{Cached}
 use Rattle.jv_contents.specs.Blocks.{Blocks, known_by}
 use Rattle.jv_shared.specs.Shared.{Known, Shared}
 use Rattle.jv_handles.specs.declared.handle.Handle.{Handle}
-use Rattle.jv_handles.specs.Views.{SeenViews}
+use Rattle.jv_handles.specs.Views.{SeenViews, no_views}
 use Rattle.jv_fetching.specs.declared.need.Need.{Need}
 use Rattle.jv_fetching.specs.declared.need.Need.TheVariants.{Nothing}
 use Rattle.jv_fetching.specs.Fetching.{Fetching, begins, fetch_left}
 use Rattle.jv_fetching.specs.Going.{CanFetch, IsFetching}
-use Rattle.jv_fetching.specs.Calls.{AreSizedBy, FindsAll, HasCached, IsCacheOf, LooksFor, Wants, first_seen}
+use Rattle.jv_fetching.specs.Ahead.{blocks_ahead}
+use Rattle.jv_fetching.specs.Calls.{AreSizedBy, Asks, AsksSome, HasCached, IsCacheOf, Wants, first_seen}
 use Rattle.jv_fetching.specs.Shows.{IsReadBy}
 use Rattle.jv_client.specs.declared.doing.Doing.{Doing}
 use Rattle.jv_client.specs.declared.doing.Progress.{Progress}
@@ -57,6 +62,34 @@ fetch_in (Some d) = fetch_at d.progress
 abbrev pub put_at : Progress → Doing → Doing
 put_at progress d = record d { progress = progress }
 
+-- ---- what is ahead of it
+
+-- what a handle saw
+abbrev pub views_of : Option Handle → SeenViews
+views_of None = no_views
+views_of (Some handle) = handle.views
+
+-- and the handle that an operation reads by
+abbrev pub views_here : List (Option Handle) → Op → SeenViews
+views_here handles o = views_of (file_of handles (handle_of o))
+
+-- and that of the operation in progress
+abbrev pub views_in : ClientValue → SeenViews
+views_in h = elim h.doing [ None ↦ no_views | Some d ↦ views_here h.handles d.op ]
+
+-- where a reading is before a step: where it was, or at its start
+abbrev pub fetch_from : ℕ → Doing → Fetching
+fetch_from block d = unwrap_or (fetch_at d.progress) (begins block (asked_of d.does))
+
+-- the blocks that it has ahead then, by what its handle saw
+abbrev pub ahead_from : ℕ → ClientValue → Doing → List BlockId
+ahead_from block h d = blocks_ahead (views_here h.handles d.op) (fetch_from block d)
+
+-- and after a step, none where it was answered
+abbrev pub ahead_in : SeenViews → Option Fetching → List BlockId
+ahead_in views None = []
+ahead_in views (Some fetch) = blocks_ahead views fetch
+
 -- ---- ahead without a request
 
 -- A reading goes ahead by these views and by the blocks of a cache.
@@ -82,27 +115,33 @@ ComesTo views cache before (ahead.Read found) =
     → IsFetching blocks views all before
     → IsReadBy (known_by before.block blocks) views all (read_of found)
 
--- what it needs then, if it needs something
-abbrev pub next_of : Ahead → Option Need
-next_of (ahead.Needs fetch next) = Some next
-next_of (ahead.Read found) = None
+-- what it needs then, nothing where it has read all, and the blocks that it has ahead
+abbrev pub next_of : Ahead → Need
+next_of (ahead.Needs fetch next) = next
+next_of (ahead.Read found) = Nothing
 
-abbrev pub next_in : {E : Type 0} → Result Ahead E → Option Need
-next_in (Ok ahead) = next_of ahead
-next_in (Err e) = None
+abbrev pub rest_of : SeenViews → Ahead → List BlockId
+rest_of views (ahead.Needs fetch next) = blocks_ahead views fetch
+rest_of views (ahead.Read found) = []
 
--- Going ahead to this need, if there is one, blocks that the cache has were looked up, and then the
--- block that is needed.
-abbrev pub LooksOn : Option Need → Cached → Cached → Type 0
-LooksOn None before after = FindsAll before after
-LooksOn (Some next) before after = LooksFor next before after
+-- where it came, if it didn't fail
+abbrev pub came : {E : Type 0} → Result Ahead E → Option Ahead
+came (Ok ahead) = Some ahead
+came (Err e) = None
+
+-- Going ahead from here by these views, a reading looked up the blocks that it hasn't ahead any
+-- more, and then the one that it needs; or it failed, and looked up some.
+abbrev pub LooksOn : SeenViews → Fetching → Option Ahead → Cached → Cached → Type 0
+LooksOn views fetch None before after = AsksSome (blocks_ahead views fetch) before after
+LooksOn views fetch (Some ahead) before after =
+    Asks (blocks_ahead views fetch) (rest_of views ahead) (next_of ahead) before after
 
 -- of a client, whose operation reads by its handle: these were looked up, and nothing else changed
-pub record OnlyLooksUp (next : Option Need) (h after : ClientValue) : Type 0 where
+pub record OnlyLooksUp (fetch : Fetching) (to : Option Ahead) (h after : ClientValue) : Type 0 where
   pub cache : Cached
   pub later : Cached
   pub was : h.cache ≡ Some cache
-  pub looks : LooksOn next cache later
+  pub looks : LooksOn (views_in h) fetch to cache later
   pub after_is : after ≡ record h { cache = Some later }
 
 abbrev pub ClientComesTo : Fetching → ClientValue → Ahead → Type 0
@@ -125,17 +164,27 @@ abbrev pub cache_in : ℕ → Option Cached → Cached
 cache_in entries None = new_cache entries
 cache_in entries (Some cache) = cache
 
--- blocks were looked up in it on the way to this need, if anything was done
-pub data LooksAhead (entries : ℕ) (was is : Option Cached) : Option Need → Type 0 where
-  Untouched : is ≡ was → LooksAhead entries was is None
-  LookedUp : (next : Option Need) (later : Cached) → LooksOn next (cache_in entries was) later
-      → is ≡ Some later → LooksAhead entries was is next
+-- Of the blocks that were due those were looked up in it that aren't left, on the way to this need,
+-- if anything was done.
+pub data LooksAhead (due : List BlockId) (entries : ℕ) (was is : Option Cached) : List BlockId
+    → Need → Type 0 where
+  Untouched : is ≡ was → LooksAhead due entries was is due Nothing
+  LookedUp : (rest : List BlockId) (next : Need) (later : Cached)
+      → Asks due rest next (cache_in entries was) later
+      → is ≡ Some later → LooksAhead due entries was is rest next
 
--- a client with another cache, in which nothing stands that isn't known
-pub record IsCachedAs (h after : ClientValue) : Type 0 where
+-- the blocks that a reading of this range has ahead before anything is read
+abbrev pub start_ahead : (offset len block : ℕ) → ClientValue → List BlockId
+start_ahead offset len block h = blocks_ahead (views_in h) (begins block (asked_parts offset len))
+
+-- A client whose reading of this range began, with another cache, in which nothing stands that
+-- isn't known.
+pub record IsCachedAs (offset len block : ℕ) (h after : ClientValue) : Type 0 where
   pub cache : Option Cached
+  pub rest : List BlockId
   pub after_is : after ≡ record h { cache = cache }
-  pub ahead : LooksAhead h.limits.entries h.cache cache None
+  pub ahead : LooksAhead (start_ahead offset len block h) h.limits.entries h.cache cache rest
+      Nothing
   pub knows : (sizes : ℕ → ℕ) (block : ℕ) (blocks : Blocks)
       → IfSome h.cache (IsCacheOf sizes block blocks)
       → IfSome cache (IsCacheOf sizes block blocks)
@@ -152,7 +201,9 @@ pub data NeedsNext (block : ℕ) (h : ClientValue) (d : Doing) (fetch : Fetching
       → file_of h.handles (handle_of d.op) ≡ Some file
       → GoesAhead file.views (cache_in h.limits.entries h.cache)
       (begins block (asked_parts offset len)) fetch
-      → Wants file.views fetch next → LooksFor next (cache_in h.limits.entries h.cache) cache
+      → Wants file.views fetch next
+      → Asks (blocks_ahead file.views (begins block (asked_parts offset len)))
+      (blocks_ahead file.views fetch) next (cache_in h.limits.entries h.cache) cache
       → NeedsNext block h d fetch next cache
 
 -- The client before a request of its reading, which was so when the step began, or has just begun.
@@ -172,7 +223,8 @@ pub record IsAhead (block : ℕ) (h c : ClientValue) : Type 0 where
 
 -- all was read at once, by the views of the operation's handle and the blocks of the cache
 pub record ReadsAtOnce (offset len block : ℕ) (h after : ClientValue) (found : Found) : Type 0 where
-  pub same : IsCachedAs h after
+  pub same : IsCachedAs offset len block h after
+  pub all : same.rest ≡ []
   pub read : (d : Doing) (file : Handle) (sizes : ℕ → ℕ) (blocks : Blocks) → h.doing ≡ Some d
       → file_of h.handles (handle_of d.op) ≡ Some file → AreSizedBy sizes file.views
       → IfSome h.cache (IsCacheOf sizes block blocks)

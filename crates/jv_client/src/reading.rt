@@ -15,7 +15,7 @@ ghost use Rattle.jv_client.specs.UnderWay.{IsReady, does_of, left, names_open};
 ghost use Rattle.jv_client.specs.Makes.{Makes};
 ghost use Rattle.jv_yard.specs.Refusals.{yard_fault};
 ghost use Rattle.jv_client.specs.Getting.{HasFilled, IsBlockIn, IsMissedBy, ReadsBlock};
-ghost use Rattle.jv_client.specs.Reading.{Begins, ClientComesTo, ComesTo, GoesOnAfter, IsAhead, IsCachedAs, IsMade, LooksOn, OnlyLooksUp, Shows, fetch_at, fetch_in, need_at, need_in, next_in, put_at};
+ghost use Rattle.jv_client.specs.Reading.{Begins, ClientComesTo, ComesTo, GoesOnAfter, IsAhead, IsCachedAs, IsMade, LooksOn, OnlyLooksUp, Shows, came, fetch_at, fetch_in, need_at, need_in, put_at};
 
 use crate::answers::looks;
 use crate::client::{Client, forget};
@@ -130,7 +130,7 @@ impl Client {
         requires first { need_in self.old.doing ≡ None }
         requires block { IsLength block }
         ensures ok { IfOk result (Begins offset len block self.old self.new) }
-        ensures err { OnErr result (IsCachedAs self.old self.new) }
+        ensures err { OnErr result (IsCachedAs offset len block self.old self.new) }
     {
         let fetch = Fetch::new(self.alloc, offset, len, block)?;
         make_cache(self.alloc, self.limits.entries, &mut self.cache)?;
@@ -148,7 +148,7 @@ impl Client {
         requires busy { IsSome self.old.doing }
         requires opened { IfSome self.old.doing (names_open self.old) }
         requires cached { IsSome self.old.cache }
-        ensures looks { OnlyLooksUp (next_in result) self.old self.new }
+        ensures looks { OnlyLooksUp fetch (came result) self.old self.new }
         ensures comes { IfOk result (ClientComesTo fetch self.old) }
     {
         let handle = self.handle_in_use();
@@ -346,7 +346,7 @@ fn take_from(progress: &mut Progress) -> Fetch
 
 /// Goes ahead with a reading as far as it needs no request.
 fn read_ahead(mut fetch: Fetch, views: &Views, cache: &mut BlockCache) -> Result<Ahead, AllocError>
-    ensures looks { LooksOn (next_in result) cache.old cache.new }
+    ensures looks { LooksOn views.now fetch (came result) cache.old cache.new }
     ensures comes { IfOk result (ComesTo views.now cache.old fetch) }
 {
     match fetch.advance(views, cache)? {
@@ -412,7 +412,10 @@ fn fill(fetch: &mut Fetch, cache: &mut Option<BlockCache>, block: BlockId, bytes
     ensures { HasFilled block bytes fetch.old fetch.new cache.old cache.new }
 {
     match cache {
-        Some(cache) => fetch.fill(cache, block, bytes),
+        Some(cache) => {
+            // What the cache has no memory for is read all the same.
+            let _ = fetch.fill(cache, block, bytes);
+        }
         None => unreachable!(),
     }
 }

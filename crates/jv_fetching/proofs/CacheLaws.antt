@@ -1,6 +1,6 @@
 -- Laws of a cache in which blocks are looked up and kept.
-use Rattle.std.proofs.Common.{◌≡◌, ℕ, zero, suc, ◌+◌, ◌-◌, ◌≤◌, ◌⊎◌, inl, inr, Bool, true, false, cond, List, [], ◌∷◌}
-use Rattle.std.proofs.Common.{◌++◌, length, take, Option, None, Some, refl, sym, ap, subst, ◌∙◌, arith, length-append}
+use Rattle.std.proofs.Common.{◌≡◌, ℕ, zero, suc, ◌+◌, ◌-◌, ◌⊎◌, inl, inr, Bool, true, false, cond, List, [], ◌∷◌}
+use Rattle.std.proofs.Common.{◌++◌, length, take, Option, None, Some, refl, sym, ap, subst, ◌∙◌, arith}
 use Rattle.std.specs.Prelude.{◌≢◌, ◌==◌, IsSomeAnd, OnErr, Result, Ok, Err, fold, is_some}
 use Rattle.std.specs.List.{AllByRecursion}
 use Rattle.std.specs.Map.{lookup, lookup_entry, remove_entry}
@@ -25,7 +25,6 @@ use Rattle.jv_fetching.specs.declared.need.Need.{Need}
 use Rattle.jv_fetching.specs.declared.need.Need.TheVariants.{Look, Block, Nothing}
 use Rattle.jv_fetching.specs.Calls.{AreSizedBy, CachedOf, FindsAll, HasBlock, HasCached, IsCacheOf, IsMissing, IsOnly, Keeps}
 use Rattle.jv_fetching.specs.Calls.{Kept, LooksFor, LooksLast, Lost, cache_key}
-use Rattle.jv_fetching.specs.Inside.{FindsFew}
 
 -- ---- what is found under a key
 
@@ -129,17 +128,6 @@ finds_then before middle after first second =
 abbrev pub finds_one : (before after : Cached) (b : BlockId) → HasBlock before b → after ≡ noted_in before (cache_key b)
     → FindsAll before after
 finds_one before after b has e = record { blocks = b ∷ []; found = All-cons (HasBlock before) b [] has (All-nil (HasBlock before)); is = e }
-
--- as many as before and after, or more
-abbrev pub few_none : (n : ℕ) (cache : Cached) → FindsFew n cache cache
-few_none n cache = record { finds = finds_none cache; few = omega arith }
-
-abbrev pub few_then : (k m n : ℕ) (before middle after : Cached) → k + m ≤ n → FindsFew k before middle
-    → FindsFew m middle after → FindsFew n before after
-few_then k m n before middle after h first second = record {
-  finds = finds_then before middle after first.finds second.finds;
-  few = omega (arith, h, first.few, second.few, length-append first.finds.blocks second.finds.blocks);
-}
 
 -- ---- with what is needed next
 

@@ -1,7 +1,7 @@
 -- Laws of a reading that goes on: it begins with a part, fills in its blocks, and ends with it.
 use Rattle.std.proofs.Common.{◌≡◌, ℕ, ◌+◌, ◌-◌, ◌<◌, ◌≤◌, Bool, true, false, List, [], ◌∷◌, ◌++◌, length, drop, Option}
-use Rattle.std.proofs.Common.{None, Some, inl, inr, refl, sym, ap, subst, ◌∙◌, arith, length-append, length-drop}
-use Rattle.std.specs.Prelude.{◌⊎◌, All, IfSome, IsSomeAnd, is_some, slice_get}
+use Rattle.std.proofs.Common.{None, Some, inl, inr, refl, sym, ap, subst, ◌∙◌, arith, length-drop}
+use Rattle.std.specs.Prelude.{◌⊎◌, All, IfSome, IsSomeAnd, is_some, nat_le, slice_get, if◌then◌else◌}
 use Rattle.std.proofs.lemmas.Bool.{le-leb, lt-leb}
 use Rattle.std.proofs.lemmas.List.{append_assoc, drop-drop}
 use Rattle.std.proofs.lemmas.List.Elements.{All-drop}
@@ -20,17 +20,17 @@ use Rattle.jv_fetching.specs.declared.begun.Begun.{Begun}
 use Rattle.jv_fetching.specs.declared.begun.Read.{Read}
 use Rattle.jv_fetching.specs.declared.need.Need.{Need}
 use Rattle.jv_fetching.specs.declared.need.Need.TheVariants.{Look, Block, Nothing}
-use Rattle.jv_fetching.specs.Fetching.{Fetching, block_needed, blocks_in, fetch_left, next_of, weight}
+use Rattle.jv_fetching.specs.Ahead.{ahead_of, blocks_ahead, part_blocks, parts_after, parts_blocks}
+use Rattle.jv_fetching.specs.Fetching.{Fetching, block_needed, fetch_left, next_of, weight}
 use Rattle.jv_fetching.specs.Shows.{shown_len}
 use Rattle.jv_fetching.specs.Going.{CanFetch, HasBegun, HasRead, IsBegunBy, IsFetching, IsShown}
-use Rattle.jv_fetching.specs.Calls.{Asks, CachedOf, FindsAll, HasBlock, HasCached, IsMissing, cache_key}
+use Rattle.jv_fetching.specs.Calls.{Asks, CachedOf, HasBlock, HasCached, IsMissing, cache_key}
 use Rattle.jv_fetching.specs.Calls.{first_seen, first_unseen}
-use Rattle.jv_fetching.specs.Inside.{BeginsPart, HadBegun, BeginsNow, IsOver, LooksFirst, Ends, EndsPart, Fills, FillsBegun}
+use Rattle.jv_fetching.specs.Inside.{BeginsBy, BeginsPart, HadBegun, BeginsNow, IsOver, LooksFirst, Ends, EndsPart, Fills, FillsBegun}
 use Rattle.jv_fetching.specs.Inside.{FillsFrom, FillsOne, FirstBegins, Goes, GoesOn, GoesOnAny, GoesTo, HasFilled}
-use Rattle.jv_fetching.specs.Inside.{IsFurther, Misses, Stops, Waits, Ended, ended, parts_after, waiting}
-use Rattle.jv_fetching.proofs.CacheLaws.{few_none, few_then, finds_looks, finds_none, finds_one, finds_then, has_looks}
+use Rattle.jv_fetching.specs.Inside.{IsFurther, Misses, Stops, Waits, Ended, ended, waiting}
+use Rattle.jv_fetching.proofs.CacheLaws.{finds_looks, finds_none, finds_one, finds_then, has_looks}
 use Rattle.jv_fetching.proofs.CacheLaws.{last_after, looks_keep, missing_before}
-use Rattle.jv_fetching.proofs.CacheLaws.{missing_before}
 use Rattle.std.proofs.lemmas.Option.{same_Some}
 
 -- ---- blocks of a part
@@ -128,25 +128,13 @@ goes_then views c d e f g h first second = record {
   can = λ can. second.can (first.can can);
   falls = omega (arith, first.falls, second.falls);
   begins = λ none seen. omega (arith, first.begins none seen, second.falls);
-  looks = few_then (fetch_left f - fetch_left g) (fetch_left g - fetch_left h) (fetch_left f - fetch_left h) c d e
-      (omega (arith, first.falls, second.falls))
-      first.looks second.looks;
-  shorter = omega (arith, first.shorter, second.shorter);
-  each = λ begun some same.
-      let short = first.shorter in
-      let shorter = second.shorter in
-      let one = first.each begun some (omega (arith, short, shorter, same)) in
-      let two = second.each one.begun (omega (arith, short, shorter, same, some))
-      (omega (arith, short, shorter, same)) in
-      record {
-        begun = two.begun;
-        are = append_assoc first.looks.finds.blocks second.looks.finds.blocks (blocks_in h.begun)
-            ∙ ap (λ (left : List BlockId). first.looks.finds.blocks ++ left) two.are ∙ one.are;
-      };
+  finds = finds_then c d e first.finds second.finds;
+  are = append_assoc first.finds.blocks second.finds.blocks (blocks_ahead views h)
+      ∙ ap (λ (left : List BlockId). first.finds.blocks ++ left) second.are ∙ first.are;
   reads = λ blocks all has is.
       let has' : HasCached blocks views g.block d =
       subst (λ (n : ℕ). HasCached blocks views n d) (sym first.block)
-      (has_looks blocks views f.block c d (finds_looks c d first.looks.finds) has) in
+      (has_looks blocks views f.block c d (finds_looks c d first.finds) has) in
       second.reads blocks all has' (first.reads blocks all has is);
 }
 
@@ -158,9 +146,8 @@ goes_nowhere views cache f stuck = record {
   can = λ can. can;
   falls = omega arith;
   begins = λ none seen. absurd (stuck none seen);
-  looks = few_none (fetch_left f - fetch_left f) cache;
-  shorter = omega arith;
-  each = λ begun some same. record { begun = begun; are = refl };
+  finds = finds_none cache;
+  are = refl;
   reads = λ blocks all has is. is;
 }
 
@@ -217,6 +204,25 @@ module _ (views : SeenViews) (block : ℕ) where
       subst (λ (l : List Rec). CachedOf blocks l block cache) (sym by.part.list_is) (has.has asked.window view seen) in
       subst (λ (n : ℕ). CachedOf blocks begun.part.list n cache) (sym by.part.block_is) by_list
 
+  -- a part that begins has its own blocks ahead
+  begins_ahead : (asked : Asked) (others : List Asked) (begun : Begun) → BeginsBy views block asked begun
+      → ahead_of views block (Some begun) (asked ∷ others) ≡ ahead_of views block None (asked ∷ others)
+  begins_ahead asked others begun h =
+      let rest : Bool → List BlockId = λ full. parts_blocks views block (parts_after full (asked ∷ others)) in
+      ap (λ (left : List BlockId). left ++ rest begun.is_full) h.left
+      ∙ ap (λ full. part_blocks block h.view asked ++ rest full) h.by.full
+      ∙ ap (λ (more : List BlockId). part_blocks block h.view asked ++ more) (by_full (nat_le asked.to h.view.length))
+      ∙ ap (λ (o : Option View). elim o [
+        | None ↦ []
+        | Some view ↦ part_blocks block view asked
+            ++ (if nat_le asked.to view.length then parts_blocks views block others else [])
+      ]) (sym h.seen)
+    where
+      by_full : (full : Bool) → parts_blocks views block (parts_after full (asked ∷ others))
+          ≡ (if full then parts_blocks views block others else [])
+      by_full true = refl
+      by_full false = refl
+
 module _ (views : SeenViews) (cache : Cached) (block : ℕ) (read : List Read) where
   -- a part begins
   begins_goes : (parts : List Asked) (begun : Begun) → FirstBegins views block parts begun
@@ -227,9 +233,8 @@ module _ (views : SeenViews) (cache : Cached) (block : ℕ) (read : List Read) w
     can = λ can. (h.view, h.seen, h.by);
     falls = omega (arith, h.few);
     begins = λ none seen. omega (arith, h.few);
-    looks = few_none (1 + (asked.to - asked.from) + weight others - (length begun.part.left + weight others)) cache;
-    shorter = omega arith;
-    each = λ begun some same. (let never : ⊥ = cc in absurd never);
+    finds = finds_none cache;
+    are = begins_ahead views block asked others begun h;
     reads = λ blocks all has is. record {
       some = is.some;
       few = is.few;
@@ -250,13 +255,10 @@ module _ (views : SeenViews) (cache : Cached) (block : ℕ) (read : List Read) w
         let left = ap (length {A = BlockId}) fills.further.left in
         omega (arith, left, length-drop fills.further.count begun.part.left);
     begins = λ none seen. (let never : ⊥ = cc in absurd never);
-    looks =
-        let rest = weight (drop 1 parts) in
-        let all : length fills.finds.blocks + length part.left ≡ length begun.part.left =
-        sym (length-append fills.finds.blocks part.left) ∙ ap (length {A = BlockId}) fills.each in
-        record { finds = fills.finds; few = omega (arith, all) };
-    shorter = omega arith;
-    each = λ begun some same. record { begun = refl; are = fills.each };
+    finds = fills.finds;
+    are =
+        let rest = parts_blocks views block (parts_after begun.is_full parts) in
+        sym (append_assoc fills.finds.blocks part.left rest) ∙ ap (λ (left : List BlockId). left ++ rest) fills.each;
     reads = λ blocks all has is. record {
       some = is.some;
       few = is.few;
@@ -330,17 +332,16 @@ fewer_after true (asked ∷ others) = omega arith
 fewer_after false parts = omega arith
 
 module _ (views : SeenViews) (cache : Cached) (block : ℕ) (read : List Read) where
-  ends_goes : (parts : List Asked) (begun : Begun) (bytes : List ℕ) → AreOf bytes begun.part
+  ends_goes : (parts : List Asked) (begun : Begun) (bytes : List ℕ) → begun.part.left ≡ [] → AreOf bytes begun.part
       → Goes views cache cache (state block read (Some begun) parts)
       (ended begun.entry begun.is_full bytes (state block read (Some begun) parts))
-  ends_goes parts begun bytes are = record {
+  ends_goes parts begun bytes none are = record {
     block = refl;
     can = λ can. tt;
     falls = omega (arith, after_less begun.is_full parts);
     begins = λ none seen. (let never : ⊥ = cc in absurd never);
-    looks = few_none (length begun.part.left + weight (drop 1 parts) - weight (parts_after begun.is_full parts)) cache;
-    shorter = omega (arith, fewer_after begun.is_full parts);
-    each = λ had some same. absurd (omega (arith, fewer_after begun.is_full parts, some, same));
+    finds = finds_none cache;
+    are = sym (ap (λ (left : List BlockId). left ++ parts_blocks views block (parts_after begun.is_full parts)) none);
     reads = λ blocks all has is. record {
       some = is.some;
       few = is.few;
@@ -373,7 +374,7 @@ went_on views cache later f after begun result (Ended part fills none bytes are 
           (goes_then views cache later later (with_begun f begun) (with_begun f begun')
           (ended begun.entry begun.is_full bytes (with_begun f begun'))
           (fills_goes views cache f.block f.read later f.parts begun part fills)
-          (ends_goes views later f.block f.read f.parts begun' bytes are));
+          (ends_goes views later f.block f.read f.parts begun' bytes none are));
       ends = refl;
     }
 
@@ -388,7 +389,7 @@ goes_to_then views c d e f g h result first second = record {
   where
     ends_before : (r : Option Need) → Ends d second.middle e r → Ends c second.middle e r
     ends_before None h = h
-    ends_before (Some need) h = last_after need c d second.middle e first.looks.finds h
+    ends_before (Some need) h = last_after need c d second.middle e first.finds h
 
 -- from where it had begun, or begins now
 pub goes_on : (views : SeenViews) (cache later : Cached) (f after : Fetching) (begun : Begun) (result : Option Need)
@@ -425,23 +426,26 @@ goes_twice views c d e f g h result first second =
     (subst (λ (cache : Cached). Goes views c cache f g) (sym first.ends) first.goes) second
 
 module _ (views : SeenViews) (cache later : Cached) (f after : Fetching) where
-  -- where it was done with a part, the cache had all of its blocks
-  pub finds_to : GoesTo views cache later f after None → FindsAll cache later
-  finds_to to = subst (FindsAll cache) (sym to.ends) to.goes.looks.finds
-
-  pub asks_to : (need : Need) → GoesTo views cache later f after (Some need) → Asks need f after cache later
+  pub asks_to : (need : Need) → GoesTo views cache later f after (Some need)
+      → Asks (blocks_ahead views f) (blocks_ahead views after) need cache later
   asks_to need to = record {
-    looks = record { middle = to.middle; finds = to.goes.looks.finds; last = to.ends };
-    few = to.goes.looks.few;
-    each = to.goes.each;
+    looks = record { middle = to.middle; finds = to.goes.finds; last = to.ends };
+    are = to.goes.are;
   }
 
-  pub asks_nothing : GoesTo views cache later f after None → Asks Nothing f after cache later
+  pub asks_nothing : GoesTo views cache later f after None
+      → Asks (blocks_ahead views f) (blocks_ahead views after) Nothing cache later
   asks_nothing to = record {
-    looks = record { middle = to.middle; finds = to.goes.looks.finds; last = to.ends };
-    few = to.goes.looks.few;
-    each = to.goes.each;
+    looks = record { middle = to.middle; finds = to.goes.finds; last = to.ends };
+    are = to.goes.are;
   }
+
+-- nothing was looked up
+pub asks_none : (ahead : List BlockId) (cache : Cached) → Asks ahead ahead Nothing cache cache
+asks_none ahead cache = record {
+  looks = record { middle = cache; finds = finds_none cache; last = refl };
+  are = refl;
+}
 
 -- after two parts nothing is left
 pub nothing_left : (first second third : List Asked) → length first ≤ 2 → length second ≤ length first - 1
@@ -529,6 +533,14 @@ module _ (bytes : List ℕ) (before after : Fetching) (fills : FillsBegun bytes 
         let was : fetch_left before ≡ length fills.begun.part.left + weight (drop 1 before.parts) =
         ap (λ (o : Option Begun). let g : Fetching = record before { begun = o } in fetch_left g) fills.was in
         omega (arith, less, left, now, was)
+
+    pub fill_ahead : (views : SeenViews) → blocks_ahead views before ≡ b ∷ blocks_ahead views after
+    fill_ahead views =
+        let rest = parts_blocks views before.block (parts_after fills.begun.is_full before.parts) in
+        let left = ap (λ (left : List BlockId). b ∷ left) fills.fills.left ∙ next_is fills.begun.part.left b next_begun in
+        ap (λ (o : Option Begun). ahead_of views before.block o before.parts) fills.was
+        ∙ ap (λ (left : List BlockId). left ++ rest) (sym left)
+        ∙ ap (λ (g : Fetching). b ∷ blocks_ahead views g) (sym fills.is)
 
     pub fill_reads : (blocks : Blocks) (views : SeenViews) (all : List Asked) → blocks b ≡ Some bytes
         → IsFetching blocks views all before → IsFetching blocks views all after

@@ -1,6 +1,6 @@
 -- What the calls of a reading do.
-use Rattle.std.specs.Prelude.{◌≡◌, ◌≢◌, ℕ, ◌-◌, ◌≤◌, All, IsSomeAnd, IsTrue, List, [], ◌∷◌, ◌++◌, fold, length, is_some}
-use Rattle.std.specs.Prelude.{true, Option, None, Some}
+use Rattle.std.specs.Prelude.{◌≡◌, ◌≢◌, ℕ, All, IsSomeAnd, List, [], ◌∷◌, ◌++◌, fold, length, is_some}
+use Rattle.std.specs.Prelude.{true, Option, None, Some, Result, Ok, Err}
 use Rattle.std.specs.List.{AllByRecursion}
 use Rattle.jv_model.specs.declared.slice.BlockId.{BlockId}
 use Rattle.jv_model.specs.declared.slice.Rec.{Rec}
@@ -14,7 +14,7 @@ use Rattle.jv_handles.specs.Views.{SeenViews, view_at}
 use Rattle.jv_reading.specs.Parts.{IsNamed}
 use Rattle.jv_fetching.specs.declared.need.Need.{Need}
 use Rattle.jv_fetching.specs.declared.need.Need.TheVariants.{Look, Block, Nothing}
-use Rattle.jv_fetching.specs.Fetching.{Fetching, block_needed, blocks_in, fetch_left}
+use Rattle.jv_fetching.specs.Fetching.{Fetching, block_needed}
 
 -- the window of the next part wasn't seen
 abbrev pub first_unseen : SeenViews → List Asked → ℕ → Type 0
@@ -66,28 +66,27 @@ pub record LooksFor (need : Need) (before after : Cached) : Type 0 where
   pub finds : FindsAll before middle
   pub last : LooksLast need before middle after
 
--- Of one part each block was looked up that is left no more, in its turn.
-pub record LooksEach (before after : Fetching) (blocks : List BlockId) : Type 0 where
-  pub begun : IsTrue (is_some after.begun)
-  pub are : blocks ++ blocks_in after.begun ≡ blocks_in before.begun
+-- The look-ups of a reading that goes on to a need. Of the blocks that it had ahead, those were
+-- found that it hasn't ahead any more, each in its turn; and then the block that is needed was
+-- looked up.
+pub record Asks (ahead left : List BlockId) (need : Need) (before after : Cached) : Type 0 where
+  pub looks : LooksFor need before after
+  pub are : looks.finds.blocks ++ left ≡ ahead
 
--- While the part is read that has begun, these are the blocks that were looked up.
-abbrev pub LooksInPart : Fetching → Fetching → List BlockId → Type 0
-LooksInPart before after blocks =
-    IsTrue (is_some before.begun) → 1 ≤ length before.parts
-    → length after.parts ≡ length before.parts → LooksEach before after blocks
+-- those of a reading that failed on the way: the first of its blocks were found, as far as it came
+abbrev pub AsksSome : List BlockId → Cached → Cached → Type 0
+AsksSome ahead before after = (left : List BlockId) × Asks ahead left Nothing before after
 
--- The look-ups of a reading that goes on to a need: no more blocks were found than there are
--- requests fewer left.
-pub record Asks (need : Need) (before after : Fetching) (cache later : Cached) : Type 0 where
-  pub looks : LooksFor need cache later
-  pub few : length looks.finds.blocks ≤ fetch_left before - fetch_left after
-  pub each : LooksInPart before after looks.finds.blocks
-
--- a block that came is kept, or not where memory is out
+-- A block that came is kept, or it is lost. That memory is out is the only cause of that, and no
+-- clause foresees where it is.
 pub data Keeps (b : BlockId) (bytes : List ℕ) (before after : Cached) : Type 0 where
   Kept : after ≡ kept_in before (cache_key b) bytes → Keeps b bytes before after
   Lost : after ≡ before → Keeps b bytes before after
+
+-- which of both it is, by the result of the call: the error is out of memory
+abbrev pub KeepsBy : {V E : Type 0} → Result V E → BlockId → List ℕ → Cached → Cached → Type 0
+KeepsBy (Ok done) b bytes before after = after ≡ kept_in before (cache_key b) bytes
+KeepsBy (Err out) b bytes before after = after ≡ before
 
 -- what the cache has under the name of a block of these records is that block
 pub record CachedOf (blocks : Blocks) (list : List Rec) (block : ℕ) (cache : Cached) : Type 0 where

@@ -30,11 +30,6 @@ next_of (Some begun) = slice_get begun.part.left 0
 abbrev pub block_needed : Fetching → Option BlockId
 block_needed f = next_of f.begun
 
--- the blocks that are left of the part that has begun
-abbrev pub blocks_in : Option Begun → List BlockId
-blocks_in None = []
-blocks_in (Some begun) = begun.part.left
-
 -- the most requests that parts still make: a look for each, and a block for each byte
 abbrev pub weight : List Asked → ℕ
 weight [] = 0

@@ -1,5 +1,5 @@
 -- What a reading keeps, and what the functions within do.
-use Rattle.std.specs.Prelude.{◌≡◌, ℕ, ◌+◌, ◌-◌, ◌<◌, ◌≤◌, Bool, true, false, List, [], ◌∷◌, ◌++◌, drop, length}
+use Rattle.std.specs.Prelude.{◌≡◌, ℕ, ◌+◌, ◌-◌, ◌<◌, ◌≤◌, Bool, List, [], ◌∷◌, ◌++◌, drop, length}
 use Rattle.std.specs.Prelude.{slice_get, Option, None, Some, IfSome, IsSomeAnd}
 use Rattle.std.specs.List.{AllByRecursion}
 use Rattle.jv_model.specs.declared.limits.TheConstants.{WINDOW}
@@ -25,7 +25,8 @@ use Rattle.jv_fetching.specs.declared.spans.Spans.TheVariants.{Over, Last, Two}
 use Rattle.jv_fetching.specs.declared.fetch.Fetch.TheInside.{Inside}
 use Rattle.jv_fetching.specs.Fetching.{Fetching, fetch_left}
 use Rattle.jv_fetching.specs.Going.{CanFetch, IsBegunBy, IsFetching}
-use Rattle.jv_fetching.specs.Calls.{CachedOf, FindsAll, HasCached, IsMissing, LooksInPart, LooksLast, Wants, cache_key}
+use Rattle.jv_fetching.specs.Ahead.{blocks_ahead, part_blocks, parts_after}
+use Rattle.jv_fetching.specs.Calls.{CachedOf, FindsAll, HasCached, IsMissing, LooksLast, Wants, cache_key}
 use Rattle.jv_fetching.specs.Calls.{first_seen}
 use Rattle.jv_fetching.specs.Calls.{first_unseen}
 
@@ -76,6 +77,7 @@ pub record BeginsBy (views : SeenViews) (block : ℕ) (asked : Asked) (begun : B
   pub seen : view_at views asked.window ≡ Some view
   pub by : IsBegunBy block asked view begun
   pub few : length begun.part.left ≤ asked.to - asked.from
+  pub left : begun.part.left ≡ part_blocks block view asked
   pub reads : (blocks : Blocks) → ReadsBlocks blocks begun.part
 
 abbrev pub FirstBegins : SeenViews → ℕ → List Asked → Begun → Type 0
@@ -150,10 +152,6 @@ abbrev pub waiting : Begun → Part → Fetching → Fetching
 waiting begun part f = record f { begun = Some (record begun { part = part }) }
 
 -- with a part that was read
-abbrev pub parts_after : Bool → List Asked → List Asked
-parts_after true parts = drop 1 parts
-parts_after false parts = []
-
 abbrev pub ended : ℕ → Bool → List ℕ → Fetching → Fetching
 ended entry is_full bytes f =
     record f {
@@ -212,11 +210,6 @@ pub record EndsPart (before after : Fetching) : Type 0 where
       (begun.part.to - begun.part.from)
   pub is : after ≡ ended begun.entry begun.is_full bytes before
 
--- at most this many blocks that the cache has were looked up
-pub record FindsFew (most : ℕ) (before after : Cached) : Type 0 where
-  pub finds : FindsAll before after
-  pub few : length finds.blocks ≤ most
-
 -- a reading goes on by views and cache
 pub record Goes (views : SeenViews) (cache later : Cached) (before after : Fetching) : Type 0 where
   pub block : after.block ≡ before.block
@@ -224,9 +217,8 @@ pub record Goes (views : SeenViews) (cache later : Cached) (before after : Fetch
   pub falls : fetch_left after ≤ fetch_left before
   pub begins : before.begun ≡ None → first_seen views before.parts
       → fetch_left after < fetch_left before
-  pub looks : FindsFew (fetch_left before - fetch_left after) cache later
-  pub shorter : length after.parts ≤ length before.parts
-  pub each : LooksInPart before after looks.finds.blocks
+  pub finds : FindsAll cache later
+  pub are : finds.blocks ++ blocks_ahead views after ≡ blocks_ahead views before
   pub reads : (blocks : Blocks) (all : List Asked) → HasCached blocks views before.block cache
       → IsFetching blocks views all before
       → IsFetching blocks views all after

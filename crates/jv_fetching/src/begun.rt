@@ -5,6 +5,7 @@ ghost use Rattle.jv_contents.specs.Blocks.{Blocks};
 ghost use Rattle.jv_cache.specs.Cached.{noted_in};
 ghost use Rattle.jv_handles.specs.Views.{HasRecords};
 ghost use Rattle.jv_reading.specs.Laws.{ReadsBlocks};
+ghost use Rattle.jv_fetching.specs.Ahead.{part_blocks};
 ghost use Rattle.jv_fetching.specs.Calls.{IsMissing, cache_key};
 ghost use Rattle.jv_fetching.specs.Going.{IsBegunBy};
 ghost use Rattle.jv_fetching.specs.Inside.{IsWithin, FillsOne, FillsUp, HasFilled, Starts, asked_of, parts_of};
@@ -75,6 +76,8 @@ fn begin(alloc: Global, block: u32, span: Span, view: &View) -> Result<Begun, Al
     requires records { HasRecords view.now }
     ensures begun { IfOk result (IsBegunBy block (asked_of span) view.now) }
     ensures few { IfOk result (λ begun. length begun.part.left ≤ span.to - span.from) }
+    ensures left { IfOk result (λ begun.
+        begun.part.left ≡ part_blocks block view.now (asked_of span)) }
     ensures reads { IfOk result (λ begun. (blocks : Blocks) → ReadsBlocks blocks begun.part) }
 {
     let from = (span.from - u64::from(span.window) * WINDOW) as u32;

@@ -1,8 +1,9 @@
 //! A reading of a range of a file, window by window.
 ghost use Rattle.std.specs.Prelude.{◌≡◌, ◌≤◌, ◌++◌, IfOk, IsOk, IsSome, IsSomeAnd, OnErr, length};
-ghost use Rattle.jv_fetching.specs.Calls.{Keeps};
+ghost use Rattle.jv_fetching.specs.Ahead.{parts_after};
+ghost use Rattle.jv_fetching.specs.Calls.{KeepsBy};
 ghost use Rattle.jv_fetching.specs.Fetching.{bytes_read, entry_at};
-ghost use Rattle.jv_fetching.specs.Inside.{parts_after, parts_of, reads_of};
+ghost use Rattle.jv_fetching.specs.Inside.{parts_of, reads_of};
 
 use crate::begun::{Begun, Read, Start, begin_first, fill_cached};
 use crate::need::Need;
@@ -47,14 +48,15 @@ impl Model for Fetch {
 }
 
 impl Fetch {
-    ghost use Rattle.std.specs.Prelude.{ℕ, ◌-◌, ◌<◌, List, [], OnOk, Some, None};
+    ghost use Rattle.std.specs.Prelude.{ℕ, ◌-◌, ◌<◌, List, [], ◌∷◌, OnOk, Some, None};
     ghost use Rattle.jv_model.specs.declared.limits.TheConstants.{WINDOW, FILE_END};
     ghost use Rattle.jv_model.specs.journal.Reading.{Asked, asked_parts};
     ghost use Rattle.jv_contents.specs.Blocks.{Blocks};
     ghost use Rattle.jv_handles.specs.Views.{SeenViews};
     ghost use Rattle.jv_fetching.specs.Fetching.{begins, block_needed, fetch_left, fetched_of, first_window};
     ghost use Rattle.jv_fetching.specs.Going.{CanFetch, IsFetching};
-    ghost use Rattle.jv_fetching.specs.Calls.{Asks, FindsAll, HasCached, Wants, first_seen};
+    ghost use Rattle.jv_fetching.specs.Ahead.{blocks_ahead};
+    ghost use Rattle.jv_fetching.specs.Calls.{Asks, AsksSome, HasCached, Wants, first_seen};
     ghost use Rattle.jv_fetching.specs.Inside.{BeginsPart, EndsPart, FillsBegun, FillsFrom, FitsNext, GoesOnAny, GoesTo, Stops, ended};
 
     /// The reading of `len` bytes from `offset` on, 1 to [`jv_model::WINDOW`] of them, over a volume whose blocks have `block`
@@ -79,8 +81,9 @@ impl Fetch {
     }
 
     /// Goes on as far as views and cached blocks reach, and returns what it needs then: a look at the window of the
-    /// next part, a block that the cache lacks, or nothing. Each block is looked up once, a hit or a miss; bytes of
-    /// another length than the block's aren't it. Out of memory, the reading is over.
+    /// next part, a block that the cache lacks, or nothing. Each block on the way is looked up once and in its turn, a
+    /// hit or, at the last, a miss; bytes of another length than the block's aren't it. Out of memory, the reading is
+    /// over.
     pub fn advance(&mut self, views: &Views, cache: &mut BlockCache) -> Result<Need, AllocError>
         ensures block { self.new.block ≡ self.old.block }
         ensures wants { IfOk result (Wants views.now self.new) }
@@ -88,8 +91,10 @@ impl Fetch {
         ensures falls { OnOk result (fetch_left self.new ≤ fetch_left self.old) }
         ensures begins_part { self.old.begun ≡ None → first_seen views.now self.old.parts
             → OnOk result (fetch_left self.new < fetch_left self.old) }
-        ensures cache { OnErr result (FindsAll cache.old cache.new) }
-        ensures asks { IfOk result (λ need. Asks need self.old self.new cache.old cache.new) }
+        ensures asks { IfOk result (λ need. Asks (blocks_ahead views.now self.old)
+            (blocks_ahead views.now self.new) need cache.old cache.new) }
+        ensures cache { OnErr result
+            (AsksSome (blocks_ahead views.now self.old) cache.old cache.new) }
         ensures reads { (blocks : Blocks) (all : List Asked)
             → HasCached blocks views.now self.old.block cache.old
             → IsFetching blocks views.now all self.old
@@ -213,21 +218,29 @@ impl Fetch {
         }
     }
 
-    /// Fills in the block that is needed, and keeps it in the cache where memory allows. It has as many bytes as its
-    /// `size` says. The reading goes on by the next `advance`.
-    pub fn fill(&mut self, cache: &mut BlockCache, block: BlockId, bytes: Bytes)
+    /// Fills in the block that is needed, and keeps it in the cache. It has as many bytes as its `size` says. The only
+    /// error is out of memory: then the cache is as before, and the block is filled in all the same. The reading goes
+    /// on by the next `advance`.
+    pub fn fill(
+        &mut self,
+        cache: &mut BlockCache,
+        block: BlockId,
+        bytes: Bytes,
+    ) -> Result<(), AllocError>
         requires needed { block_needed self.old ≡ Some block }
         requires long { length bytes ≡ block.size }
         ensures block { self.new.block ≡ self.old.block }
         ensures can { (views : SeenViews) → CanFetch views self.old → CanFetch views self.new }
         ensures falls { fetch_left self.new < fetch_left self.old }
-        ensures cache { Keeps block bytes cache.old cache.new }
+        ensures ahead { (views : SeenViews)
+            → blocks_ahead views self.old ≡ block ∷ blocks_ahead views self.new }
+        ensures cache { KeepsBy result block bytes cache.old cache.new }
         ensures reads { (blocks : Blocks) (views : SeenViews) (all : List Asked)
             → blocks block ≡ Some bytes → IsFetching blocks views all self.old
             → IsFetching blocks views all self.new }
     {
         self.fill_in(bytes.as_slice());
-        keep(cache, block, bytes);
+        keep(cache, block, bytes)
     }
 
     /// Fills in the block that is needed.
@@ -264,15 +277,18 @@ fn after(parts: Spans, is_full: bool) -> Spans
     }
 }
 
-/// Keeps a block where memory allows.
-fn keep(cache: &mut BlockCache, block: BlockId, bytes: Bytes)
-    ensures { Keeps block bytes cache.old cache.new }
+/// Keeps a block. On error, which is out of memory, the cache is as before.
+fn keep(cache: &mut BlockCache, block: BlockId, bytes: Bytes) -> Result<(), AllocError>
+    ensures { KeepsBy result block bytes cache.old cache.new }
 {
     let key = BlockKey {
         id: block.id,
         index: block.index,
     };
-    let _ = cache.keep(key, bytes);
+    match cache.keep(key, bytes) {
+        Ok(()) => Ok(()),
+        Err(_) => Err(AllocError),
+    }
 }
 
 /// The entries and the bytes of at most two parts that were read.

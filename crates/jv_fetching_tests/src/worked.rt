@@ -86,7 +86,7 @@ fn read(alloc: Global, length: u64, cache: &mut BlockCache) -> Result<Run, Alloc
         asked.push(need)?;
         match need {
             Need::Look(window) => views.set(window, view_of(alloc, window, length)?)?,
-            Need::Block(block) => fetch.fill(cache, block, bytes_of(alloc, block)?),
+            Need::Block(block) => fetch.fill(cache, block, bytes_of(alloc, block)?)?,
             Need::Nothing => {
                 let (first, second, bytes) = fetch.into_parts()?;
                 return Ok(Run {

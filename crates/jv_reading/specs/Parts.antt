@@ -1,10 +1,11 @@
 -- A part of a window that is read, block by block.
-use Rattle.std.specs.Prelude.{◌≡◌, ℕ, ◌+◌, ◌-◌, ◌/◌, ◌%◌, ◌<◌, List, slice_get, slice_index, Contains, IfSome}
+use Rattle.std.specs.Prelude.{◌≡◌, ℕ, ◌+◌, ◌-◌, ◌/◌, ◌%◌, ◌<◌, List, [], ◌∷◌, fold, slice_get, slice_index, Contains, IfSome}
+use Rattle.std.specs.List.{flat_map, range_with_len}
 use Rattle.jv_model.specs.declared.slice.BlockId.{BlockId}
 use Rattle.jv_model.specs.declared.slice.Rec.{Rec}
 use Rattle.jv_model.specs.declared.slice.Spot.{Spot}
 use Rattle.jv_model.specs.declared.slice.Spot.TheVariants.{Zero, Slice}
-use Rattle.jv_model.specs.blocks.Slices.{block_at, block_count, stored_place}
+use Rattle.jv_model.specs.blocks.Slices.{block_at, block_count, stored_place, with_block}
 use Rattle.jv_contents.specs.Bytes.{KnownBytes, spot_byte}
 
 -- the positions of a window from one to another, by its list; the length of blocks; the blocks that
@@ -23,6 +24,22 @@ pub record IsPartOf (list : List Rec) (from to block : ℕ) (part : Part) : Type
   pub from_is : part.from ≡ from
   pub to_is : part.to ≡ to
   pub block_is : part.block ≡ block
+
+-- the block in which the byte of a spot lies, if it is one of a slice
+abbrev pub block_of_spot : ℕ → Spot → List BlockId
+block_of_spot block Zero = []
+block_of_spot block (Slice id size at) = block_at id size block (at / block) ∷ []
+
+-- the blocks of positions in a row
+abbrev pub blocks_along : ℕ → (ℕ → Spot) → ℕ → ℕ → List BlockId
+blocks_along block places from len =
+    flat_map (λ n. block_of_spot block (places n)) (range_with_len from len)
+
+-- the blocks that the positions of a window need, from one to another: those of their bytes, each
+-- where it comes first
+unfoldable pub blocks_between : ℕ → List Rec → ℕ → ℕ → List BlockId
+blocks_between block list from to =
+    fold with_block [] (blocks_along block (stored_place list) from (to - from))
 
 -- the byte that a position of a window has
 abbrev pub window_byte : KnownBytes → List Rec → ℕ → ℕ

@@ -1,10 +1,9 @@
 ghost use Rattle.std.specs.Prelude.{◌≡◌, ℕ, ◌-◌, ◌<◌, ◌≤◌, List, [], drop, length, slice_get, slice_index, All, IfOk, IfSome, IsSomeAnd, None};
 ghost use Rattle.jv_model.specs.declared.limits.TheConstants.{WINDOW};
-ghost use Rattle.jv_model.specs.declared.slice.Piece.{Piece as PieceSeen};
-ghost use Rattle.jv_model.specs.blocks.Slices.{IsRecord, IsPlan, needed_blocks};
+ghost use Rattle.jv_model.specs.blocks.Slices.{IsRecord};
 ghost use Rattle.jv_model.specs.journal.Reading.{bytes_from};
 ghost use Rattle.jv_contents.specs.Bytes.{KnownBytes};
-ghost use Rattle.jv_reading.specs.Parts.{IsPartOf, IsNamed, FillsIn, ReadsAs, window_byte};
+ghost use Rattle.jv_reading.specs.Parts.{IsPartOf, IsNamed, FillsIn, ReadsAs, blocks_between, window_byte};
 
 use crate::table::{Table, copy_shown, table_of};
 use jv_model::{BlockId, Bytes, List};
@@ -55,8 +54,8 @@ impl WindowRead {
         requires rising { from ≤ to }
         requires in_window { to ≤ WINDOW }
         ensures part { IfOk result (IsPartOf list.now from to block) }
-        ensures left { IfOk result (λ part. (pieces : List PieceSeen) →
-            IsPlan list.now from to pieces → part.left ≡ needed_blocks block pieces) }
+        ensures left { IfOk result (λ part.
+            part.left ≡ blocks_between block list.now from to) }
         ensures few { IfOk result (λ part. length part.left ≤ to - from) }
         ensures named { IfOk result (λ part. All (IsNamed list.now block) part.left) }
         ensures reads { IfOk result (λ part.

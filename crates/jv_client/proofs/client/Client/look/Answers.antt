@@ -6,7 +6,7 @@ use Rattle.jv_data.specs.Records.{LooksAt}
 use Rattle.jv_handles.specs.Handles.{inode_here}
 use Rattle.jv_client.specs.ClientValue.{ClientValue}
 use Rattle.jv_client.specs.Shared.{shared}
-use Rattle.jv_client.specs.Reading.{fetch_in, next_in}
+use Rattle.jv_client.specs.Reading.{came, fetch_in}
 use Rattle.jv_client.specs.contracts.client.Client.{the_view}
 use Rattle.jv_client.proofs.AskCallLaws.{back_as, if_err, if_ok, looks-came, looks-full, looks-lost, looks-unmade}
 use Rattle.jv_client.proofs.AskCallLaws.{mid_looked, open_after, open_looked}
@@ -98,7 +98,7 @@ drop_view-requires g c =
     open_after a.self.now (the_view i) _ r.ready r.needs c.self.view_is c.take_fetch-fetch.new.doing
     c.take_fetch-fetch.ensures.left c.handle_in_use-handle.result a.window (view_of a.entry looked)
     c.handle_in_use-handle.ensures c.deref_mut.result.now c.set_view.new.handles _ c.deref_mut.ensures.value
-    (with_items_is i.handles c.set_view.new.handles long) set (next_in c.ahead.result) c.ahead.new.self
+    (with_items_is i.handles c.set_view.new.handles long) set c.take_fetch-fetch.result (came c.ahead.result) c.ahead.new.self
     c.ahead.ensures.looks
     c.deref_mut-in-Err-ahead.result.now
     (c.deref_mut-in-Err-ahead.ensures.value ∙ ap (λ (v : ClientValue). v.handles) c.self-in-Err-ahead.view_is)
@@ -126,7 +126,8 @@ returns g c now yard carrier h ahead ready =
     handle c.inode_at-inode.result c.handle_in_use-handle.ensures
     (c.inode_at-inode.ensures ∙ ap (λ hs. inode_here hs handle) handles) looked
     (subst (λ sid. LooksAt sid c.inode_at-inode.result a.window before after (Ok looked)) sid c.in-Ok.ensures)
-    _ c.ahead.new.self mid _ c.fail-in-Err-ahead.new.self c.fail-in-Err-ahead.result
+    _ c.ahead.new.self mid c.take_fetch-fetch.result _ c.fail-in-Err-ahead.new.self c.fail-in-Err-ahead.result
+    (ap (λ (v : ClientValue). fetch_in v.doing) (sym c.self.view_is) ∙ c.take_fetch-fetch.ensures.taken)
     c.in-Err-ahead.ensures.looks
     (back_as (the_view then) c.ahead.new.self handle a.window c.deref_mut-in-Err-ahead.result.now c.drop_view.new.handles
     _ c.self-in-Err-ahead.view_is c.deref_mut-in-Err-ahead.ensures.value

@@ -21,5 +21,6 @@ returns-in-Some g c = λ now carrier.
 
 pub returns-in-Err : goal.returns-in-Err
 returns-in-Err g c = λ now carrier.
-    begun-fails now c.args.entry c.args.offset c.args.len c.args.self.now c.begin_reading.new.self c.fail.new.self _
-    c.fail.result c.requires.reads c.requires.ready c.requires.flushed c.in-Err.ensures.err c.fail.ensures
+    begun-fails now c.args.entry c.args.offset c.args.len c.setting.result.now.block c.args.self.now
+    c.begin_reading.new.self c.fail.new.self _ c.fail.result c.requires.reads c.requires.ready c.requires.flushed
+    c.requires.first (ap (λ (setting : Setting). setting.block) c.setting.ensures) c.in-Err.ensures.err c.fail.ensures

@@ -1,9 +1,9 @@
 use Rattle.std.proofs.Common.{Option, Some, None, subst, sym}
 use Rattle.jv_fetching.specs.declared.need.Need.{Need}
 use Rattle.jv_fetching.specs.Inside.{GoesTo, Stops}
-use Rattle.jv_fetching.specs.Calls.{FindsAll}
-use Rattle.jv_fetching.proofs.CacheLaws.{finds_none}
-use Rattle.jv_fetching.proofs.GoingLaws.{asks_nothing, asks_to, finds_to, goes_twice, nothing_left}
+use Rattle.jv_fetching.specs.Ahead.{blocks_ahead}
+use Rattle.jv_fetching.specs.Calls.{AsksSome}
+use Rattle.jv_fetching.proofs.GoingLaws.{asks_none, asks_nothing, asks_to, goes_twice, nothing_left}
 use Rattle.jv_fetching.proofs.fetch.Fetch.advance.Goals as goal
 use Rattle.jv_model.proofs.TestLaws.{on_err}
 
@@ -17,7 +17,8 @@ returns-in-Some-clause-asks c =
 pub returns-in_err-need-clause-cache : goal.returns-in_err-need-clause-cache
 returns-in_err-need-clause-cache c =
     on_err c.from_residual.result _
-    (subst (FindsAll c.args.cache.now) (sym c.in_err-need.ensures.cache) (finds_none c.args.cache.now))
+    (subst (AsksSome (blocks_ahead c.args.views.now c.args.self.now) c.args.cache.now) (sym c.in_err-need.ensures.cache)
+    (blocks_ahead c.args.views.now c.args.self.now, asks_none (blocks_ahead c.args.views.now c.args.self.now) c.args.cache.now))
 
 pub returns-in_err-need-2-clause-cache : goal.returns-in_err-need-2-clause-cache
 returns-in_err-need-2-clause-cache c =
@@ -26,8 +27,8 @@ returns-in_err-need-2-clause-cache c =
     let first = subst (λ (o : Option Need). GoesTo views c.args.cache.now middle c.args.self.now c.read_part.new.self o)
     c.in_default.is c.in_ok-need.ensures.goes in
     on_err c.from_residual-in_err-need-2.result _
-    (subst (FindsAll c.args.cache.now) (sym c.in_err-need-2.ensures.cache)
-    (finds_to views c.args.cache.now middle c.args.self.now c.read_part.new.self first))
+    (subst (AsksSome (blocks_ahead views c.args.self.now) c.args.cache.now) (sym c.in_err-need-2.ensures.cache)
+    (blocks_ahead views c.read_part.new.self, asks_nothing views c.args.cache.now middle c.args.self.now c.read_part.new.self first))
 
 pub returns-in-Some-2 : goal.returns-in-Some-2
 returns-in-Some-2 c =

@@ -1,9 +1,12 @@
 use Rattle.std.proofs.Common.{◌∙◌, Some, ap, sym}
-use Rattle.jv_fetching.proofs.GoingLaws.{fill_can, fill_reads}
+use Rattle.jv_fetching.proofs.GoingLaws.{fill_ahead, fill_can, fill_reads}
 use Rattle.jv_fetching.proofs.fetch.Fetch.fill.Goals as goal
 
 pub returns-clause-can : goal.returns-clause-can
 returns-clause-can c = fill_can c.as_slice.result.now c.args.self.now c.fill_in.new.self c.fill_in.ensures
+
+pub returns-clause-ahead : goal.returns-clause-ahead
+returns-clause-ahead c = fill_ahead c.as_slice.result.now c.args.self.now c.fill_in.new.self c.fill_in.ensures c.args.block c.requires.needed
 
 pub returns-clause-reads : goal.returns-clause-reads
 returns-clause-reads c = λ blocks views all own is.

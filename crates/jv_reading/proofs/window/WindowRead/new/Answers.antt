@@ -1,13 +1,13 @@
-use Rattle.std.proofs.Common.{◌≡◌, ◌+◌, ◌-◌, ◌≤◌, ◌∙◌, List, length, ap, sym, subst, arith}
+use Rattle.std.proofs.Common.{◌≡◌, ◌+◌, ◌-◌, ◌≤◌, ◌∙◌, List, length, sym, subst, arith}
 use Rattle.std.specs.Prelude.{All}
 use Rattle.jv_model.specs.declared.slice.BlockId.{BlockId}
 use Rattle.jv_model.specs.declared.slice.Rec.{Rec}
 use Rattle.jv_model.specs.blocks.Slices.{needed_blocks, stored_place}
 use Rattle.jv_slices.proofs.NeedLaws.{needs_are_few}
-use Rattle.jv_slices.proofs.PlanFormLaws.{plans_are_determined}
 use Rattle.jv_reading.specs.Overlaps.{HasOverlaps, overlaps_at}
 use Rattle.jv_reading.specs.Parts.{IsNamed, ReadsAs}
 use Rattle.jv_reading.proofs.OverlapLaws.{plan_begins}
+use Rattle.jv_reading.proofs.AlongLaws.{plan_needs}
 use Rattle.jv_reading.proofs.PartLaws.{needed_All, pieces_named, reads_none}
 use Rattle.jv_reading.proofs.window.WindowRead.new.Goals as goal
 
@@ -34,9 +34,9 @@ invariant_of-result c =
     }
 
 pub returns-clause-left : goal.returns-clause-left
-returns-clause-left c = λ pieces plan.
+returns-clause-left c =
     c.into_vec-needed.ensures ∙ c.in_ok-needs.ensures
-    ∙ ap (needed_blocks c.args.block) (plans_are_determined c.args.list.now c.args.from c.args.to c.in_ok-pieces.pieces pieces c.in_ok-pieces.ensures.plan plan)
+    ∙ plan_needs c.args.block c.args.list.now c.requires.some c.args.from c.args.to c.in_ok-pieces.pieces c.in_ok-pieces.ensures.plan c.in_ok-pieces.ensures.says
 
 pub returns-clause-few : goal.returns-clause-few
 returns-clause-few c =
