@@ -1,11 +1,12 @@
 //! Readers, writers and clocks of std that fail, count and differ.
 use jv_model::{Down, LAST_MOMENT, Moment};
 use jv_outside::{Clock, Reading, Sink, Source, Ticking, Writing};
+use std::cell::Cell;
 use std::io::{self, ErrorKind, Read, Write};
 use std::rt;
 use std::time::Duration;
 
-/// A reader and writer that fails, takes nothing, and works, in turn.
+/// A reader and writer that fails, is interrupted, takes nothing, and works, one after the other.
 #[derive(Drop)]
 struct Moody {
     calls: u32,
@@ -14,9 +15,10 @@ struct Moody {
 impl Moody {
     fn next(&mut self) -> io::Result<usize> {
         self.calls = self.calls.saturating_add(1);
-        match self.calls % 3 {
+        match self.calls % 4 {
             1 => Err(io::Error::from(ErrorKind::Other)),
-            2 => Ok(0),
+            2 => Err(io::Error::from(ErrorKind::Interrupted)),
+            3 => Ok(0),
             _ => Ok(1),
         }
     }
@@ -44,6 +46,7 @@ fn a_failing_call_is_a_fault_and_is_not_tried_again(rt: HostRuntime) {
     let mut sink = Writing::new(Moody { calls: 0 });
     for (name, read, written) in [
         ("fails", Err(Down::Failed), Err(Down::Failed)),
+        ("is interrupted", Err(Down::Failed), Err(Down::Failed)),
         ("takes nothing", Ok(0), Err(Down::Failed)),
         ("works", Ok(1), Ok(1)),
     ] {
@@ -52,11 +55,11 @@ fn a_failing_call_is_a_fault_and_is_not_tried_again(rt: HostRuntime) {
     }
 }
 
-/// A writer that takes everything, and counts its flushes, which fail or not.
+/// A writer that takes everything, and counts its flushes, of which the first alone fails, or none.
 #[derive(Drop)]
 struct Flushing {
     flushes: u32,
-    fails: bool,
+    fails: Option<ErrorKind>,
 }
 
 impl Write for Flushing {
@@ -66,10 +69,9 @@ impl Write for Flushing {
 
     fn flush(&mut self) -> io::Result<()> {
         self.flushes = self.flushes.saturating_add(1);
-        if self.fails {
-            Err(io::Error::from(ErrorKind::Other))
-        } else {
-            Ok(())
+        match self.fails.take() {
+            Some(kind) => Err(io::Error::from(kind)),
+            None => Ok(()),
         }
     }
 }
@@ -78,7 +80,7 @@ impl Write for Flushing {
 fn each_write_is_flushed(rt: HostRuntime) {
     let mut writer = Flushing {
         flushes: 0,
-        fails: false,
+        fails: None,
     };
     let mut sink = Writing::new(&mut writer);
     assert_eq!(rt; sink.write(b"ok 1"), Ok(4));
@@ -87,18 +89,23 @@ fn each_write_is_flushed(rt: HostRuntime) {
 }
 
 #[test]
-fn a_flush_that_fails_is_a_fault(rt: HostRuntime) {
-    let mut sink = Writing::new(Flushing {
-        flushes: 0,
-        fails: true,
-    });
-    assert_eq!(rt; sink.write(b"ok 1"), Err(Down::Failed));
+fn a_flush_that_fails_is_a_fault_and_is_not_tried_again(rt: HostRuntime) {
+    for (name, kind) in [
+        ("fails", ErrorKind::Other),
+        ("is interrupted", ErrorKind::Interrupted),
+    ] {
+        let mut sink = Writing::new(Flushing {
+            flushes: 0,
+            fails: Some(kind),
+        });
+        assert_eq!(rt; sink.write(b"ok 1"), Err(Down::Failed), "{name}");
+    }
 }
 
-/// A clock that stands at a second since 1970, or fails, seven seconds after the machine started.
+/// A clock that stands at a second since 1970, seven seconds after the machine started, or fails at its first call alone.
 #[derive(Drop)]
 struct Standing {
-    second: Result<u64, ErrorKind>,
+    second: Cell<Result<u64, ErrorKind>>,
 }
 
 impl rt::Clock for Standing {
@@ -107,7 +114,7 @@ impl rt::Clock for Standing {
     }
 
     fn since_1970(&self) -> io::Result<Duration> {
-        match self.second {
+        match self.second.replace(Ok(0)) {
             Ok(second) => Ok(Duration::from_secs(second)),
             Err(kind) => Err(io::Error::from(kind)),
         }
@@ -125,8 +132,18 @@ fn a_moment_is_counted_since_1970_within_its_range(rt: HostRuntime) {
             Ok(Moment(LAST_MOMENT)),
         ),
         ("before 1970", Err(ErrorKind::InvalidData), Ok(Moment(0))),
-        ("a failure", Err(ErrorKind::Other), Err(Down::Failed)),
+        (
+            "a failure, not tried again",
+            Err(ErrorKind::Other),
+            Err(Down::Failed),
+        ),
+        (
+            "an interrupted call, not tried again",
+            Err(ErrorKind::Interrupted),
+            Err(Down::Failed),
+        ),
     ] {
+        let second = Cell::new(second);
         assert_eq!(rt; Ticking::new(Standing { second }).now(), moment, "{name}");
     }
 }
