@@ -1,5 +1,5 @@
 //! Whether what stores have is a whole volume: rows that are those of one tree, with its counts and sums, lists that
-//! agree with slices and files, and each block of a slice.
+//! agree with slices and files, each block of a slice, none of a slice that is still to come, and copies that are alike.
 mod blocks;
 mod counts;
 mod entries;

@@ -85,6 +85,8 @@
 //! - Each list belongs to a file, or to a removed one. A file's lists show zeros from its length on, and a removed one
 //!   has no node.
 //! - Each block of a slice that has a row, by its name and length under the setting, is an object or staged by a client.
+//!   Objects and staged blocks with the name of a block are of slices below the next one, and copies of one block have
+//!   equal bytes.
 //!
 //! How often the carrier failed is read off the answers, since it shows no calls. The run without the
 //! fault makes one that opens it, and one for each object that is new; where one of these is to fail,
