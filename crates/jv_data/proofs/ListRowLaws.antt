@@ -1,5 +1,5 @@
 -- What a change of a row does to lists and to how often slices are named: the row of a list, and any other.
-use Rattle.std.proofs.Common.{◌≡◌, ◌≢◌, ℕ, ◌+◌, ◌<◌, ◌≤◌, ◌^◌, Bool, true, false, inl, inr, List, [], length, Option, None, Some, refl, sym, ap, subst, ◌∙◌, arith, lt-ltb, eq-eqb, ne_eqb}
+use Rattle.std.proofs.Common.{◌≡◌, ◌≢◌, ℕ, ◌+◌, ◌<◌, ◌^◌, Bool, true, false, inl, inr, List, [], length, Option, refl, sym, ap, subst, ◌∙◌, arith, lt-ltb, eq-eqb, ne_eqb}
 use Rattle.std.proofs.lemmas.Bool.{cases_eq, cond-true, cond-false}
 use Rattle.std.proofs.lemmas.Nat.{from_be_bytes-to_be_bytes_4}
 use Rattle.std.specs.Int.{w32, from_be_bytes}
@@ -8,11 +8,10 @@ use Rattle.std.specs.List.{AllByRecursion}
 use Rattle.jv_model.specs.declared.tables.TheConstants.{TABLE_OF_LISTS}
 use Rattle.jv_model.specs.declared.row.RowKey.{RowKey}
 use Rattle.jv_model.specs.declared.slice.Rec.{Rec}
-use Rattle.jv_model.specs.FiniteMap.{KeyOrder, Map, get, alter, sum_over}
+use Rattle.jv_model.specs.FiniteMap.{get, alter}
 use Rattle.jv_model.specs.rows.RowFields.{word}
 use Rattle.jv_model.specs.rows.RowKeys.{row_key}
 use Rattle.jv_model.specs.rows.RowPlaces.{list_key}
-use Rattle.jv_model.proofs.FiniteMapLaws.{share, sum-insert, sum-remove}
 use Rattle.jv_volume.specs.TypedRows.{Cell, Rows}
 use Rattle.jv_volume.specs.Views.{row_in, records_in, lists_of}
 use Rattle.jv_volume.specs.Slices.{listed, records_naming, named_by, ListsHave}

@@ -1,5 +1,5 @@
 -- What a session reads of a file's row, and how a commit of bytes begins.
-use Rattle.std.specs.Prelude.{◌≡◌, ℕ, ◌+◌, max, List, length, Some, Result, Ok, Err, IfOk, OnOk, IsTrue}
+use Rattle.std.specs.Prelude.{◌≡◌, ℕ, ◌+◌, max, List, length, Some, Result, Ok, IfOk, OnOk, IsTrue}
 use Rattle.jv_model.specs.declared.fault.TxFault.{TxFault}
 use Rattle.jv_model.specs.declared.row.Node.{Node}
 use Rattle.jv_model.specs.declared.row.Row.TheVariants.{OfNode}
