@@ -4,7 +4,7 @@ use Rattle.std.proofs.lemmas.Bool.{cases_eq, cond-true, cond-false}
 use Rattle.std.proofs.lemmas.Bool.Decides.{nat_tests}
 use Rattle.std.proofs.lemmas.List.Sums.{sum_by-cons}
 use Rattle.std.proofs.lemmas.Option.{same_Some}
-use Rattle.std.specs.Prelude.{◌==◌, if◌then◌else◌}
+use Rattle.std.specs.Prelude.{◌==◌, ◌&&◌, if◌then◌else◌}
 use Rattle.std.specs.List.{AllByRecursion}
 use Rattle.jv_model.specs.declared.tables.TheConstants.{TABLE_OF_LISTS, TABLE_OF_SLICES}
 use Rattle.jv_model.specs.declared.limits.TheConstants.{WINDOW, FULL_COUNT}
@@ -123,6 +123,15 @@ module _ (rows : Rows) (inode window : ℕ) (low : window < 2 ^ 32) (rec : Rec) 
 
   pub lists_beside : (i u : ℕ) → i ≢ inode → lists_of recorded_rows i u ≡ lists_of rows i u
   lists_beside i u apart = lists_of-other listed_rows (slice_key rec.id) slice_cell refl i u ∙ lists_of-beside rows inode window low list_cell i u apart
+
+  -- the list has the record behind it, and every other list is as it was
+  pub lists-recorded : (file at : ℕ) → lists_of recorded_rows file at
+      ≡ (if (file == inode) && (at == window) then list ++ rec ∷ [] else lists_of rows file at)
+  lists-recorded file at = elim (cases_eq file inode) [
+    | inl same ↦ ap (λ i. lists_of recorded_rows i at) same ∙ lists_here at
+        ∙ (λ i. if sym (eq-eqb file inode same) i && (at == window) then list ++ rec ∷ [] else lists_of rows (sym same i) at)
+    | inr apart ↦ lists_beside file at apart ∙ sym (cond-false _ _ _ (ap (λ b. b && (at == window)) (ne_eqb file inode apart)))
+  ]
 
   named_same : (id : ℕ) → named_by recorded_rows id ≡ named_by rows id + records_naming id (rec ∷ [])
   named_same id =

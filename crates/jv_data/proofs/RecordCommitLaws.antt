@@ -1,6 +1,7 @@
 -- How a commit of a record ends: each of its exits, by how it began, what was read and what was changed.
 use Rattle.std.proofs.Common.{◌≡◌, ℕ, ◌+◌, ◌*◌, ◌<◌, ◌≤◌, ◌^◌, inl, false, List, [], ◌∷◌, ◌++◌, Option, Some, Result, Ok, Err, refl, sym, ap, subst, ◌∙◌, arith}
-use Rattle.std.specs.Prelude.{max}
+use Rattle.std.specs.Prelude.{◌==◌, ◌&&◌, if◌then◌else◌}
+use Rattle.std.proofs.lemmas.Bool.{or_right}
 use Rattle.std.specs.Option.{option_map, unwrap_or}
 use Rattle.jv_model.specs.declared.fault.Down.{Down}
 use Rattle.jv_model.specs.declared.fault.Fault.{Fault}
@@ -14,6 +15,7 @@ use Rattle.jv_model.specs.declared.row.Row.TheVariants.{OfList, OfSlice}
 use Rattle.jv_model.specs.declared.row.RowKey.{RowKey}
 use Rattle.jv_model.specs.declared.row.SliceRow.{SliceRow}
 use Rattle.jv_model.specs.declared.setting.Setting.{Setting}
+use Rattle.jv_model.specs.declared.tables.TheConstants.{TABLE_OF_SETTING}
 use Rattle.jv_model.specs.declared.slice.Rec.{Rec}
 use Rattle.jv_model.specs.FiniteMap.{alter, get}
 use Rattle.jv_model.specs.blocks.Slices.{IsRecord}
@@ -33,14 +35,15 @@ use Rattle.jv_rows.specs.Transactions.{FaultCause, Agrees, Looks}
 use Rattle.jv_rows.proofs.TransactionLaws.{Fails, FailsBy, fails-memory, fails-commit}
 use Rattle.jv_volume.specs.TypedRows.{Rows, typed}
 use Rattle.jv_volume.specs.Views.{row_in, node_in, node_row_at, slice_row_at, lists_of}
-use Rattle.jv_volume.specs.Whole.{Whole}
+use Rattle.jv_volume.specs.Whole.{Whole, is_of_slices}
+use Rattle.jv_volume.proofs.QuietLaws.{lists_of-stay}
 use Rattle.jv_contents.specs.Bytes.{KnownBytes, bytes_of, tree_with}
 use Rattle.jv_contents.specs.Counts.{KeepsOthers}
 use Rattle.jv_data.specs.Changing.{Makes, Never, Changed, LandsChanged, may_change, KeepsRest}
 use Rattle.jv_data.specs.Committing.{BeginsCommit, Begun}
-use Rattle.jv_data.specs.Resizing.{rows_sized}
-use Rattle.jv_data.specs.Records.{HasRecords, IsNew, CommitsRecord, committing}
+use Rattle.jv_data.specs.Records.{HasRecords, IsNew, CommitsRecord, AppendsRecord, committing}
 use Rattle.jv_data.proofs.CommitLaws.{RefusedBy, began, commit-unbegun, commit-reads, commit-fails}
+use Rattle.jv_data.proofs.NewRecordLaws.{recorded_rows, lists-recorded}
 use Rattle.jv_data.proofs.RecordsLaws.{records-unread, records-seen_in}
 use Rattle.jv_data.proofs.RecordedLaws.{last, lives-last, rest-last, whole-last, others-last, size-last, tree-last}
 use Rattle.jv_data.proofs.RestLaws.{of_left}
@@ -140,6 +143,33 @@ module _ (sid now inode window : ℕ) (rec : Rec) (started : ℕ) where
     module _ (slice : SliceRow) (d1 d2 : List Change) (slice_is : slice ≡ record { size = rec.size; count = 1 })
         (one : (known : RowMap) → drafted d1 known ≡ alter (drafted begun_by known) (list_key inode window) (cell OfList (Some (list ++ rec ∷ []))))
         (two : (known : RowMap) → drafted d2 known ≡ alter (drafted d1 known) (slice_key rec.id) (cell OfSlice (Some slice))) where
+      module _ (known : RowMap) (is : before.rows ≡ Some known) where
+        list_is : list ≡ lists_of (typed known) inode window
+        list_is = of_known (λ known. list ≡ lists_of (typed known) inode window) middle.rows known ((b.looks end [] (omega arith)).rows_are ∙ is) r.list
+
+        lists_begun : (file at : ℕ) → lists_of (drafted begun_by known) file at ≡ lists_of (typed known) file at
+        lists_begun = lists_of-stay (typed known) (drafted begun_by known)
+            (λ key of. b.leaves known is key (or_right (key.tab == TABLE_OF_SETTING) (is_of_slices key.tab) of))
+
+        same_list : list ≡ lists_of (drafted begun_by known) inode window
+        same_list = list_is ∙ sym (lists_begun inode window)
+
+        rows_recorded : drafted d2 known ≡ recorded_rows (drafted begun_by known) inode window low rec list same_list is_rec some small
+        rows_recorded = two known
+            ∙ ap (λ (rows : Rows). alter rows (slice_key rec.id) (cell OfSlice (Some slice))) (one known)
+            ∙ (λ i. alter (alter (drafted begun_by known) (list_key inode window) (cell OfList (Some (list ++ rec ∷ [])))) (slice_key rec.id)
+            (cell OfSlice (Some (slice_is i))))
+
+        lists : (file at : ℕ) → lists_of (drafted d2 known) file at
+            ≡ (if (file == inode) && (at == window) then lists_of (typed known) inode window ++ rec ∷ [] else lists_of (typed known) file at)
+        lists file at = ap (λ (rows : Rows). lists_of rows file at) rows_recorded
+            ∙ lists-recorded (drafted begun_by known) inode window low rec list same_list is_rec some small file at
+            ∙ (λ i. if (file == inode) && (at == window) then list_is i ++ rec ∷ [] else lists_begun file at i)
+
+        stands : (last_store : Store) → Commits read last_store (Ok tt) d2 → last_store.rows ≡ Some (applied d2 known)
+        stands last_store commits = commits.content_is
+            ∙ ap (option_map (applied d2)) (r.looks.rows_are ∙ (b.looks end [] (omega arith)).rows_are ∙ is)
+
       module _ (known : RowMap) (is : before.rows ≡ Some known) (whole : Whole (typed known)) where
         abbrev begun : Begun (typed known) (drafted begun_by known) inode end now
         begun = b.begun known is whole
@@ -147,22 +177,20 @@ module _ (sid now inode window : ℕ) (rec : Rec) (started : ℕ) where
         there : node_row_at (typed known) inode ≡ Some begun.was
         there = ap (λ o. node_in (row_in o)) begun.there
 
-        list_is : list ≡ lists_of (typed known) inode window
-        list_is = of_known (λ known. list ≡ lists_of (typed known) inode window) middle.rows known ((b.looks end [] (omega arith)).rows_are ∙ is) r.list
+        abbrev list_here : list ≡ lists_of (typed known) inode window
+        list_here = list_is known is
 
         abbrev left : Rows
-        left = last (typed known) inode window low begun.was begun.sized.counters now rec list whole there begun.file begun.sized.there list_is is_rec some small within
+        left = last (typed known) inode window low begun.was begun.sized.counters now rec list whole there begun.file begun.sized.there list_here is_rec some small within
 
         rows_are : drafted d2 known ≡ left
-        rows_are = two known
-            ∙ ap (λ (rows : Rows). alter rows (slice_key rec.id) (cell OfSlice (Some slice)))
-            (one known ∙ ap (λ (rows : Rows). alter rows (list_key inode window) (cell OfList (Some (list ++ rec ∷ [])))) begun.sized.is)
-            ∙ (λ i. alter (alter (rows_sized (typed known) inode begun.was begun.sized.counters (max begun.was.length end) now) (list_key inode window)
-            (cell OfList (Some (list ++ rec ∷ [])))) (slice_key rec.id) (cell OfSlice (Some (slice_is i))))
+        rows_are = rows_recorded known is
+            ∙ ap (λ (rows : Rows). alter (alter rows (list_key inode window) (cell OfList (Some (list ++ rec ∷ [])))) (slice_key rec.id)
+            (cell OfSlice (Some (record { size = rec.size; count = 1 })))) begun.sized.is
 
         rest : (key : RowKey) → may_change inode key ≡ false → get (drafted d2 known) key ≡ get (typed known) key
         rest key other = ap (λ (rows : Rows). get rows key) rows_are
-            ∙ rest-last (typed known) inode window low begun.was begun.sized.counters now rec list whole there begun.file begun.sized.there list_is is_rec some small within
+            ∙ rest-last (typed known) inode window low begun.was begun.sized.counters now rec list whole there begun.file begun.sized.there list_here is_rec some small within
             key other
 
         changed : (known_bytes : KnownBytes) (bytes : List ℕ) (due : Setting → ℕ) → IsNew rec bytes (typed known) known_bytes → (last_rows : Option RowMap) → last_rows ≡ Some (applied d2 known)
@@ -172,17 +200,17 @@ module _ (sid now inode window : ℕ) (rec : Rec) (started : ℕ) where
           left = applied d2 known;
           is = stands;
           whole = subst Whole (sym rows_are) (whole-last (typed known) inode window low begun.was begun.sized.counters now rec list whole there begun.file
-              begun.sized.there list_is is_rec some small within new.unknown new.below);
+              begun.sized.there list_here is_rec some small within new.unknown new.below);
           others = subst (KeepsOthers rec.id 1 (typed known)) (sym rows_are) (others-last (typed known) inode window low begun.was begun.sized.counters now rec list
-              whole there begun.file begun.sized.there list_is is_rec some small within new.unknown new.below);
+              whole there begun.file begun.sized.there list_here is_rec some small within new.unknown new.below);
           size = λ slice here. size-last (typed known) inode window low begun.was begun.sized.counters now rec list whole there begun.file
-              begun.sized.there list_is is_rec some small within slice (ap (λ (rows : Rows). slice_row_at rows rec.id) (sym rows_are) ∙ here);
+              begun.sized.there list_here is_rec some small within slice (ap (λ (rows : Rows). slice_row_at rows rec.id) (sym rows_are) ∙ here);
           dies = λ setting set id old here none. absurd (lives-last (typed known) inode window low begun.was begun.sized.counters now rec list whole there begun.file
-              begun.sized.there list_is is_rec some small within id old here (ap (λ (rows : Rows). slice_row_at rows id) (sym rows_are) ∙ none));
+              begun.sized.there list_here is_rec some small within id old here (ap (λ (rows : Rows). slice_row_at rows id) (sym rows_are) ∙ none));
           model = ap (λ r. r >>= (λ left. done left)) ((began sid now inode end started before middle begun_by b from bytes (ap (λ n. from + n) new.shows.long)).goes_on
               known is whole (bytes_of known_bytes (typed known)))
               ∙ ap done (sym (tree-last (typed known) inode window low begun.was begun.sized.counters now rec list whole there begun.file
-              begun.sized.there list_is is_rec some small within known_bytes bytes new.shows.long new.shows.each) ∙ ap (tree_with known_bytes) (sym rows_are));
+              begun.sized.there list_here is_rec some small within known_bytes bytes new.shows.long new.shows.each) ∙ ap (tree_with known_bytes) (sym rows_are));
         }
 
       -- all is committed
@@ -193,14 +221,19 @@ module _ (sid now inode window : ℕ) (rec : Rec) (started : ℕ) where
             opened_at = commits.opened_at ∙ r.looks.opened_at ∙ so_far.opened_at;
             counts = commits.calm ∙ r.looks.counts ∙ so_far.calm;
             undone = tt;
-            lands = λ known is whole known_bytes new. changed known is whole known_bytes bytes due new last_store.rows
-                (commits.content_is ∙ ap (option_map (applied d2)) (r.looks.rows_are ∙ so_far.rows_are ∙ is));
+            lands = λ known is whole known_bytes new. changed known is whole known_bytes bytes due new last_store.rows (stands known is last_store commits);
             bad = tt;
           }
 
       -- and all other rows are as before
       pub record-rest : (last_store : Store) → Commits read last_store (Ok tt) d2 → KeepsRest {A = Unit {0}} inode before last_store (Ok tt)
       record-rest last_store commits known left is whole here key other =
-          let so_far = began sid now inode end started before middle begun_by b end [] (omega arith) in
-          of_left (λ rows. get rows key ≡ get (typed known) key) d2 known left last_store.rows
-          (commits.content_is ∙ ap (option_map (applied d2)) (r.looks.rows_are ∙ so_far.rows_are ∙ is)) here (rest known is whole key other)
+          of_left (λ rows. get rows key ≡ get (typed known) key) d2 known left last_store.rows (stands known is last_store commits) here
+          (rest known is whole key other)
+
+      -- and the record stands behind the list of its window, and behind no other
+      pub record-lists : (last_store : Store) → Commits read last_store (Ok tt) d2 → AppendsRecord inode window rec before last_store (Ok tt)
+      record-lists last_store commits known left is here file at =
+          of_left (λ rows. lists_of rows file at
+          ≡ (if (file == inode) && (at == window) then lists_of (typed known) inode window ++ rec ∷ [] else lists_of (typed known) file at))
+          d2 known left last_store.rows (stands known is last_store commits) here (lists known is file at)

@@ -1,5 +1,5 @@
 -- Looks at a window, numbers for slices, and commits of a slice's record.
-use Rattle.std.specs.Prelude.{◌≡◌, ◌≢◌, ◌⊎◌, ℕ, ◌+◌, ◌*◌, ◌<◌, nat_lt, List, length, slice_index, Option, Some, Result, Ok, Err, IfOk, IfErr, IfSome, OnOk, OnErr}
+use Rattle.std.specs.Prelude.{◌≡◌, ◌≢◌, ◌⊎◌, ℕ, ◌+◌, ◌*◌, ◌<◌, nat_lt, ◌==◌, ◌&&◌, if◌then◌else◌, List, [], ◌∷◌, ◌++◌, length, slice_index, Option, Some, Result, Ok, Err, IfOk, IfErr, IfSome, OnOk, OnErr}
 use Rattle.std.specs.List.{AllByRecursion}
 use Rattle.jv_model.specs.declared.fault.Fault.{Fault}
 use Rattle.jv_model.specs.declared.fault.Fault.TheVariants.{NoSpace}
@@ -124,3 +124,13 @@ CommitsRecord sid now inode window rec started before after result =
     → Changes (record { own = rec.id; size = rec.size; more = 1; due = due })
     (IsNew rec bytes) Never before after result (λ unit. Done)
     (committing sid inode (window * WINDOW + rec.pos) bytes started now)
+
+-- Where a commit was made, whatever the rows were, the window's list is what it was with the record
+-- behind it, and every other list, of this file and of others, is as it was.
+abbrev pub AppendsRecord : (inode window : ℕ) → Rec → Store → Store
+    → Result (Unit {0}) TxFault → Type 0
+AppendsRecord inode window rec before after result =
+    OnOk result ((known left : RowMap) → before.rows ≡ Some known → after.rows ≡ Some left
+    → (file at : ℕ) → lists_of (typed left) file at
+    ≡ (if (file == inode) && (at == window)
+    then lists_of (typed known) inode window ++ rec ∷ [] else lists_of (typed known) file at))

@@ -2,7 +2,7 @@
 ghost use Rattle.std.specs.Prelude.{◌≡◌, ◌≤◌, ◌+◌, ◌*◌, ◌<◌, [], nat_lt};
 ghost use Rattle.jv_data.specs.Changing.{KeepsRest};
 ghost use Rattle.jv_data.specs.Committing.{BeginsCommit};
-ghost use Rattle.jv_data.specs.Records.{CommitsRecord};
+ghost use Rattle.jv_data.specs.Records.{AppendsRecord, CommitsRecord};
 ghost use Rattle.jv_model.specs.blocks.Slices.{IsRecord};
 ghost use Rattle.jv_model.specs.declared.limits.TheConstants.{FILE_END, WINDOW};
 
@@ -75,6 +75,7 @@ pub fn commit<K: Keeper>(
     requires within { window * WINDOW + rec.pos + rec.len ≤ FILE_END }
     ensures commits { CommitsRecord who.entry.now.sid who.entry.now.now inode window rec started
         (K.seen k.old) (K.seen k.new) result }
+    ensures lists { AppendsRecord inode window rec (K.seen k.old) (K.seen k.new) result }
     ensures rest { KeepsRest inode (K.seen k.old) (K.seen k.new) result }
 {
     let end = u64::from(window) * WINDOW + u64::from(rec.pos) + u64::from(rec.len);

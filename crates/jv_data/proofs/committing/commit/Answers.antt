@@ -1,7 +1,7 @@
 use Rattle.std.proofs.Common.{[], Ok, Err, refl}
 use Rattle.std.specs.Option.{unwrap_or}
 use Rattle.std.proofs.lemmas.Result.{err_from_is_err_and}
-use Rattle.jv_data.proofs.RecordCommitLaws.{at_end, record-unbegun, record-unread, record-read, record-memory, record-down, record-done, record-rest}
+use Rattle.jv_data.proofs.RecordCommitLaws.{at_end, record-unbegun, record-unread, record-read, record-memory, record-down, record-done, record-lists, record-rest}
 use Rattle.jv_data.proofs.committing.commit.Goals as goal
 
 pub returns-in_err-begin_commit-clause-commits : goal.returns-in_err-begin_commit-clause-commits
@@ -58,6 +58,23 @@ returns-in-Ok-clause-commits g c bytes due =
     c.ranges.window.fits c.append_record.new.self (g.K.Keeper.seen c.append_record.new.k) c.in_ok-append_record.ensures)
     (record { size = c.args.rec.size; count = 1 }) c.append_record.new.self c.put_slice.new.self
     refl c.in_ok-append_record.ensures.drafts.done c.in_ok-put_slice.ensures.done (g.K.Keeper.seen c.commit.new.k) c.in-Ok.ensures bytes due
+
+pub returns-in-Ok-clause-lists : goal.returns-in-Ok-clause-lists
+returns-in-Ok-clause-lists g c =
+    record-lists c.args.who.now.sid c.args.who.now.now c.args.inode c.args.window c.args.rec c.args.started
+    c.ranges.window.fits c.requires.part c.requires.named c.requires.size c.requires.within (g.K.Keeper.seen c.args.k.now) (g.K.Keeper.seen c.begin_commit.new.k) (g.K.Keeper.seen c.append_record.new.k) c.begin_commit.new.draft
+    (at_end c.args.who.now.sid c.args.who.now.now c.args.inode c.args.window c.args.rec c.args.started
+    (g.K.Keeper.seen c.args.k.now) (g.K.Keeper.seen c.begin_commit.new.k) c.begin_commit.new.draft (Ok tt)
+    c.from.result c.from-2.result c.from-3.result c.from.ensures c.from-2.ensures c.from-3.ensures c.in_ok-begin_commit.ensures)
+    (unwrap_or c.in_ok-append_record.ensures.found [])
+    (record-read c.args.who.now.sid c.args.who.now.now c.args.inode c.args.window c.args.rec c.args.started
+    (g.K.Keeper.seen c.args.k.now) (g.K.Keeper.seen c.begin_commit.new.k) c.begin_commit.new.draft
+    (at_end c.args.who.now.sid c.args.who.now.now c.args.inode c.args.window c.args.rec c.args.started
+    (g.K.Keeper.seen c.args.k.now) (g.K.Keeper.seen c.begin_commit.new.k) c.begin_commit.new.draft (Ok tt)
+    c.from.result c.from-2.result c.from-3.result c.from.ensures c.from-2.ensures c.from-3.ensures c.in_ok-begin_commit.ensures)
+    c.ranges.window.fits c.append_record.new.self (g.K.Keeper.seen c.append_record.new.k) c.in_ok-append_record.ensures)
+    (record { size = c.args.rec.size; count = 1 }) c.append_record.new.self c.put_slice.new.self
+    refl c.in_ok-append_record.ensures.drafts.done c.in_ok-put_slice.ensures.done (g.K.Keeper.seen c.commit.new.k) c.in-Ok.ensures
 
 pub returns-in-Ok-clause-rest : goal.returns-in-Ok-clause-rest
 returns-in-Ok-clause-rest g c =
