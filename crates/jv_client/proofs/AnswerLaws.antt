@@ -42,7 +42,7 @@ use Rattle.jv_client.specs.Makes.{FailsAlone, Falls, Makes, StepsTo, SaysBad, Us
 use Rattle.jv_client.specs.Transacting.{Fails}
 use Rattle.jv_client.specs.UnderWay.{IsReady, IsUnderWay}
 use Rattle.jv_client.specs.YardUse.{PutsNone, YardUse}
-use Rattle.jv_client.proofs.CacheUseLaws.{NoBlock, cache-stays, failure-stays}
+use Rattle.jv_client.proofs.CacheUseLaws.{Alone, RestsBy, cache-stays, failure-stays}
 use Rattle.jv_client.proofs.HeldLaws.{client-doing, doing_of, holds-doing}
 use Rattle.jv_client.proofs.KeptLaws.{client-ended}
 
@@ -192,24 +192,23 @@ module _ (now entry : ℕ) (h : ClientValue) (d : Doing) (before used : Shared) 
         holds = holds-doing s.tree c None holds;
       }
 
-  pub fails-makes : (after : ClientValue) (done : Made) → h.doing ≡ Some d → IsReady h
+  pub fails-makes : (after : ClientValue) (done : Made) → h.doing ≡ Some d → IsReady h → RestsBy h d failed
       → is_failure (ToldRefused fault) ≡ true → Fails fault h after done → HoldsSame before used
       → UsesDevices done before used → YardUse now h done before.yard used.yard
       → Makes now entry h after before used done
-  fails-makes after done busy ready fail fails same devices yard =
+  fails-makes after done busy ready by fail fails same devices yard =
       makes-as now entry h after (ended h) before used used done failed fails.after_is refl fails.made_is
       (makes-ended now entry h (ended h) before used failed (RefusedReply fault) refl ready (ended-rests h)
       (subst (λ (x : Made). UsesDevices x before used) fails.made_is devices)
       (subst (λ (x : Made). YardUse now h x before.yard used.yard) fails.made_is yard)
-      (cache-stays h d busy (ended h) failed before.yard used.yard (NoBlock refl (λ goes. absurd (cc goes)))
-      (failure-stays fault fail) refl tt) tt
+      (cache-stays h d busy (ended h) failed before.yard used.yard by (failure-stays fault fail) refl tt) tt
       (λ s g count store holds is. fails-leads busy fail same s g store holds is))
 
 -- memory ran out, and no device was used
 pub no_memory-makes : (now entry : ℕ) (h after : ClientValue) (d : Doing) (v : Shared) (done : Made) → h.doing ≡ Some d
     → IsReady h → Fails NoMemory h after done → Makes now entry h after v v done
 no_memory-makes now entry h after d v done busy ready fails =
-    fails-makes now entry h d v v NoMemory after done busy ready refl fails (same-none v)
+    fails-makes now entry h d v v NoMemory after done busy ready (Alone (λ block. tt)) refl fails (same-none v)
     (subst (λ (x : Made). UsesDevices x v v) (sym fails.made_is)
     (uses-none (made.Answer (ToldRefused NoMemory) (RefusedReply NoMemory)) v (λ device. refl) tt))
     (same-yard now h done v.yard)

@@ -132,8 +132,7 @@ module _ (now entry : ℕ) (h c : ClientValue) (window : ℕ) (before : Shared)
         (look-out now entry block h asked.d asked.offset asked.len asked.cache asked.fetch window asked.asks before refl
         keeper asked.cache
         (looked-before now entry block h asked.d asked.offset asked.len asked.cache asked.fetch window asked.asks before
-        refl keeper (made.Answer (ToldRefused NoMemory) (Refused NoMemory)) (over h.handles asked.cache h) refl
-        (λ goes. absurd (cc goes)))
+        refl keeper (made.Answer (ToldRefused NoMemory) (Refused NoMemory)) (over h.handles asked.cache h) refl refl)
         (cached-known asked.asks before refl)
         looks.looks.rows_are looks.looks.opened_at looks.looks.counts)
 
@@ -225,7 +224,7 @@ module _ (now entry : ℕ) (h c : ClientValue) (b : BlockId) (before : Shared)
       makes-as now entry h after (over h.handles wanted.cache h) before yard_used yard_used done _ refuses.after_is refl
       refuses.made_is
       (get-missed now entry length_of h wanted.d wanted.offset wanted.len wanted.cache wanted.fetch b wanted.asks before
-      refl id_low yard _ _ (subst (λ n. IsMissed n b before.yard yard) same_id missed))
+      refl id_low yard (subst (λ n. IsMissed n b before.yard yard) same_id missed))
 
   module _ (bytes : List ℕ) (found : Option (List ℕ)) (found_is : found ≡ Some bytes)
       (gets : ReadsBlock v.id b before.yard yard (Ok found)) (fetch filled : Fetching)

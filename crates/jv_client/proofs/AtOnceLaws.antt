@@ -47,7 +47,7 @@ use Rattle.jv_client.proofs.AnswerLaws.{Rests, ended-rests, makes-as, makes-ende
 use Rattle.jv_client.proofs.AnswerLaws.{told-rests, uses-none}
 use Rattle.jv_client.specs.CacheUse.{CacheUse}
 use Rattle.jv_client.specs.Stats.{IsStatsOf, AnswersNumbers}
-use Rattle.jv_client.proofs.CacheUseLaws.{NoBlock, NoRead, RestsBy, cache-ended, cache-stays}
+use Rattle.jv_client.proofs.CacheUseLaws.{Alone, NoRead, RestsBy, cache-ended, cache-stays}
 use Rattle.jv_client.proofs.FormLaws.{flushed-same, none_left, nothing_asked, under_way}
 
 -- ---- an answer alone, while devices are as they were
@@ -143,7 +143,7 @@ module _ (now entry : ℕ) (h : ClientValue) (v : Shared) (d : Doing) (busy : h.
   closed_by-handle handle of_op of_does last =
       let told = Fine 0 0 0 0 in
       answers-makes now entry h (told_here d.op told h) v told reply.Done ready (told-rests d.op told h)
-      (leaves_cache told reply.Done (NoRead (ap is_read of_op)) tt) (λ device. refl)
+      (leaves_cache told reply.Done (NoRead (ap is_read of_op) refl) tt) (λ device. refl)
       (λ s g store holds is.
       let c = s.clients h.id in
       let last_too = is_last-same g v c s.count h is.held handle ∙ last in
@@ -165,7 +165,7 @@ module _ (now entry : ℕ) (h : ClientValue) (v : Shared) (d : Doing) (busy : h.
   flushed_by-handle handle of_op of_does =
       let told = Fine 0 0 0 0 in
       answers-makes now entry h (told_here d.op told h) v told reply.Done ready (told-rests d.op told h)
-      (leaves_cache told reply.Done (NoRead (ap is_read of_op)) tt) (λ device. refl)
+      (leaves_cache told reply.Done (NoRead (ap is_read of_op) refl) tt) (λ device. refl)
       (λ s g store holds is.
       let c = s.clients h.id in
       told-well h d v told reply.Done (ap (λ o. keeps_bytes o told) of_op) s g store holds is now
@@ -191,7 +191,7 @@ module _ (now entry : ℕ) (h : ClientValue) (v : Shared) (d : Doing) (busy : h.
   nothing-read handle offset len of_op of_does =
       let told = Looks 0 0 0 in
       answers-makes now entry h (told_here d.op told h) v told (reply.Data []) ready (told-rests d.op told h)
-      (leaves_cache told (reply.Data []) (NoBlock refl (λ goes. record { alone = refl; none = none_ahead of_does })) tt)
+      (leaves_cache told (reply.Data []) (Alone (none_ahead of_does)) tt)
       (λ device. refl)
       (λ s g store holds is.
       let c = s.clients h.id in
@@ -211,7 +211,7 @@ module _ (now entry : ℕ) (h : ClientValue) (v : Shared) (d : Doing) (busy : h.
       let told = Fine hits misses cached (length h.pending) in
       let said = reply.CacheStats hits misses cached (length h.pending) in
       answers-makes now entry h (ended h) v told said ready (ended-rests h)
-      (cache-stays h d busy (ended h) (made.Answer told said) v.yard v.yard (NoRead (ap is_read of_op))
+      (cache-stays h d busy (ended h) (made.Answer told said) v.yard v.yard (NoRead (ap is_read of_op) refl)
       (ap is_umount of_op) refl numbers)
       (λ device. refl)
       (λ s g store holds is.

@@ -1,13 +1,13 @@
 -- What steps do with the client's cache, by how they end.
-use Rattle.std.proofs.Common.{◌≡◌, ℕ, true, false, [], Option, None, Some, refl, sym, ap, subst, ◌∙◌}
+use Rattle.std.proofs.Common.{◌≡◌, ℕ, true, false, List, Option, None, Some, refl, sym, ap, subst, ◌∙◌}
 use Rattle.std.specs.Prelude.{IfSome, is_some}
 use Rattle.jv_cache.specs.Cached.{Cached}
-use Rattle.jv_fetching.specs.declared.need.Need.TheVariants.{Nothing}
 use Rattle.jv_model.specs.client.Pending.{Segment}
+use Rattle.jv_model.specs.declared.slice.BlockId.{BlockId}
 use Rattle.jv_model.specs.declared.act.Told.{Told}
 use Rattle.jv_model.specs.declared.act.Told.TheVariants.{Fine, Looks, Refused as ToldRefused}
 use Rattle.jv_model.specs.declared.fault.Fault.{Fault}
-use Rattle.jv_model.specs.declared.fault.Fault.TheVariants.{Stale}
+use Rattle.jv_model.specs.declared.fault.Fault.TheVariants.{NoMemory, Stale}
 use Rattle.jv_model.specs.declared.fault.Gone.TheVariants.{Session, Node}
 use Rattle.jv_model.specs.declared.op.Op.{Op}
 use Rattle.jv_model.specs.declared.op.Op.TheVariants as op
@@ -16,8 +16,9 @@ use Rattle.jv_model.specs.client.OpForms.{is_read, is_umount}
 use Rattle.jv_yard.specs.YardValue.{YardValue}
 use Rattle.jv_client.specs.declared.doing.Doing.{Doing}
 use Rattle.jv_client.specs.declared.made.Made.{Made}
-use Rattle.jv_client.specs.CacheUse.{CacheUse, Flushes, LooksOnly, MovesCache, MovesInRead}
-use Rattle.jv_client.specs.CacheUse.{answers_alone, ends_mount, goes_well, has_got, is_gone, leaves}
+use Rattle.jv_client.specs.declared.made.Made.TheVariants as made
+use Rattle.jv_client.specs.CacheUse.{CacheUse, Flushes, InRead, LooksOnly, MayFail, MovesCache, MovesInRead, ReadsAlone}
+use Rattle.jv_client.specs.CacheUse.{ends_mount, fails_block, is_gone, leaves}
 use Rattle.jv_client.specs.ClientValue.{ClientValue}
 use Rattle.jv_client.specs.Ending.{finished_here, refused_here, told_here}
 use Rattle.jv_client.specs.Reading.{Untouched, ahead_from}
@@ -64,29 +65,39 @@ failure-stays _ e = refl
 
 -- ---- a step that looks nothing up
 
--- an operation is answered that has no block ahead
-pub record ReadsNone (h : ClientValue) (d : Doing) (done : Made) : Type 0 where
-  pub alone : answers_alone done ≡ true
-  pub none : (block : ℕ) → ahead_from block h d ≡ []
-
--- in a flush, of an operation that reads nothing, or of one that got no block: it failed, or had none to get
+-- in a flush, of an operation that reads nothing, or of one that has no block ahead or no memory
 pub data RestsBy (h : ClientValue) (d : Doing) (done : Made) : Type 0 where
-  InFlush : is_some (left h) ≡ true → RestsBy h d done
-  NoRead : is_read d.op ≡ false → RestsBy h d done
-  NoBlock : has_got done ≡ false → (goes_well done ≡ true → ReadsNone h d done) → RestsBy h d done
+  Flushing : is_some (left h) ≡ true → (fails_block done ≡ true → MayFail h d done) → RestsBy h d done
+  NoRead : is_read d.op ≡ false → fails_block done ≡ false → RestsBy h d done
+  Alone : ((block : ℕ) → ReadsAlone done (ahead_from block h d)) → RestsBy h d done
+
+alone-fails : (done : Made) (rest : List BlockId) → ReadsAlone done rest → fails_block done ≡ false
+alone-fails (made.Answer (Looks first second len) reply) rest alone = refl
+alone-fails (made.Answer (ToldRefused NoMemory) reply) rest alone = refl
+alone-fails _ rest alone = absurd alone
+
+fails-by : (h : ClientValue) (d : Doing) (done : Made) → RestsBy h d done → fails_block done ≡ true → MayFail h d done
+fails-by h d done (Flushing some may_fail) fails = may_fail fails
+fails-by h d done (NoRead none fine) fails = absurd (cc (sym fine ∙ fails))
+fails-by h d done (Alone reads) fails =
+    absurd (let fine = alone-fails done (ahead_from 0 h d) (reads 0) in cc (sym fine ∙ fails))
+
+-- so does each step that doesn't say of a block that it failed
+abbrev pub RestsAlways : ClientValue → Doing → Type 0
+RestsAlways h d = (done : Made) → fails_block done ≡ false → RestsBy h d done
+
+pub rests-flushing : (h : ClientValue) (d : Doing) → is_some (left h) ≡ true → RestsAlways h d
+rests-flushing h d some done fine = Flushing some (λ fails. absurd (cc (sym fine ∙ fails)))
 
 rests : (h : ClientValue) (d : Doing) (done : Made) (before used : YardValue) (after : ClientValue) (is : Option Cached)
     → RestsBy h d done → is_read d.op ≡ true → is ≡ h.cache → MovesInRead h d done before used after is
-rests h d done before used after is (InFlush some) read same = Flushes some same
-rests h d done before used after is (NoRead none) read same = absurd (cc (sym none ∙ read))
-rests h d done before used after is (NoBlock got goes) read same = by_left (left h) refl
+rests h d done before used after is (Flushing some may_fail) read same = Flushes some same
+rests h d done before used after is (NoRead none fine) read same = absurd (cc (sym none ∙ read))
+rests h d done before used after is (Alone reads) read same = by_left (left h) refl
   where
     by_left : (segment : Option Segment) → left h ≡ segment → MovesInRead h d done before used after is
     by_left None e =
-        LooksOnly (ahead_from before.setting.block h d) Nothing e got
-        (λ well. (let none = goes well in
-        record { alone = none.alone; none = none.none before.setting.block; nothing = refl }))
-        (Untouched same)
+        LooksOnly (ahead_from before.setting.block h d) e (reads before.setting.block) (Untouched same)
     by_left (Some segment) e = Flushes (ap is_some e) same
 
 -- what is left to flush of an operation that has a segment
@@ -108,6 +119,7 @@ module _ (h : ClientValue) (d : Doing) (busy : h.doing ≡ Some d) (after : Clie
       drops = λ ends. absurd (cc (sym goes ∙ ends));
       stays = λ e other. same;
       reads = λ e read. rests h d done before used after after.cache by read same;
+      fails = fails-by h d done by;
     });
     numbers = numbers;
   }
@@ -124,34 +136,37 @@ module _ (h : ClientValue) (d : Doing) (busy : h.doing ≡ Some d) (after : Clie
           drops = λ left. ap (λ (c : ClientValue). c.cache) is ∙ told-drops d.op told mid (sym ends ∙ left);
           stays = λ goes other. keeps goes;
           reads = λ goes read. rests h d done before used after after.cache by read (keeps goes);
+          fails = fails-by h d done by;
         });
         numbers = numbers;
       }
 
   module _ (read : is_read d.op ≡ true) where
     -- a read goes on, or is answered
-    pub cache-read : leaves d.op done ≡ false → MovesInRead h d done before used after after.cache
+    pub cache-read : left h ≡ None → leaves d.op done ≡ false → MovesInRead h d done before used after after.cache
         → AnswersNumbers h done → CacheUse h after done before used
-    cache-read goes moves numbers = record {
+    cache-read none goes moves numbers = record {
       moves = in_doing (record {
         drops = λ ends. absurd (cc (sym goes ∙ ends));
         stays = λ e other. absurd (cc (sym read ∙ other));
         reads = λ e is. moves;
+        fails = λ fails. InRead read none goes;
       });
       numbers = numbers;
     }
 
     -- or refused
-    pub cache-refused : (c : ClientValue) (fault : Fault) → leaves d.op done ≡ is_gone fault
+    pub cache-refused : (c : ClientValue) (fault : Fault) → fails_block done ≡ false → leaves d.op done ≡ is_gone fault
         → MovesInRead h d done before used after c.cache → after ≡ refused_here fault c → AnswersNumbers h done
         → CacheUse h after done before used
-    cache-refused c fault ends moves is numbers = record {
+    cache-refused c fault fine ends moves is numbers = record {
       moves = in_doing (record {
         drops = λ left. ap (λ (c : ClientValue). c.cache) is ∙ refused-drops fault c (sym ends ∙ left);
         stays = λ e other. absurd (cc (sym read ∙ other));
         reads = λ goes is_read.
             subst (MovesInRead h d done before used after)
             (sym (ap (λ (c : ClientValue). c.cache) is ∙ refused-keeps fault c (sym ends ∙ goes))) moves;
+        fails = λ fails. absurd (cc (sym fine ∙ fails));
       });
       numbers = numbers;
     }

@@ -246,7 +246,7 @@ module _ (now : ℕ) (h : ClientValue) (d : Doing) (busy : h.doing ≡ Some d) (
         answered-makes now entry h (ended (blind inode h)) (Truncated inode len) (Fine 0 0 0 0) reply.Done v keeper
         (record { id = refl; limits = refl; idle = refl })
         (cache-stays h d busy (ended (blind inode h)) (Both (Truncated inode len) (Fine 0 0 0 0) reply.Done) v.yard v.yard
-        (NoRead (ap is_read of_op)) (ap is_umount of_op) refl tt)
+        (NoRead (ap is_read of_op) refl) (ap is_umount of_op) refl tt)
         ready tx.opened_at tx.counts (refl, λ device. refl)
         (λ s g number has holds is. truncate-leads s g has holds is handle len of_op (due_after now)
         (model-truncates s g has holds is handle len of_op (due_after now) (Ok tt) tried))
@@ -267,7 +267,7 @@ module _ (now : ℕ) (h : ClientValue) (d : Doing) (busy : h.doing ≡ Some d) (
         (reply.Count count) v keeper (record { id = refl; limits = refl; idle = refl })
         (cache-stays h d busy (ended (blind inode h))
         (Both (Copied first_inode from inode to count) (Fine count 0 0 0) (reply.Count count)) v.yard v.yard
-        (NoRead (ap is_read of_op)) (ap is_umount of_op) refl tt)
+        (NoRead (ap is_read of_op) refl) (ap is_umount of_op) refl tt)
         ready tx.opened_at tx.counts
         (refl, λ device. refl)
         (λ s g number has holds is. copy-leads s g has holds is source from target to len of_op (due_after now) count
@@ -355,7 +355,7 @@ module _ (now : ℕ) (h : ClientValue) (d : Doing) (busy : h.doing ≡ Some d) (
     truncate-unmade handle len of_op of_does fault tried ends =
         let inode = inode_here h.handles handle in
         let tx = tried (asker inode 0) (asker-is inode 0) refl in
-        unmade now entry h after d v keeper busy ready Quiet fault done refl
+        unmade now entry h after d v keeper busy ready (λ done fine. NoRead (ap is_read of_op) fine) Quiet fault done refl refl
         (record { rows_are = tx.undone; opened_at = tx.opened_at; counts = tx.counts; bad = tx.bad }) ends
         (λ s g number has holds is. truncate-unmade_leads handle len of_op of_does s g has holds is fault tried)
 
@@ -370,7 +370,7 @@ module _ (now : ℕ) (h : ClientValue) (d : Doing) (busy : h.doing ≡ Some d) (
         let first_inode = inode_here h.handles source in
         let inode = inode_here h.handles target in
         let tx = tried (asker first_inode inode) (asker-is first_inode inode) refl refl in
-        unmade now entry h after d v keeper busy ready Quiet fault done refl
+        unmade now entry h after d v keeper busy ready (λ done fine. NoRead (ap is_read of_op) fine) Quiet fault done refl refl
         (record { rows_are = tx.undone; opened_at = tx.opened_at; counts = tx.counts; bad = tx.bad }) ends
         (λ s g number has holds is. copy-unmade_leads source from target to len of_op of_does s g has holds is fault
         tried)

@@ -46,6 +46,7 @@ use Rattle.jv_client.proofs.KeptLaws.{client-asks}
 use Rattle.jv_client.proofs.GoesOnLaws.{goes-on, in_progress}
 use Rattle.jv_client.proofs.LeftLaws.{flight-flying, flight-is, left-is}
 use Rattle.jv_client.proofs.CoveredLaws.{segment-short}
+use Rattle.jv_client.proofs.CacheUseLaws.{rests-flushing}
 use Rattle.jv_client.proofs.UnmadeLaws.{UnmadeLeads, InState, not_taken, unmade, uses-keeper}
 use Rattle.jv_client.proofs.AnswerLaws.{makes-as, same-yard}
 
@@ -116,7 +117,7 @@ module _ (now entry : ℕ) (h : ClientValue) (d : Doing) (before used : Shared) 
         pending = omega arith;
         handles = λ handle file opened. (file, opened, refl);
       })
-      refl works (ap (λ b. b || asks_more after asking) there) fewer uses yard refl
+      refl works (ap (λ b. b || asks_more after asking) there) fewer uses yard refl refl
       (λ s g count store holds is.
       let m = s.clients h.id in
       let model : ModelClient = at_stage (InModel (quiets + 1) moment) (doing_of d) m in
@@ -209,7 +210,7 @@ module _ (now entry : ℕ) (h : ClientValue) (d : Doing) (before : Shared) (keep
       → TakesNumber sid before.keeper keeper (Err fault) → EndsUnmade Quiet fault h after done
       → Makes now entry h after before numbered done
   refuses_number after fault done takes ends =
-      unmade now entry h after d before keeper busy ready Quiet fault done refl
+      unmade now entry h after d before keeper busy ready (rests-flushing h d (ap is_some next)) Quiet fault done refl refl
       (not_taken sid before.keeper keeper fault takes) ends
       (λ s g count store holds is. refused_in s g store is fault takes)
 

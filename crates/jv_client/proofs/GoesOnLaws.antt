@@ -24,7 +24,8 @@ use Rattle.jv_client.specs.UnderWay.{Mounts, SaysStats, Transacts, Writes, IsAt,
 use Rattle.jv_client.specs.UnderWay.{left, progress_of, steps_in, steps_left, steps_of}
 use Rattle.jv_client.specs.Makes.{Makes, StepsTo, UsesDevices}
 use Rattle.jv_client.specs.YardUse.{YardUse}
-use Rattle.jv_client.proofs.CacheUseLaws.{InFlush, cache-stays}
+use Rattle.jv_client.specs.CacheUse.{is_miss}
+use Rattle.jv_client.proofs.CacheUseLaws.{cache-stays, rests-flushing}
 use Rattle.jv_client.proofs.FormLaws.{under_way}
 
 -- ---- the operation in progress
@@ -103,11 +104,11 @@ module _ (now entry : ℕ) (h after : ClientValue) (d : Doing) (p : Progress) (k
       → IsAt after (moved_to p d) p → IsTrue (has_more after (moved_to p d) p)
       → steps_in after.pending (moved_to p d) < steps_in h.pending d
       → UsesDevices (AsksFor kind) before used → YardUse now h (AsksFor kind) before.yard used.yard
-      → is_answer kind ≡ false
+      → is_answer kind ≡ false → is_miss kind ≡ false
       → ((s : State) (g : Known) → s.count + 1 ≡ entry → HasStore s.tree g before → Holds s.tree (s.clients h.id)
       → IsClient g before (s.clients h.id) s.count h → StepsTo s g before h now (kind ∷ []) More after used)
       → Makes now entry h after before used (AsksFor kind)
-  goes-on flushing same kept continues is at more fewer uses yard asks leads = record {
+  goes-on flushing same kept continues is at more fewer uses yard asks found leads = record {
     id = same;
     limits = continues.limits;
     ready = record {
@@ -121,7 +122,8 @@ module _ (now entry : ℕ) (h after : ClientValue) (d : Doing) (p : Progress) (k
     };
     devices = uses;
     yard = yard;
-    cache = cache-stays h d busy after (AsksFor kind) before.yard used.yard (InFlush flushing) refl kept tt;
+    cache = cache-stays h d busy after (AsksFor kind) before.yard used.yard
+        (rests-flushing h d flushing (AsksFor kind) found) refl kept tt;
     alone = asks;
     falls = (
       (let now_left : steps_left after ≡ steps_in after.pending asked = ap (steps_of after.pending) is in

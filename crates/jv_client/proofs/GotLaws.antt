@@ -3,7 +3,7 @@ use Rattle.std.proofs.Common.{◌≡◌, ◌≢◌, ℕ, ◌+◌, ◌≤◌, fal
 use Rattle.std.proofs.Common.{sym, ap}
 use Rattle.std.proofs.Common.{subst, ◌∙◌, arith}
 use Rattle.jv_model.specs.declared.limits.TheConstants.{LAST_CLIENT}
-use Rattle.jv_model.specs.declared.act.ActKind.TheVariants.{Answered, Miss, Quiet}
+use Rattle.jv_model.specs.declared.act.ActKind.TheVariants.{Answered, Quiet}
 use Rattle.jv_model.specs.declared.act.Told.TheVariants.{Refused as ToldRefused}
 use Rattle.jv_model.specs.declared.fault.Device.{Device}
 use Rattle.jv_model.specs.declared.fault.Device.TheVariants.{Keeper as TheKeeper, Depot as TheDepot}
@@ -62,10 +62,11 @@ use Rattle.jv_client.specs.declared.reading.Ahead.TheVariants.{Needs, Read}
 use Rattle.jv_client.specs.declared.reading.Found.{Found}
 use Rattle.jv_client.specs.ClientValue.{ClientValue}
 use Rattle.jv_yard.specs.Refusals.{yard_fault}
-use Rattle.jv_client.specs.Getting.{Fills, IsMissed, IsUnread}
+use Rattle.jv_client.specs.Getting.{Fills, IsMissed, IsUnread, NotThere, Unread, missed}
 use Rattle.jv_client.specs.Held.{Holds, IsClient, IsHeld, in_flight}
 use Rattle.jv_client.specs.Makes.{Makes, StepsTo, SaysBad, UsesDevices, faults_of, step_of, says_failure}
-use Rattle.jv_client.specs.CacheUse.{HasAhead, KeepsOne, LooksOnly, MovesInRead, goes_well, has_got, may_have_got, need_then}
+use Rattle.jv_client.specs.CacheUse.{GotNone, HasAhead, KeepsOne, MovesInRead, WantsBlock, goes_well, is_quiet, may_have_made}
+use Rattle.jv_client.specs.CacheUse.{need_then}
 use Rattle.jv_client.specs.Reading.{GoesAhead, LooksOn, NeedsNext, read_of, told_read, views_here, views_of}
 use Rattle.jv_client.specs.UnderWay.{LacksNeed}
 use Rattle.jv_client.proofs.CacheUseLaws.{cache-read}
@@ -75,7 +76,7 @@ use Rattle.jv_client.proofs.EndingLaws.{holds-told}
 use Rattle.jv_client.proofs.DirectLaws.{has-open, has-view}
 use Rattle.jv_client.proofs.HeldLaws.{doing_of}
 use Rattle.jv_client.proofs.KeptLaws.{cache-goes, held-goes}
-use Rattle.jv_client.proofs.LooksLaws.{looks-on, needs-looked}
+use Rattle.jv_client.proofs.LooksLaws.{looks-on}
 use Rattle.jv_client.proofs.ReadingLaws.{lacks-later}
 use Rattle.jv_client.proofs.ReaderLaws.{IsAsking, busy_in, cached-known, file_by, flushed-asking, handle_in, may_get}
 use Rattle.jv_client.proofs.ReaderLaws.{none_flying, opened_in}
@@ -254,6 +255,15 @@ module _ (now entry block : ℕ) (h : ClientValue) (d : Doing) (offset len : ℕ
         cache_of-keeps g.sizes before.yard.setting.block g.blocks b bytes cache kept keeps (known bytes gets)
         (subst (λ n. b ≡ block_at b.id (g.sizes b.id) n b.index) own_block sized) (cached-known asks before length_is s g has client)
 
+  -- the block is needed next
+  wanted : WantsBlock before.yard.setting.block h d fetch b cache
+  wanted = record {
+    flushed = flushed-asking asks;
+    next = subst (λ n. NeedsNext n h d fetch (NeedsBlock b) cache) (sym length_is) asks.needs;
+    needed = asks.wants;
+    lacks = asks.lacks;
+  }
+
   -- ---- it came
 
   module _ (bytes : List ℕ) (gets : GetsBlock h.id name before.yard yard (Ok (Some bytes))) (filled : Fetching)
@@ -352,13 +362,12 @@ module _ (now entry block : ℕ) (h : ClientValue) (d : Doing) (offset len : ℕ
       looks-by goal is = subst (λ o. LooksOn file.views filled o kept later) is looks
 
       -- the cache kept the block that was needed, and the next ones were looked up
-      moves-kept : (done : Made) (after : ClientValue) → may_have_got done ≡ true → (rest : List BlockId)
+      moves-kept : (done : Made) (after : ClientValue) → may_have_made is_quiet done ≡ true → (rest : List BlockId)
           → Asks (blocks_ahead file.views filled) rest (need_then after) kept later
           → (goes_well done ≡ true → HasAhead d after (views_here h.handles d.op) rest)
           → MovesInRead h d done before.yard yard after (Some later)
       moves-kept done after may_have rest asked leaves =
-          KeepsOne fetch b bytes (blocks_ahead file.views filled) rest cache kept later (flushed-asking asks) may_have
-          (subst (λ n. NeedsNext n h d fetch (NeedsBlock b) cache) (sym length_is) asks.needs) asks.wants asks.lacks
+          KeepsOne fetch b bytes (blocks_ahead file.views filled) rest cache kept later wanted may_have
           (seen-ahead fetch ∙ fills.ahead file.views) gets fills.cache_is asked leaves refl
 
       -- it goes on
@@ -377,7 +386,7 @@ module _ (now entry block : ℕ) (h : ClientValue) (d : Doing) (offset len : ℕ
             devices = uses-got (made.Request Quiet) before yard (λ device. refl) gets.0 tt;
             yard = yard-got now h (made.Request Quiet) before.yard yard gets.0;
             cache = cache-read h d asks.busy (going_on h.handles later f need d h) (made.Request Quiet) before.yard yard
-                (ap is_read asks.reads.op_is) refl
+                (ap is_read asks.reads.op_is) (flushed-asking asks) refl
                 (moves-kept (made.Request Quiet) (going_on h.handles later f need d h) refl (blocks_ahead file.views f)
                 (looks-by (Some (Needs f need)) to_is) (λ well. record { seen = refl; are = sym (seen-ahead f) })) tt;
             alone = refl;
@@ -402,7 +411,7 @@ module _ (now entry block : ℕ) (h : ClientValue) (d : Doing) (offset len : ℕ
         devices = uses-got (made.Both Quiet (told_read found) (Data found.bytes)) before yard (λ device. refl) gets.0 tt;
         yard = yard-got now h (made.Both Quiet (told_read found) (Data found.bytes)) before.yard yard gets.0;
         cache = cache-read h d asks.busy (over h.handles later h) (made.Both Quiet (told_read found) (Data found.bytes))
-            before.yard yard (ap is_read asks.reads.op_is) (ap is_umount asks.reads.op_is)
+            before.yard yard (ap is_read asks.reads.op_is) (flushed-asking asks) (ap is_umount asks.reads.op_is)
             (moves-kept (made.Both Quiet (told_read found) (Data found.bytes)) (over h.handles later h) refl []
             (looks-by (Some (Read found)) to_is) (λ well. record { seen = refl; are = refl })) tt;
         alone = (refl, λ device. refl);
@@ -423,14 +432,6 @@ module _ (now entry block : ℕ) (h : ClientValue) (d : Doing) (offset len : ℕ
 
   -- ---- it didn't come
 
-  -- the cache is as the beginning of the reading left it
-  moves-none : (done : Made) (after : ClientValue) → has_got done ≡ false → (goes_well done ≡ true → ⊥)
-      → MovesInRead h d done before.yard yard after (Some cache)
-  moves-none done after none fails =
-      let looked = needs-looked before.yard.setting.block h d fetch cache (NeedsBlock b)
-      (subst (λ n. NeedsNext n h d fetch (NeedsBlock b) cache) (sym length_is) asks.needs) in
-      LooksOnly looked.0 looked.1 (flushed-asking asks) none (λ goes. absurd (fails goes)) looked.2
-
   pub get-unread : (fault : Fault) → IsUnread h.id b before.yard yard fault
       → Makes now entry h (over h.handles cache h) before used (made.Answer (ToldRefused fault) (RefusedReply fault))
   get-unread fault unread =
@@ -440,29 +441,25 @@ module _ (now entry block : ℕ) (h : ClientValue) (d : Doing) (offset len : ℕ
       (same-gets before yard h.id name (Err unread.why) unread.gets) (yard_fault unread.why) cache (cached-known asks before length_is)
       (fails-yard unread.why) (uses-unread unread.why before yard unread.gets)
       (yard-unread now h (unread_as unread.why) unread.why before.yard yard unread.gets)
-      (moves-none (made.Answer (ToldRefused (yard_fault unread.why)) (RefusedReply (yard_fault unread.why)))
-      (over h.handles cache h) refl (λ goes. absurd (cc goes))))
+      (GotNone fetch b cache wanted
+      (Unread (yard_fault unread.why) (record { why = unread.why; gets = unread.gets; is = refl }) refl) refl))
+
+  abbrev miss_of : Made
+  miss_of = made.Both (missed h d fetch) (ToldRefused (TryAgain 0)) (RefusedReply (TryAgain 0))
 
   -- it isn't there, which no volume has whose blocks are all there
-  pub get-missed : (inode window : ℕ) → IsMissed h.id b before.yard yard
-      → Makes now entry h (over h.handles cache h) before used
-      (made.Both (Miss inode window) (ToldRefused (TryAgain 0)) (RefusedReply (TryAgain 0)))
-  get-missed inode window missed = record {
+  pub get-missed : IsMissed h.id b before.yard yard → Makes now entry h (over h.handles cache h) before used miss_of
+  get-missed none = record {
     id = refl;
     limits = refl;
     ready = record { buffer = asks.buffer; doing = tt };
-    devices = uses-got (made.Both (Miss inode window) (ToldRefused (TryAgain 0)) (RefusedReply (TryAgain 0))) before
-        yard (λ device. refl) missed.gets.0 tt;
-    yard = yard-got now h (made.Both (Miss inode window) (ToldRefused (TryAgain 0)) (RefusedReply (TryAgain 0)))
-        before.yard yard missed.gets.0;
-    cache = cache-read h d asks.busy (over h.handles cache h)
-        (made.Both (Miss inode window) (ToldRefused (TryAgain 0)) (RefusedReply (TryAgain 0))) before.yard yard
-        (ap is_read asks.reads.op_is) refl
-        (moves-none (made.Both (Miss inode window) (ToldRefused (TryAgain 0)) (RefusedReply (TryAgain 0)))
-        (over h.handles cache h) refl (λ goes. absurd (cc goes))) tt;
+    devices = uses-got miss_of before yard (λ device. refl) none.gets.0 tt;
+    yard = yard-got now h miss_of before.yard yard none.gets.0;
+    cache = cache-read h d asks.busy (over h.handles cache h) miss_of before.yard yard (ap is_read asks.reads.op_is)
+        (flushed-asking asks) refl (GotNone fetch b cache wanted (NotThere none refl) refl) tt;
     alone = (refl, λ device. refl);
     falls = refl;
     leads = λ s g number has holds client.
-        let is = got s g has client missed.value missed.gets in
-        absurd (missed.none is.bytes is.is is.long);
+        let is = got s g has client none.value none.gets in
+        absurd (none.none is.bytes is.is is.long);
   }

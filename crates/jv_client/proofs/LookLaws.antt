@@ -57,7 +57,7 @@ use Rattle.jv_client.specs.declared.reading.Found.{Found}
 use Rattle.jv_client.specs.ClientValue.{ClientValue, session_here}
 use Rattle.jv_client.specs.Held.{Holds, IsClient, IsHeld, in_flight}
 use Rattle.jv_client.specs.Makes.{Makes, StepsTo, SaysBad, UsesDevices, faults_of, step_of, says_failure}
-use Rattle.jv_client.specs.CacheUse.{HasAhead, LooksThen, MovesInRead, goes_well, has_got, need_then}
+use Rattle.jv_client.specs.CacheUse.{HasAhead, LooksThen, MovesInRead, goes_well, is_look, may_have_made, need_then}
 use Rattle.jv_client.specs.Reading.{GoesAhead, NeedsNext, read_of, told_read, views_of}
 use Rattle.jv_client.specs.UnderWay.{LacksNeed}
 use Rattle.jv_client.proofs.CacheUseLaws.{cache-read}
@@ -313,12 +313,12 @@ module _ (now entry block : ℕ) (h : ClientValue) (d : Doing) (offset len : ℕ
       }
 
   -- blocks were looked up by the view, and no other thing was done with the cache
-  pub looked-on : (done : Made) (after : ClientValue) → has_got done ≡ false → (rest : List BlockId) (later : Cached)
+  pub looked-on : (done : Made) (after : ClientValue) → may_have_made is_look done ≡ true → (rest : List BlockId) (later : Cached)
       → Asks (blocks_ahead seen.views fetch) rest (need_then after) cache later
       → (goes_well done ≡ true → HasAhead d after seen.views rest)
       → MovesInRead h d done before.yard before.yard after (Some later)
-  looked-on done after none rest later looks leaves =
-      LooksThen fetch window view rest seen.views cache later (flushed-asking asks) none
+  looked-on done after may_have rest later looks leaves =
+      LooksThen fetch window view rest seen.views cache later (flushed-asking asks) may_have
       (subst (λ n. NeedsNext n h d fetch (NeedsLook window) cache) (sym length_is) asks.needs)
       (ap (λ (o : Option Handle). with_view window view (views_of o)) (sym asks.reads.opened)) looks leaves refl
 
@@ -335,7 +335,7 @@ module _ (now entry block : ℕ) (h : ClientValue) (d : Doing) (offset len : ℕ
         looks.looks.opened_at looks.looks.counts tt;
     yard = same-yard now h (made.Request (Look file.inode window)) before.yard;
     cache = cache-read h d asks.busy (going_on handles later f need d h) (made.Request (Look file.inode window))
-        before.yard before.yard (ap is_read asks.reads.op_is) refl
+        before.yard before.yard (ap is_read asks.reads.op_is) (flushed-asking asks) refl
         (looked-on (made.Request (Look file.inode window)) (going_on handles later f need d h) refl
         (blocks_ahead seen.views f) later asked (λ goes. record { seen = ap views_of opened; are = refl })) tt;
     alone = refl;
@@ -362,7 +362,7 @@ module _ (now entry block : ℕ) (h : ClientValue) (d : Doing) (offset len : ℕ
     yard = same-yard now h (made.Both (Look file.inode window) (told_read found) (Data found.bytes)) before.yard;
     cache = cache-read h d asks.busy (over handles later h)
         (made.Both (Look file.inode window) (told_read found) (Data found.bytes)) before.yard before.yard
-        (ap is_read asks.reads.op_is) (ap is_umount asks.reads.op_is)
+        (ap is_read asks.reads.op_is) (flushed-asking asks) (ap is_umount asks.reads.op_is)
         (looked-on (made.Both (Look file.inode window) (told_read found) (Data found.bytes)) (over handles later h) refl []
         later asked (λ goes. record { seen = ap views_of opened; are = refl })) tt;
     alone = (refl, λ device. refl);

@@ -3,7 +3,6 @@ use Rattle.std.proofs.Common.{◌≡◌, ℕ, List, [], Option, None, Some, refl
 use Rattle.std.specs.Prelude.{IfSome, IsErr, IsSome, Result, Ok, Err, unwrap_or}
 use Rattle.jv_model.specs.declared.profile.Does.{Does}
 use Rattle.jv_model.specs.declared.profile.Does.TheVariants as does
-use Rattle.jv_model.specs.declared.slice.BlockId.{BlockId}
 use Rattle.jv_model.specs.client.ModelClient.{file_of}
 use Rattle.jv_model.specs.client.Profile.{handle_of}
 use Rattle.jv_model.specs.journal.Reading.{Asked, asked_parts}
@@ -15,7 +14,7 @@ use Rattle.jv_fetching.specs.declared.begun.Begun.{Begun}
 use Rattle.jv_fetching.specs.declared.need.Need.{Need}
 use Rattle.jv_fetching.specs.declared.need.Need.TheVariants.{Nothing}
 use Rattle.jv_fetching.specs.Ahead.{ahead_of, blocks_ahead, parts_blocks}
-use Rattle.jv_fetching.specs.Calls.{Asks, AsksSome, Wants}
+use Rattle.jv_fetching.specs.Calls.{AsksSome, Wants}
 use Rattle.jv_fetching.specs.Fetching.{Fetching, begins}
 use Rattle.jv_fetching.proofs.CacheLaws.{LooksUp, for_looks}
 use Rattle.jv_client.specs.declared.doing.Doing.{Doing}
@@ -23,8 +22,7 @@ use Rattle.jv_client.specs.declared.doing.Progress.{Progress}
 use Rattle.jv_client.specs.declared.doing.Progress.TheVariants.{Working, Reading}
 use Rattle.jv_client.specs.declared.reading.Ahead.{Ahead}
 use Rattle.jv_client.specs.ClientValue.{ClientValue}
-use Rattle.jv_client.specs.Reading.{Already, FromStart, LookedUp, LooksAhead, LooksOn, NeedsNext, Untouched, ahead_from}
-use Rattle.jv_client.specs.Reading.{OnlyLooksUp, cache_in, came, fetch_at, fetch_from, need_at, next_of, views_here}
+use Rattle.jv_client.specs.Reading.{LooksOn, OnlyLooksUp, ahead_from, came, fetch_at, fetch_from, need_at, next_of, views_here}
 use Rattle.jv_client.specs.Reading.{views_in, views_of}
 
 pub looks-on : (views : SeenViews) (fetch : Fetching) (to : Option Ahead) (before after : Cached)
@@ -86,19 +84,3 @@ only-looks fetch to h handle file cache later busy names opened was looks = reco
     by_doing None e some named = absurd (cc some)
     by_doing (Some d) e some named =
         views-in h d file e (ap (file_of h.handles) (sym named) ∙ opened)
-
--- ---- before the request
-
--- what was looked up where the request failed
-pub needs-looked : (block : ℕ) (h : ClientValue) (d : Doing) (fetch : Fetching) (cache : Cached) (next : Need)
-    → NeedsNext block h d fetch next cache
-    → (rest : List BlockId) × (need : Need)
-    × LooksAhead (ahead_from block h d) h.limits.entries h.cache (Some cache) rest need
-needs-looked block h d fetch cache next (Already progress is) = (ahead_from block h d, Nothing, Untouched (sym is))
-needs-looked block h d fetch cache next (FromStart offset len file none does opened goes wants looks) = (
-  blocks_ahead file.views fetch,
-  next,
-  LookedUp (blocks_ahead file.views fetch) next cache
-      (subst (λ (due : List BlockId). Asks due (blocks_ahead file.views fetch) next (cache_in h.limits.entries h.cache) cache)
-      (sym (from-start block h d offset len file none does opened)) looks) refl,
-)

@@ -1,8 +1,8 @@
 -- The segment that is committed next: its inode is one of the pending bytes'.
-use Rattle.std.proofs.Common.{◌≡◌, ℕ, Bool, true, false, List, [], ◌∷◌}
+use Rattle.std.proofs.Common.{◌≡◌, ℕ, List, [], ◌∷◌}
 use Rattle.std.proofs.Common.{Option, None, Some, refl, sym, ap, subst, ◌∙◌}
-use Rattle.std.specs.Prelude.{◌==◌, if◌then◌else◌}
-use Rattle.std.specs.List.{AllByRecursion, filter}
+use Rattle.std.specs.Prelude.{◌==◌}
+use Rattle.std.specs.List.{AllByRecursion}
 use Rattle.jv_model.specs.client.Pending.{PendingByte, Segment, first_segment, pending_of}
 use Rattle.jv_model.specs.client.Submission.{next_segment, segment_of_files}
 use Rattle.jv_model.specs.client.ModelClient.{Flush as ModelFlush, OfFiles, OfAll}

@@ -2,7 +2,7 @@
 -- carrier or the depot fails, and the operation ends.
 use Rattle.std.proofs.Common.{◌≡◌, ℕ, suc, ◌+◌, ◌-◌, ◌^◌, ◌≤◌, ◌<◌, ◌==◌, List, [], ◌∷◌, ◌++◌, length, Option}
 use Rattle.std.proofs.Common.{Some, Result, Ok, Err, refl, sym, ap, subst, ◌∙◌, arith}
-use Rattle.std.specs.Prelude.{IfSome, if◌then◌else◌}
+use Rattle.std.specs.Prelude.{IfSome, if◌then◌else◌, is_some}
 use Rattle.std.specs.Option.{option_map}
 use Rattle.std.proofs.lemmas.Nat.{mul-le}
 use Rattle.jv_model.specs.declared.limits.TheConstants.{WINDOW}
@@ -12,6 +12,7 @@ use Rattle.jv_model.specs.declared.fault.Device.{Device}
 use Rattle.jv_model.specs.declared.fault.Device.TheVariants as device
 use Rattle.jv_model.specs.declared.op.Reply.TheVariants.{Refused as RefusedReply}
 use Rattle.jv_model.specs.declared.op.Step.TheVariants.{More}
+use Rattle.jv_model.specs.blocks.BlockNames.{IsBlock}
 use Rattle.jv_model.specs.blocks.Slices.{block_count}
 use Rattle.jv_model.specs.client.Pending.{Segment}
 use Rattle.jv_model.specs.client.Submission.{next_segment}
@@ -53,6 +54,8 @@ use Rattle.jv_client.proofs.GoesOnLaws.{in_progress}
 use Rattle.jv_client.proofs.FormLaws.{under_way}
 use Rattle.jv_client.proofs.LeftLaws.{flight-flying, flight-is, left-is}
 use Rattle.jv_client.proofs.AnswerLaws.{fails-makes, makes-as}
+use Rattle.jv_client.specs.CacheUse.{InFlight}
+use Rattle.jv_client.proofs.CacheUseLaws.{Flushing}
 use Rattle.jv_client.proofs.FlushLaws.{Asked, asks}
 
 -- ---- what is done to devices
@@ -190,17 +193,20 @@ module _ (now entry : ℕ) (h : ClientValue) (d : Doing) (before : Shared) (yard
     small : length bytes ≤ WINDOW
     small = omega (arith, long, short)
 
+    is_block : IsBlock before.yard.setting.block (flight_block before.yard.setting.block flight put)
+    is_block = slice_block-is before.yard.setting.block id (length bytes) put block id_some low small more
+
     -- the yard notes the block, since its name is one of the volume's blocks
     noted : yard.log
         ≡ before.yard.log ++ note_of h.id Put (flight_block before.yard.setting.block flight put) ∷ []
     noted = puts.0.put.noted (flight_block before.yard.setting.block flight put) (record {
-      is_block = slice_block-is before.yard.setting.block id (length bytes) put block id_some low small more;
+      is_block = is_block;
       spelled = puts.0.stands.named;
     })
 
     -- the block is that of the flight, with this moment
     puts_next : YardUse now h (AsksFor Quiet) before.yard yard
-    puts_next = record { staged = uses.staged; puts = PutsNext flight flying refl puts.0 noted }
+    puts_next = record { staged = uses.staged; puts = PutsNext flight flying refl is_block puts.0 noted }
 
     -- a slice has no more blocks than bytes
     few : quiets ≤ segment.len
@@ -252,7 +258,8 @@ module _ (now entry : ℕ) (h : ClientValue) (d : Doing) (before : Shared) (yard
   fails_block after done fault puts ends =
       let uses = put-uses h.id now flight before.yard yard before.carrier carrier (Err fault) puts in
       let same = unput-same before flight h.id now yard carrier fault puts in
-      fails-makes now entry h d before then_shared (fault_of fault) after done busy ready (put-fails fault) ends same
+      fails-makes now entry h d before then_shared (fault_of fault) after done busy ready
+      (Flushing (ap is_some next) (λ fails. InFlight (ap is_some flying) refl)) (put-fails fault) ends same
       (subst (λ (x : Made). UsesDevices x before then_shared) (sym ends.made_is) (record {
         keeper_at = refl;
         carrier_at = uses.carrier_at;

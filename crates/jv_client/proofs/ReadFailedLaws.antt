@@ -30,7 +30,7 @@ use Rattle.jv_client.specs.YardUse.{YardUse}
 use Rattle.jv_client.proofs.CacheUseLaws.{cache-read, failure-stays}
 use Rattle.jv_client.proofs.HeldLaws.{doing_of, holds-doing}
 use Rattle.jv_client.proofs.KeptLaws.{cache-goes, ended-client, held-goes}
-use Rattle.jv_client.proofs.ReaderLaws.{IsAsking, busy_in, may_read, none_flying}
+use Rattle.jv_client.proofs.ReaderLaws.{IsAsking, busy_in, flushed-asking, may_read, none_flying}
 use Rattle.jv_client.proofs.GoneOnLaws.{over}
 
 -- the same client with another cache
@@ -113,5 +113,5 @@ module _ (now entry block : ℕ) (h : ClientValue) (d : Doing) (offset len : ℕ
   failed fails uses yard moves =
       failed-by uses yard
       (cache-read h d asks.busy (over h.handles later h) (made.Answer (ToldRefused fault) (Refused fault)) before.yard
-      used.yard (ap is_read asks.reads.op_is) (failure-stays fault fails) moves tt)
+      used.yard (ap is_read asks.reads.op_is) (flushed-asking asks) (failure-stays fault fails) moves tt)
       (λ s g number has holds client. failed-leads fails s g has holds client)

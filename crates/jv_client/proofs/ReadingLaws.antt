@@ -1,7 +1,7 @@
 -- Readings: how one begins, goes ahead without a request, and what it returns.
 use Rattle.std.proofs.Common.{◌≡◌, ℕ, zero, ◌+◌, ◌-◌, ◌*◌, ◌/◌, ◌≤◌, ◌<◌, true, false, List, [], length}
 use Rattle.std.proofs.Common.{suc, Option, None, Some, refl, sym, ap, subst, ◌∙◌, arith}
-use Rattle.std.specs.Prelude.{is_some, not, IfSome, IsSomeAnd, IsTrue, OnErr, Result, Ok, Err}
+use Rattle.std.specs.Prelude.{is_some, not, IfSome, IsSomeAnd, IsTrue}
 use Rattle.std.specs.Option.{option_map}
 use Rattle.jv_model.specs.declared.limits.TheConstants.{FILE_END, WINDOW}
 use Rattle.jv_model.specs.declared.op.Op.TheVariants as op
@@ -291,7 +291,7 @@ module _ (offset len block : ℕ) (h : ClientValue) (d : Doing) (busy : h.doing 
       cache = Some later;
       rest = rest;
       after_is = refl;
-      ahead = LookedUp rest Nothing later
+      ahead = LookedUp rest later
           (subst (λ (bs : List BlockId). Asks bs rest Nothing (cache_in h.limits.entries h.cache) later) (sym same-ahead)
           (subst (λ (cache : Cached). Asks due rest Nothing cache later) has.is asks)) refl;
       knows = later-knows;
@@ -468,7 +468,7 @@ module _ (entries : ℕ) (h middle after : ClientValue) (made : Option Cached) (
         cache = Some looks.later;
         rest = some.0;
         after_is = after_went;
-        ahead = LookedUp some.0 Nothing looks.later
+        ahead = LookedUp some.0 looks.later
             (subst (λ (cache : Cached). Asks (start_ahead offset len block h) some.0 Nothing cache looks.later) has_cache.is
             some.1) refl;
         knows = λ sizes block blocks known.

@@ -1,6 +1,7 @@
 -- A commit that wasn't made: its session or its file is gone, it comes too late, or the volume has no room; or the keeper failed, or
 -- memory ran out.
-use Rattle.std.proofs.Common.{◌≡◌, ℕ, [], ◌∷◌, Err, refl, sym, subst}
+use Rattle.std.proofs.Common.{◌≡◌, ℕ, [], ◌∷◌, Err, ap, refl, sym, subst}
+use Rattle.std.specs.Prelude.{is_some}
 use Rattle.jv_model.specs.declared.act.ActKind.TheVariants.{Answered, Quiet}
 use Rattle.jv_model.specs.declared.act.Told.TheVariants.{Refused as ToldRefused}
 use Rattle.jv_model.specs.declared.fault.Fault.{Fault}
@@ -29,6 +30,7 @@ use Rattle.jv_client.proofs.CommitLaws.{IsCommit, asked-model, at-model, busy-mo
 use Rattle.jv_client.proofs.CommitLaws.{is-complete, next-model, number-is, own-model, record_for, segment}
 use Rattle.jv_client.proofs.HeldLaws.{doing_of}
 use Rattle.jv_client.proofs.NextSegmentLaws.{segment-of}
+use Rattle.jv_client.proofs.CacheUseLaws.{left-some, rests-flushing}
 use Rattle.jv_client.proofs.UnmadeLaws.{RefusedAs, UnmadeLeads, unmade}
 
 module _ (h : ClientValue) (d : Doing) (v : Shared) (keeper : Store) (at : SegmentAt) (now quiets started id : ℕ)
@@ -123,5 +125,7 @@ module _ (h : ClientValue) (d : Doing) (v : Shared) (keeper : Store) (at : Segme
   pub refuses-commit : (entry : ℕ) (after : ClientValue) (fault : TxFault) (outcome : Made) → Commits fault
       → EndsUnmade Quiet fault h after outcome → Makes now entry h after v used_here outcome
   refuses-commit entry after fault outcome commits ends =
-      unmade now entry h after d v keeper is_commit.busy ready Quiet fault outcome refl (not-committed fault commits) ends
+      unmade now entry h after d v keeper is_commit.busy ready
+      (rests-flushing h d (left-some h d is_commit.busy (ap is_some is_commit.next))) Quiet fault outcome refl refl
+      (not-committed fault commits) ends
       (λ s g count store holds is. unmade-so s g store holds is fault commits)

@@ -25,7 +25,6 @@ use Rattle.jv_shared.specs.Shared.{HasStore, Known, Shared}
 use Rattle.jv_shared.proofs.SameLaws.{same-none, same-stays}
 use Rattle.jv_handles.specs.declared.handle.Handle.{Handle}
 use Rattle.jv_handles.specs.Views.{SeenViews}
-use Rattle.jv_fetching.specs.declared.need.Need.TheVariants.{Nothing}
 use Rattle.jv_fetching.specs.Ahead.{blocks_ahead}
 use Rattle.jv_fetching.specs.Calls.{IsCacheOf}
 use Rattle.jv_fetching.specs.Fetching.{begins}
@@ -149,9 +148,9 @@ module _ (now entry offset len : ℕ) (h middle after : ClientValue) (here : Rea
       (fails.after_is ∙ ap ended same.after_is) refl fails.made_is
       (answered-alone now entry h ready v same.cache same.knows (ToldRefused NoMemory) (RefusedReply NoMemory)
       (cache-read h here.d here.busy (record h { cache = same.cache; doing = None })
-      (made.Answer (ToldRefused NoMemory) (RefusedReply NoMemory)) v.yard v.yard (ap is_read here.file.op_is) refl
-      (LooksOnly same.rest Nothing none refl (λ goes. absurd (cc goes))
-      (subst (λ (due : List BlockId). LooksAhead due h.limits.entries h.cache same.cache same.rest Nothing)
+      (made.Answer (ToldRefused NoMemory) (RefusedReply NoMemory)) v.yard v.yard (ap is_read here.file.op_is) none refl
+      (LooksOnly same.rest none tt
+      (subst (λ (due : List BlockId). LooksAhead due h.limits.entries h.cache same.cache same.rest)
       (due-here offset len v.yard.setting.block h here first) same.ahead)) tt)
       (λ device. refl)
       (λ s g store is. failure-request s g v v store (same-none v) h.id now (in_flight h) (doing_of here.d)
@@ -232,9 +231,9 @@ module _ (now entry offset len : ℕ) (h middle : ClientValue) (here : ReadsHere
       (shows.after_is ∙ ap ended reads.same.after_is) refl shows.made_is
       (answered-alone now entry h ready v reads.same.cache reads.same.knows (told_read found) (Data found.bytes)
       (cache-read h d busy (record h { cache = reads.same.cache; doing = None })
-      (made.Answer (told_read found) (Data found.bytes)) v.yard v.yard (ap is_read on.op_is) (ap is_umount on.op_is)
-      (LooksOnly reads.same.rest Nothing none refl (λ goes. record { alone = refl; none = reads.all; nothing = refl })
-      (subst (λ (due : List BlockId). LooksAhead due h.limits.entries h.cache reads.same.cache reads.same.rest Nothing)
+      (made.Answer (told_read found) (Data found.bytes)) v.yard v.yard (ap is_read on.op_is) none (ap is_umount on.op_is)
+      (LooksOnly reads.same.rest none reads.all
+      (subst (λ (due : List BlockId). LooksAhead due h.limits.entries h.cache reads.same.cache reads.same.rest)
       (due-here offset len v.yard.setting.block h here first) reads.same.ahead)) tt)
       (λ device. refl) (λ s g store is. read-request s g store is))
 

@@ -19,7 +19,7 @@ use Rattle.jv_model.specs.tree.Caller.{Caller, Outcome}
 use Rattle.jv_model.specs.tree.TreeAct.{tree_act}
 use Rattle.jv_model.specs.client.ModelClient.{ModelClient, free_handle}
 use Rattle.jv_model.specs.client.Profile.{handle_of}
-use Rattle.jv_model.specs.journal.State.{State, Gift, after_told, caller, gift_of, is_refused}
+use Rattle.jv_model.specs.journal.State.{State, Gift, NewSession, NewHandle, Nothing, after_told, caller, gift_of, is_refused}
 use Rattle.jv_model.specs.journal.State.{newly_sustained, transacted}
 use Rattle.jv_model.specs.journal.Steps.{entry_of_gift, told_of, transacts}
 use Rattle.jv_model.specs.Lists.{is_among}
@@ -51,7 +51,7 @@ use Rattle.jv_client.specs.UnderWay.{ClosesOpen, IsReady, asks_more, left, makes
 use Rattle.jv_client.specs.Makes.{FailsAlone, IsCalm, Makes, StepsTo, kinds_of}
 use Rattle.jv_client.specs.Transacting.{IsCaller, Attempts, EndsUnmade, NotMade, answered_here, given_here}
 use Rattle.jv_client.specs.Transacting.{handles_given, sustained_with}
-use Rattle.jv_client.specs.CacheUse.{CacheUse}
+use Rattle.jv_client.specs.CacheUse.{CacheUse, is_miss}
 use Rattle.jv_client.proofs.CacheUseLaws.{NoRead, cache-ended}
 use Rattle.jv_client.proofs.AnswerLaws.{Rests, makes-ended, request-lands, rests-flight, same-yard, told-rests}
 use Rattle.jv_client.proofs.HeldLaws.{client-doing, doing_of, holds-later}
@@ -109,6 +109,12 @@ one-plain d (OfMetadata is spelled) told = keeps-none d.op told (metadata-plain 
 metadata-reads_none : (o : Op) → is_metadata o ≡ true → is_read o ≡ false
 metadata-reads_none (op.Read handle offset len) e = absurd (cc)
 metadata-reads_none o e = refl
+
+-- its entry is of no block
+found-by_gift : (gift : Gift) → is_miss (entry_of_gift gift) ≡ false
+found-by_gift (NewSession sid) = refl
+found-by_gift (NewHandle handle inode) = refl
+found-by_gift Nothing = refl
 
 one-reads_none : (d : Doing) → MakesOne d → is_read d.op ≡ false
 one-reads_none d (OfMount o) = ap is_read o
@@ -295,7 +301,7 @@ module _ (now : ℕ) (h : ClientValue) (d : Doing) (busy : h.doing ≡ Some d) (
         (told_of answer.reply) answer.reply v keeper
         (record { id = rests.id; limits = rests.limits; idle = rests.idle })
         (cache-ended h d busy (answered_here entry d.op answer h) made v.yard v.yard (given_here entry answer h)
-        (told_of answer.reply) (NoRead (one-reads_none d one)) refl refl refl tt)
+        (told_of answer.reply) (NoRead (one-reads_none d one) (found-by_gift (gift_of answer.reply))) refl refl refl tt)
         ready tx.opened_at tx.counts
         (asks-by_gift (gift_of answer.reply), calm-reply answer.reply tried.answers)
         (λ s g number has holds is.
@@ -348,7 +354,8 @@ module _ (now : ℕ) (h : ClientValue) (d : Doing) (busy : h.doing ≡ Some d) (
       → Attempts h d.op now v.keeper keeper (Err fault) → EndsUnmade Meta fault h after done
       → Makes now entry h after v used done
   transaction-unmade entry fault after done tried ends =
-      unmade now entry h after d v keeper busy ready Meta fault done refl (not_made fault tried) ends
+      unmade now entry h after d v keeper busy ready (λ done fine. NoRead (one-reads_none d one) fine) Meta fault done refl refl
+      (not_made fault tried) ends
       (λ s g number has holds is. unmade-leads s g has holds is fault tried)
 
 -- the handle of a close is open while a reply hands another one to the client

@@ -54,7 +54,7 @@ use Rattle.jv_client.specs.Ending.{refused_here}
 use Rattle.jv_client.specs.Held.{Holds, IsClient, in_flight}
 use Rattle.jv_client.specs.Makes.{Makes, StepsTo, UsesDevices, faults_of, is_same_device}
 use Rattle.jv_client.specs.Transacting.{EndsUnmade, refusal_of}
-use Rattle.jv_client.specs.CacheUse.{LooksOnly, MovesInRead, goes_well, has_got}
+use Rattle.jv_client.specs.CacheUse.{LooksInVain, MovesInRead, fails_block, goes_well}
 use Rattle.jv_client.specs.Reading.{NeedsNext, put_at}
 use Rattle.jv_client.specs.UnderWay.{IsReady}
 use Rattle.jv_client.proofs.CacheUseLaws.{cache-read, cache-refused}
@@ -65,7 +65,6 @@ use Rattle.jv_client.proofs.KeptLaws.{cache-goes, held-goes, told-client}
 use Rattle.jv_client.proofs.WrittenLaws.{names-held}
 use Rattle.jv_client.proofs.ReaderLaws.{IsAsking, asking, busy_in, cached-known, file_by, flushed-asking, handle_in}
 use Rattle.jv_client.proofs.ReaderLaws.{may_read, none_flying, opened_in}
-use Rattle.jv_client.proofs.LooksLaws.{needs-looked}
 use Rattle.jv_client.proofs.GoneOnLaws.{over}
 use Rattle.jv_client.proofs.ReadFailedLaws.{failed, held-cache}
 use Rattle.jv_client.proofs.LookLaws.{uses-look}
@@ -117,13 +116,12 @@ module _ (now entry block : ℕ) (h : ClientValue) (d : Doing) (offset len : ℕ
   abbrev c : ClientValue
   c = asking h cache d fetch (NeedsLook window)
 
-  -- the blocks that were looked up before it
-  pub looked-before : (done : Made) (after : ClientValue) → has_got done ≡ false → (goes_well done ≡ true → ⊥)
+  -- the cache is as it was before the look
+  pub looked-before : (done : Made) (after : ClientValue) → goes_well done ≡ false → fails_block done ≡ false
       → MovesInRead h d done before.yard before.yard after (Some cache)
-  looked-before done after none fails =
-      let looked = needs-looked before.yard.setting.block h d fetch cache (NeedsLook window)
-      (subst (λ n. NeedsNext n h d fetch (NeedsLook window) cache) (sym length_is) asks.needs) in
-      LooksOnly looked.0 looked.1 (flushed-asking asks) none (λ goes. absurd (fails goes)) looked.2
+  looked-before done after ends fine =
+      LooksInVain fetch window cache (flushed-asking asks) ends fine
+      (subst (λ n. NeedsNext n h d fetch (NeedsLook window) cache) (sym length_is) asks.needs) refl
 
   -- memory ran out, before the look or after it
   pub look-out : (later : Cached)
@@ -240,9 +238,8 @@ module _ (now entry block : ℕ) (h : ClientValue) (d : Doing) (offset len : ℕ
             looks.looks.rows_are looks.looks.opened_at looks.looks.counts tt;
         yard = same-yard now h (made.Both Quiet (ToldRefused why) (Refused why)) before.yard;
         cache = cache-refused h d asks.busy (refused_here why c) (made.Both Quiet (ToldRefused why) (Refused why))
-            before.yard before.yard (ap is_read asks.reads.op_is) c why refl
-            (looked-before (made.Both Quiet (ToldRefused why) (Refused why)) (refused_here why c) refl
-            (λ goes. absurd (cc goes))) refl tt;
+            before.yard before.yard (ap is_read asks.reads.op_is) c why refl refl
+            (looked-before (made.Both Quiet (ToldRefused why) (Refused why)) (refused_here why c) refl refl) refl tt;
         alone = (refl, calm-refusal fault);
         falls = rests.idle;
         leads = λ s g number has holds client. refused-so fault looks s g has holds client;
@@ -260,9 +257,8 @@ module _ (now entry block : ℕ) (h : ClientValue) (d : Doing) (offset len : ℕ
             looks.looks.rows_are looks.looks.opened_at looks.looks.counts tt;
         yard = same-yard now h (made.Both Quiet (ToldRefused fault) (Refused fault)) before.yard;
         cache = cache-read h d asks.busy (refused_here fault c) (made.Both Quiet (ToldRefused fault) (Refused fault))
-            before.yard before.yard (ap is_read asks.reads.op_is) refl
-            (looked-before (made.Both Quiet (ToldRefused fault) (Refused fault)) (refused_here fault c) refl
-            (λ goes. absurd (cc goes))) tt;
+            before.yard before.yard (ap is_read asks.reads.op_is) (flushed-asking asks) refl
+            (looked-before (made.Both Quiet (ToldRefused fault) (Refused fault)) (refused_here fault c) refl refl) tt;
         alone = (refl, λ device. refl);
         falls = refl;
         leads = λ s g number has holds client.
@@ -279,8 +275,7 @@ module _ (now entry block : ℕ) (h : ClientValue) (d : Doing) (offset len : ℕ
             looks.looks.opened_at looks.looks.counts looks.looks.bad;
         yard = same-yard now h (made.Broken at bytes) before.yard;
         cache = cache-read h d asks.busy c (made.Broken at bytes) before.yard before.yard (ap is_read asks.reads.op_is)
-            refl
-            (looked-before (made.Broken at bytes) c refl (λ goes. absurd (cc goes))) tt;
+            (flushed-asking asks) refl (looked-before (made.Broken at bytes) c refl refl) tt;
         alone = tt;
         falls = record {
           progress = Reading fetch (NeedsLook window);
@@ -301,11 +296,11 @@ module _ (now entry block : ℕ) (h : ClientValue) (d : Doing) (offset len : ℕ
       (uses-failed before keeper looks.looks.rows_are looks.looks.opened_at looks.looks.counts)
       (same-yard now h (made.Answer (ToldRefused (DeviceFailed Keeper)) (Refused (DeviceFailed Keeper))) before.yard)
       (looked-before (made.Answer (ToldRefused (DeviceFailed Keeper)) (Refused (DeviceFailed Keeper)))
-      (over h.handles cache h) refl (λ goes. absurd (cc goes)))))
+      (over h.handles cache h) refl refl)))
   look-unmade (OfRows Memory) after done ready looks ends =
       subst (λ x. Makes now entry h after before used x) (sym ends.made_is)
       (subst (λ x. Makes now entry h x before used (made.Answer (ToldRefused NoMemory) (Refused NoMemory)))
       (sym ends.after_is)
       (look-out cache (looked-before (made.Answer (ToldRefused NoMemory) (Refused NoMemory)) (over h.handles cache h) refl
-      (λ goes. absurd (cc goes))) (cached-known asks before length_is)
+      refl) (cached-known asks before length_is)
       looks.looks.rows_are looks.looks.opened_at looks.looks.counts))

@@ -40,7 +40,8 @@ use Rattle.jv_client.specs.Makes.{says_failure}
 use Rattle.jv_client.specs.Transacting.{EndsUnmade, Fails, NotMade, Refuses, refusal_of}
 use Rattle.jv_client.proofs.EndingLaws.{holds-told}
 use Rattle.jv_client.proofs.KeptLaws.{client-told}
-use Rattle.jv_client.proofs.CacheUseLaws.{NoBlock, cache-ended, cache-stays}
+use Rattle.jv_client.specs.CacheUse.{is_miss, is_of_blocks}
+use Rattle.jv_client.proofs.CacheUseLaws.{RestsAlways, cache-ended, cache-stays}
 use Rattle.jv_client.proofs.AnswerLaws.{fails-makes, makes-as, makes-ended, refused-rests, rests-flight, same-yard}
 
 -- ---- devices: nothing was asked but of the keeper
@@ -128,19 +129,21 @@ InState entry h before P = (s : State) (g : Known) → s.count + 1 ≡ entry →
 -- ---- the steps
 
 module _ (now entry : ℕ) (h : ClientValue) (d : Doing) (before used : Shared) (busy : h.doing ≡ Some d)
-    (ready : IsReady h) where
+    (ready : IsReady h) (rests : RestsAlways h d) where
   -- A request that is refused.
-  pub refuses : (kind : ActKind) (fault : Fault) → is_answer kind ≡ false → IsCalm (ToldRefused fault)
+  pub refuses : (kind : ActKind) (fault : Fault) → is_answer kind ≡ false → is_miss kind ≡ false
+      → IsCalm (ToldRefused fault)
       → UsesDevices (made.Both kind (ToldRefused fault) (RefusedReply fault)) before used
       → YardUse now h (made.Both kind (ToldRefused fault) (RefusedReply fault)) before.yard used.yard
       → InState entry h before (RefusedAs now h d before used kind fault)
       → Makes now entry h (refused_here fault h) before used (made.Both kind (ToldRefused fault) (RefusedReply fault))
-  refuses kind fault asks calm uses yard leads =
-      let rests = refused-rests fault h in
+  refuses kind fault asks found calm uses yard leads =
+      let ends = refused-rests fault h in
       makes-ended now entry h (refused_here fault h) before used
-      (made.Both kind (ToldRefused fault) (RefusedReply fault)) (RefusedReply fault) refl ready rests uses yard
+      (made.Both kind (ToldRefused fault) (RefusedReply fault)) (RefusedReply fault) refl ready ends uses yard
       (cache-ended h d busy (refused_here fault h) (made.Both kind (ToldRefused fault) (RefusedReply fault)) before.yard
-      used.yard h (ToldRefused fault) (NoBlock refl (λ goes. absurd (cc goes))) refl refl refl tt)
+      used.yard h (ToldRefused fault) (rests (made.Both kind (ToldRefused fault) (RefusedReply fault)) found) refl refl
+      refl tt)
       (asks, calm)
       (λ s g count store holds is.
       let m = s.clients h.id in
@@ -154,7 +157,7 @@ module _ (now entry : ℕ) (h : ClientValue) (d : Doing) (before used : Shared) 
         copied = s.copied;
         request = subst (λ (n : ℕ). Request s g g before used h.id now (in_flight h) n kinds
             (Done (RefusedReply fault)) s.tree after s.copied)
-            (sym (rests-flight h (refused_here fault h) rests)) refused.request;
+            (sym (rests-flight h (refused_here fault h) ends)) refused.request;
         is_client = client-told s.tree g before store refused.request.own g used refused.request.leads.kept m
             s.count (s.count + 2) h (omega arith) is d.op (ToldRefused fault) refl;
         holds = holds-told d.op (ToldRefused fault) s.tree m refl holds;
@@ -170,7 +173,7 @@ stops-as h d busy = record {
 
 -- A transaction that wasn't made, by how the step ends.
 module _ (now entry : ℕ) (h after : ClientValue) (d : Doing) (before : Shared) (keeper : Store)
-    (busy : h.doing ≡ Some d) (ready : IsReady h) where
+    (busy : h.doing ≡ Some d) (ready : IsReady h) (rests : RestsAlways h d) where
   abbrev then_shared : Shared
   then_shared = record before { keeper = keeper }
 
@@ -178,13 +181,15 @@ module _ (now entry : ℕ) (h after : ClientValue) (d : Doing) (before : Shared)
   IsMade done = Makes now entry h after before (record before { keeper = keeper }) done
 
   failed : (fault : Fault) (done : Made) → is_failure (ToldRefused fault) ≡ true
+      → is_of_blocks (ToldRefused fault) ≡ false
       → RoseIf (is_failure_of Keeper (ToldRefused fault)) before.keeper.faults keeper.faults
       → (is_failure_of Depot (ToldRefused fault) ≡ false) × (is_failure_of Shelf (ToldRefused fault) ≡ false)
       × (is_failure_of Carrier (ToldRefused fault) ≡ false)
       → keeper.rows ≡ before.keeper.rows → keeper.opened ≡ before.keeper.opened → Fails fault h after done
       → IsMade done
-  failed fault done fail cause only rows opened ends =
-      fails-makes now entry h d before then_shared fault after done busy ready fail ends
+  failed fault done fail other cause only rows opened ends =
+      fails-makes now entry h d before then_shared fault after done busy ready
+      (rests (made.Answer (ToldRefused fault) (RefusedReply fault)) other) fail ends
       (same-rows before keeper before.carrier rows)
       (subst (λ (x : Made). UsesDevices x before then_shared) (sym ends.made_is)
       (uses-keeper before keeper (made.Answer (ToldRefused fault) (RefusedReply fault)) opened cause only (λ asks. rows)
@@ -198,31 +203,31 @@ module _ (now entry : ℕ) (h after : ClientValue) (d : Doing) (before : Shared)
   refused-as kind fault s g refused = subst (λ (x : Fault). RefusedAs now h d before then_shared kind x s g)
       (sym (same-refusal fault refused.calm)) refused
 
-  refused : (kind : ActKind) (fault : Fault) (done : Made) → is_answer kind ≡ false → IsCalm (ToldRefused fault)
-      → keeper.rows ≡ before.keeper.rows
+  refused : (kind : ActKind) (fault : Fault) (done : Made) → is_answer kind ≡ false → is_miss kind ≡ false
+      → IsCalm (ToldRefused fault) → keeper.rows ≡ before.keeper.rows
       → keeper.opened ≡ before.keeper.opened → keeper.faults ≡ before.keeper.faults → Refuses kind fault h after done
       → InState entry h before (RefusedAs now h d before then_shared kind fault)
       → IsMade done
-  refused kind fault done asks calm rows opened faults ends leads =
+  refused kind fault done asks found calm rows opened faults ends leads =
       makes-as now entry h after (refused_here fault h) before then_shared then_shared done
       (made.Both kind (ToldRefused fault) (RefusedReply fault)) ends.after_is refl ends.made_is
-      (refuses now entry h d before then_shared busy ready kind fault asks calm
+      (refuses now entry h d before then_shared busy ready rests kind fault asks found calm
       (uses-keeper before keeper (made.Both kind (ToldRefused fault) (RefusedReply fault)) opened faults
       (refl, refl, refl) (λ asks. rows) tt)
       (same-yard now h (made.Both kind (ToldRefused fault) (RefusedReply fault)) before.yard) leads)
 
-  pub unmade : (kind : ActKind) (fault : TxFault) (done : Made) → is_answer kind ≡ false
+  pub unmade : (kind : ActKind) (fault : TxFault) (done : Made) → is_answer kind ≡ false → is_miss kind ≡ false
       → NotMade fault before.keeper keeper
       → EndsUnmade kind fault h after done
       → InState entry h before (UnmadeLeads now h d before (record before { keeper = keeper }) kind fault)
       → Makes now entry h after before (record before { keeper = keeper }) done
-  unmade kind (Refused fault) done asks none ends leads =
-      refused kind (refusal_of fault) done asks (calm-refusal fault) none.rows_are none.opened_at none.counts ends
+  unmade kind (Refused fault) done asks found none ends leads =
+      refused kind (refusal_of fault) done asks found (calm-refusal fault) none.rows_are none.opened_at none.counts ends
       (λ s g number store holds is. refused-as kind fault s g (leads s g number store holds is))
-  unmade kind (Moved list) done asks none ends leads =
-      refused kind (Contended (Lists ends.0 ends.0)) done asks (λ device. refl) none.rows_are none.opened_at none.counts ends.1
+  unmade kind (Moved list) done asks found none ends leads =
+      refused kind (Contended (Lists ends.0 ends.0)) done asks found (λ device. refl) none.rows_are none.opened_at none.counts ends.1
       (λ s g number store holds is. absurd (leads s g number store holds is))
-  unmade kind (OfRows (Bad at bytes)) done asks none ends leads =
+  unmade kind (OfRows (Bad at bytes)) done asks found none ends leads =
       makes-as now entry h after h before then_shared then_shared done (made.Broken at bytes) ends.0 refl ends.1
       (record {
         id = refl;
@@ -232,12 +237,12 @@ module _ (now entry : ℕ) (h after : ClientValue) (d : Doing) (before : Shared)
             (λ asks. none.rows_are) none.bad;
         yard = same-yard now h (made.Broken at bytes) before.yard;
         cache = cache-stays h d busy h (made.Broken at bytes) before.yard before.yard
-            (NoBlock refl (λ goes. absurd (cc goes))) refl refl tt;
+            (rests (made.Broken at bytes) refl) refl refl tt;
         alone = tt;
         falls = stops-as h d busy;
         leads = λ s g number store holds is. absurd (leads s g number store holds is);
       })
-  unmade kind (OfRows Failed) done asks none ends leads =
-      failed (DeviceFailed Keeper) done refl none.counts (refl, refl, refl) none.rows_are none.opened_at ends
-  unmade kind (OfRows Memory) done asks none ends leads =
-      failed NoMemory done refl none.counts (refl, refl, refl) none.rows_are none.opened_at ends
+  unmade kind (OfRows Failed) done asks found none ends leads =
+      failed (DeviceFailed Keeper) done refl refl none.counts (refl, refl, refl) none.rows_are none.opened_at ends
+  unmade kind (OfRows Memory) done asks found none ends leads =
+      failed NoMemory done refl refl none.counts (refl, refl, refl) none.rows_are none.opened_at ends

@@ -12,7 +12,8 @@ pub record ClientValue : Type 0 where
   pub limits : Limits
   pub session : Option ℕ
   pub handles : List (Option Handle)
-  pub sustained : List ℕ  -- inodes that lost their last entry by this client's own hand while it had them open
+  -- inodes that lost their last entry by this client's own hand while it had them open
+  pub sustained : List ℕ
   pub pending : List PendingByte
   pub cache : Option Cached  -- None until the first read
   pub doing : Option Doing

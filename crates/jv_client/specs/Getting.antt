@@ -2,8 +2,10 @@
 use Rattle.std.specs.Prelude.{◌≡◌, ℕ, ◌<◌, List, ◌∷◌, length, Option, None, Some, IfSome, Result, Ok, Err}
 use Rattle.jv_model.specs.declared.act.ActKind.{ActKind}
 use Rattle.jv_model.specs.declared.act.ActKind.TheVariants.{Miss}
+use Rattle.jv_model.specs.declared.act.Told.TheVariants.{Refused as ToldRefused}
 use Rattle.jv_model.specs.declared.fault.Fault.{Fault}
 use Rattle.jv_model.specs.declared.fault.Fault.TheVariants.{TryAgain}
+use Rattle.jv_model.specs.declared.op.Reply.TheVariants.{Refused as RefusedReply}
 use Rattle.jv_model.specs.declared.slice.BlockId.{BlockId}
 use Rattle.jv_model.specs.client.Profile.{handle_of}
 use Rattle.jv_model.specs.journal.Reading.{Asked}
@@ -22,6 +24,7 @@ use Rattle.jv_yard.specs.Refusals.{yard_fault}
 use Rattle.jv_yard.specs.YardValue.{YardValue}
 use Rattle.jv_client.specs.declared.doing.Doing.{Doing}
 use Rattle.jv_client.specs.declared.made.Made.{Made}
+use Rattle.jv_client.specs.declared.made.Made.TheVariants as made
 use Rattle.jv_client.specs.ClientValue.{ClientValue}
 use Rattle.jv_client.specs.Transacting.{Refuses}
 
@@ -60,6 +63,18 @@ missed h d fetch = Miss (inode_here h.handles (handle_of d.op)) (first_window fe
 abbrev pub IsMissedBy : ClientValue → Doing → Option Fetching → ClientValue → Made → Type 0
 IsMissedBy h d fetch after done =
     IfSome fetch (λ fetch. Refuses (missed h d fetch) (TryAgain 0) h after done)
+
+-- A block didn't come, and the step is answered so: a device failed or memory ran out; or the block
+-- isn't there, which is a miss that names no commit.
+pub data GetsNone (h : ClientValue) (d : Doing) (fetch : Fetching) (b : BlockId) (done : Made)
+    (before after : YardValue) : Type 0 where
+  Unread : (fault : Fault) → IsUnread h.id b before after fault
+      → done ≡ made.Answer (ToldRefused fault) (RefusedReply fault)
+      → GetsNone h d fetch b done before after
+  NotThere : IsMissed h.id b before after
+      → done
+      ≡ made.Both (missed h d fetch) (ToldRefused (TryAgain 0)) (RefusedReply (TryAgain 0))
+      → GetsNone h d fetch b done before after
 
 -- A reading got the block that it needs, which the cache keeps or not.
 pub record Fills (b : BlockId) (bytes : List ℕ) (before after : Fetching)

@@ -164,14 +164,13 @@ abbrev pub cache_in : ℕ → Option Cached → Cached
 cache_in entries None = new_cache entries
 cache_in entries (Some cache) = cache
 
--- Of the blocks that were due those were looked up in it that aren't left, on the way to this need,
--- if anything was done.
+-- Of the blocks that were due those were found in it that aren't left, if anything was done.
 pub data LooksAhead (due : List BlockId) (entries : ℕ) (was is : Option Cached) : List BlockId
-    → Need → Type 0 where
-  Untouched : is ≡ was → LooksAhead due entries was is due Nothing
-  LookedUp : (rest : List BlockId) (next : Need) (later : Cached)
-      → Asks due rest next (cache_in entries was) later
-      → is ≡ Some later → LooksAhead due entries was is rest next
+    → Type 0 where
+  Untouched : is ≡ was → LooksAhead due entries was is due
+  LookedUp : (rest : List BlockId) (later : Cached)
+      → Asks due rest Nothing (cache_in entries was) later
+      → is ≡ Some later → LooksAhead due entries was is rest
 
 -- the blocks that a reading of this range has ahead before anything is read
 abbrev pub start_ahead : (offset len block : ℕ) → ClientValue → List BlockId
@@ -184,14 +183,13 @@ pub record IsCachedAs (offset len block : ℕ) (h after : ClientValue) : Type 0 
   pub rest : List BlockId
   pub after_is : after ≡ record h { cache = cache }
   pub ahead : LooksAhead (start_ahead offset len block h) h.limits.entries h.cache cache rest
-      Nothing
   pub knows : (sizes : ℕ → ℕ) (block : ℕ) (blocks : Blocks)
       → IfSome h.cache (IsCacheOf sizes block blocks)
       → IfSome cache (IsCacheOf sizes block blocks)
 
 -- What a reading needs before its request, and the cache then: what it needed when the step began,
 -- with the cache as it was; or it begins in this step, goes ahead from its start by the views of
--- its handle and by the cache before it, and looks up what it comes to.
+-- its handle and by the cache before it, and looks up what it reaches.
 pub data NeedsNext (block : ℕ) (h : ClientValue) (d : Doing) (fetch : Fetching) (next : Need)
     (cache : Cached) : Type 0 where
   Already : d.progress ≡ Reading fetch next → h.cache ≡ Some cache

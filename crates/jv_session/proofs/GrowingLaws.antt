@@ -1,14 +1,15 @@
 -- A yard grows by what is put, and by no more.
 use Rattle.std.proofs.Common.{◌≡◌, ℕ, Bool, true, false, cond, List, [], ◌∷◌, ◌++◌, Option, Some, refl, sym, ap, subst, ◌∙◌}
-use Rattle.std.specs.Prelude.{IsSome}
+use Rattle.std.specs.Prelude.{All, IsSome}
 use Rattle.std.specs.Ordering.{eq_by_cmp}
+use Rattle.std.proofs.lemmas.List.Elements.{All-append, All-cons, All-nil}
 use Rattle.std.proofs.lemmas.List.Elements.{Contains-append_left, Contains-append_right, Contains-push}
 use Rattle.jv_model.specs.declared.setting.Setting.{Setting}
 use Rattle.jv_model.specs.declared.slice.BlockId.{BlockId}
 use Rattle.jv_model.specs.FiniteMap.{get, text_key}
 use Rattle.jv_model.proofs.FiniteMapLaws.{get-insert}
 use Rattle.jv_model.proofs.TestLaws.{tie_is}
-use Rattle.jv_model.specs.blocks.BlockNames.{name_in}
+use Rattle.jv_model.specs.blocks.BlockNames.{IsBlock, name_in}
 use Rattle.jv_outside.specs.Objects.{ObjectMap, with_object}
 use Rattle.jv_contents.specs.Flights.{flight_block, flight_bytes}
 use Rattle.jv_yard.specs.YardValue.{YardValue}
@@ -29,7 +30,12 @@ objects_same setting objects content known = record {
 }
 
 pub grows_none : (yard : YardValue) → YardGrows yard yard
-grows_none yard = record { staged = refl; puts = []; objects = λ objects known. objects_same yard.setting objects yard.depot.content known }
+grows_none yard = record {
+  staged = refl;
+  puts = [];
+  blocks = All-nil (IsBlock yard.setting.block);
+  objects = λ objects known. objects_same yard.setting objects yard.depot.content known;
+}
 
 -- one block was put
 module _ (setting : Setting) (b : BlockId) (bytes : List ℕ) (at : ℕ) (objects : ObjectMap) where
@@ -66,14 +72,16 @@ module _ (now : ℕ) (h : ClientValue) (made : Made) (before after : YardValue) 
   grows_by (PutsNone log same) = record {
     staged = staged;
     puts = [];
+    blocks = All-nil (IsBlock before.setting.block);
     objects = λ objects known. objects_same before.setting objects after.depot.content (same ∙ known);
   }
-  grows_by (PutsNext flight is request next noted) =
+  grows_by (PutsNext flight is request block next noted) =
       let b = flight_block before.setting.block flight flight.put in
       let bytes = flight_bytes before.setting.block flight flight.put in
       record {
         staged = staged;
         puts = b ∷ [];
+        blocks = All-cons (IsBlock before.setting.block) b [] block (All-nil (IsBlock before.setting.block));
         objects = λ objects known. objects_put before.setting b bytes now objects after.depot.content
             (put-objects h.id next.parcel before after (name_in before.setting b) bytes now objects next.put next.stands known);
       }
@@ -110,6 +118,8 @@ pub grows_then : (first second third : YardValue) → second.setting ≡ first.s
 grows_then first second third same a b = record {
   staged = b.staged ∙ a.staged;
   puts = a.puts ++ b.puts;
+  blocks = All-append (IsBlock first.setting.block) a.puts b.puts a.blocks
+      (subst (λ (s : Setting). All (IsBlock s.block) b.puts) same b.blocks);
   objects = λ objects known.
       let now = a.objects objects known in
       objects_then first.setting a.puts b.puts objects second.depot.content third.depot.content now

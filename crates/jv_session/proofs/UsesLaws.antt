@@ -230,7 +230,7 @@ uses_step before after line now h made appends alone passes uses used at limits 
     shelf_at = uses.shelf_at;
     direct = uses.direct;
     setting = uses.setting;
-    grows = record { staged = grown.staged; puts = grown.puts; objects = grown.objects };
+    grows = record { staged = grown.staged; puts = grown.puts; blocks = grown.blocks; objects = grown.objects };
   };
   counts = λ device. rose_times-if (says_failure device made) (faults_of device before.devices)
       (faults_of device after.devices)

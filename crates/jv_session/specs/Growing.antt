@@ -1,9 +1,9 @@
 -- What lines make of a yard.
-use Rattle.std.specs.Prelude.{◌≡◌, ℕ, List, Option, Some, IsSome, Contains}
+use Rattle.std.specs.Prelude.{◌≡◌, ℕ, All, List, Option, Some, IsSome, Contains}
 use Rattle.jv_model.specs.declared.setting.Setting.{Setting}
 use Rattle.jv_model.specs.declared.slice.BlockId.{BlockId}
 use Rattle.jv_model.specs.FiniteMap.{get}
-use Rattle.jv_model.specs.blocks.BlockNames.{name_in}
+use Rattle.jv_model.specs.blocks.BlockNames.{IsBlock, name_in}
 use Rattle.jv_outside.specs.Objects.{ObjectMap}
 use Rattle.jv_yard.specs.YardValue.{YardValue}
 
@@ -23,9 +23,11 @@ pub record ObjectsStay (setting : Setting) (blocks : List BlockId) (before : Obj
   pub others : (name : List ℕ) → (HasName setting blocks name → ⊥)
       → get after name ≡ get before name
 
--- blocks were put, and nothing else was done to objects; nothing was staged or unstaged
+-- blocks of the volume were put, and nothing else was done to objects; nothing was staged or
+-- unstaged
 pub record YardGrows (before after : YardValue) : Type 0 where
   pub staged : after.staged ≡ before.staged
   pub puts : List BlockId
+  pub blocks : All (IsBlock before.setting.block) puts
   pub objects : (known : ObjectMap) → before.depot.content ≡ Some known
       → ObjectsStay before.setting puts known after.depot.content

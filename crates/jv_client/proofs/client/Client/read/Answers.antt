@@ -1,7 +1,6 @@
 -- The next request of a reading, or its answer where it needs none.
-use Rattle.std.proofs.Common.{sym, ap, ◌∙◌}
+use Rattle.std.proofs.Common.{ap}
 use Rattle.jv_model.specs.declared.setting.Setting.{Setting}
-use Rattle.jv_client.proofs.ReadingLaws.{ahead-already}
 use Rattle.jv_client.proofs.ShowLaws.{begun-ahead, begun-fails, begun-shows}
 use Rattle.jv_client.proofs.client.Client.read.Goals as goal
 
