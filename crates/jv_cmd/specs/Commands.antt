@@ -141,8 +141,8 @@ pub record EndsCommand (command : Command) (before after : WorldValue) (status :
 
 -- the words are refused, or there is no memory to read them
 pub data RefusesWords (words : List Text) (before after : WorldValue) (status : ℕ) : Type 0 where
-  Refused : (text : List ℕ) → IsRefusalText words text → status ≡ WORDS_REFUSED → Says before.err after.err text
-      → RefusesWords words before after status
+  Refused : (text : List ℕ) → IsRefusalText words text → status ≡ WORDS_REFUSED
+      → Says before.err after.err text → RefusesWords words before after status
   NoMemory : status ≡ status_of OutOfMemory → Says before.err after.err (message_of OutOfMemory)
       → RefusesWords words before after status
 

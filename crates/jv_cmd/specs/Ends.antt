@@ -33,7 +33,7 @@ status_of CarrierFailed = 5
 status_of ShelfFailed = 5
 status_of OutOfMemory = OUT_OF_MEMORY
 
--- the text on standard error, where no word is off
+-- the text on standard error, where the words are a command
 abbrev pub message_of : Ended → List ℕ
 message_of Succeeded = []
 message_of (LineNotRun number) =

@@ -123,7 +123,7 @@ pub data IsNotRun (limits : Limits) (number : ℕ) (text : List ℕ) : Type 0 wh
   TooLong : MAX_LINE < length text → IsNotRun limits number text
   Off : IsTextNotRun text limits → IsNotRun limits number text
 
--- the line after those that were run is off
+-- the line after those that were run isn't run
 pub record StopsAt (before : StageValue) (texts : List (List ℕ)) (lines : List Line)
     (number : ℕ) : Type 0 where
   pub after_lines : number ≡ length lines + 1

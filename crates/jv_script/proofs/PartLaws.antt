@@ -276,13 +276,6 @@ leaves_first before text bytes rest after new spelled left first joined = record
   no_more = omega (arith, left.no_more, ap length first.parts);
 }
 
--- parts after others
-pub leaves_then : (before text bytes rest after tail : List ℕ) → Leaves before text bytes rest → Leaves bytes rest after tail → Leaves before text after tail
-leaves_then before text bytes rest after tail left next = record {
-  whole = left.whole ∙ next.whole;
-  no_more = omega (arith, left.no_more, next.no_more);
-}
-
 -- no digit is a `+`, so that pairs of digits are one part
 pub plain_whole : (digits : List ℕ) → is_pairs digits ≡ true → bytes_of_parts (parted 43 digits) ≡ limited_bytes (bytes_of_digits digits)
 plain_whole digits pairs =

@@ -1,13 +1,13 @@
 -- Repeats of bytes, and the parts that they are printed as.
 use Rattle.std.proofs.Common.{◌≡◌, ◌≢◌, ℕ, zero, suc, ◌+◌, ◌-◌, add-zero, ◌<◌, ◌≤◌, ◌&&◌, ◌==◌, inl, inr, Bool, true, false, cond, eqb, List, [], ◌∷◌, ◌++◌, length, get_or, take, drop, replicate, map, refl, sym, ap, ◌∙◌, arith}
 use Rattle.std.specs.List.{flat_map, join_with_byte}
-use Rattle.std.proofs.lemmas.Bool.{eq-eqb, eqb-true, ne_eqb, le-leb, lt-leb, cases_lt, false≢true, false_from_ne_true}
+use Rattle.std.proofs.lemmas.Bool.{eq-eqb, eqb-true, ne_eqb, le-leb, lt-leb, cases_lt, false≢true}
 use Rattle.std.proofs.lemmas.List.{append-nil, append_assoc, take-append-drop, length-take, length-take-le, length-drop, length-replicate, get_or-take, get_or-drop, get_or-replicate, drop-drop}
 use Rattle.std.proofs.lemmas.Grind.{same_number_lists}
 use Rattle.jv_model.specs.script.Printed.{ByteRepeat, with_byte, repeats_of, DataPart, Plain, Repeated, with_short, parts_of, part_text, data_text}
-use Rattle.jv_script.specs.Printing.{IsFirstRepeat, IsFrontCount, begins_long, HasNoLongBefore}
+use Rattle.jv_script.specs.Printing.{IsFirstRepeat, begins_long, HasNoLongBefore}
 
--- one more byte in front makes a run of that byte the first
+-- one more byte in front makes a repeat of that byte the first
 pub with_byte-first : (byte : ℕ) (runs : List ByteRepeat) → (count : ℕ) × (more : List ByteRepeat) × (1 ≤ count) × (with_byte byte runs ≡ record { byte = byte; count = count } ∷ more)
 with_byte-first byte [] = (1, [], omega arith, refl)
 with_byte-first byte (run ∷ runs) = either (eqb byte run.byte)
@@ -16,7 +16,7 @@ with_byte-first byte (run ∷ runs) = either (eqb byte run.byte)
     either true = (run.count + 1, runs, omega arith, refl)
     either false = (1, run ∷ runs, omega arith, refl)
 
--- a byte before another one is a run of its own
+-- a byte before another one is a repeat of its own
 repeats_of_next : (b : ℕ) (ys : List ℕ) → (0 < length ys → get_or ys 0 0 ≢ b) → repeats_of (b ∷ ys) ≡ record { byte = b; count = 1 } ∷ repeats_of ys
 repeats_of_next b [] other = refl
 repeats_of_next b (y ∷ ys) other =
@@ -25,7 +25,7 @@ repeats_of_next b (y ∷ ys) other =
     rw (ne_eqb b y (λ e. other (omega arith) (sym e))) refl in
     ap (with_byte b) first.3 ∙ apart ∙ ap (λ (rs : List ByteRepeat). record { byte = b; count = 1 } ∷ rs) (sym first.3)
 
--- equal bytes before another one are one run
+-- equal bytes before another one are one repeat
 repeats_of_same : (b n : ℕ) (ys : List ℕ) → (0 < length ys → get_or ys 0 0 ≢ b) → repeats_of (replicate (suc n) b ++ ys) ≡ record { byte = b; count = suc n } ∷ repeats_of ys
 repeats_of_same b zero ys other = repeats_of_next b ys other
 repeats_of_same b (suc n) ys other =
@@ -52,11 +52,11 @@ first_repeat bytes (suc n) nonempty within each other =
     same_number_lists (take (suc n) bytes) (replicate (suc n) b) lengths (λ k below.
     let in_run : k < suc n = omega (arith, length-take (suc n) bytes) in
     get_or-take (suc n) bytes k 0 in_run ∙ each k in_run ∙ sym (get_or-replicate (suc n) k b 0 in_run)) in
-    record { some = omega arith; within = within; same = same; runs = repeats_of_front b (suc n) bytes (omega arith) same other }
+    record { some = omega arith; within = within; same = same; repeats = repeats_of_front b (suc n) bytes (omega arith) same other }
 
 -- a long repeat is the first part
 pub long_part : (bytes : List ℕ) (n : ℕ) → IsFirstRepeat bytes n → 4 ≤ n → parts_of (repeats_of bytes) ≡ Repeated (record { byte = get_or bytes 0 0; count = n }) ∷ parts_of (repeats_of (drop n bytes))
-long_part bytes n first long = ap parts_of first.runs ∙ rw (le-leb 4 n long) refl
+long_part bytes n first long = ap parts_of first.repeats ∙ rw (le-leb 4 n long) refl
 
 with_byte-same : (a n : ℕ) (more : List ByteRepeat) → with_byte a (record { byte = a; count = n } ∷ more) ≡ record { byte = a; count = n + 1 } ∷ more
 with_byte-same a n more = rw (eq-eqb a a refl) refl
@@ -69,7 +69,7 @@ abbrev first_byte : List ByteRepeat → ℕ
 first_byte [] = 0
 first_byte (run ∷ _) = run.byte
 
--- four equal bytes begin a run of four or more
+-- four equal bytes begin a repeat of four or more
 four_counted : (a : ℕ) (ys : List ℕ) → 4 ≤ first_count (repeats_of (a ∷ a ∷ a ∷ a ∷ ys))
 four_counted a ys =
     let (n, more, some, first) = with_byte-first a (repeats_of ys) in
@@ -98,11 +98,11 @@ long_counted (a ∷ b ∷ []) long = absurd (false≢true long)
 long_counted (a ∷ b ∷ c ∷ []) long = absurd (false≢true long)
 long_counted (a ∷ b ∷ c ∷ d ∷ ys) long = let (second, third, fourth) = all_equal a b c d long in rw (second, third, fourth) (four_counted a ys)
 
--- the first run is long where the first four bytes are equal
+-- the first repeat is long where the first four bytes are equal
 pub long_first : (bytes : List ℕ) (n : ℕ) → begins_long bytes ≡ true → IsFirstRepeat bytes n → 4 ≤ n
-long_first bytes n long first = omega (arith, long_counted bytes long, ap first_count first.runs)
+long_first bytes n long first = omega (arith, long_counted bytes long, ap first_count first.repeats)
 
--- the bytes of the first run are equal
+-- the bytes of the first repeat are equal
 run_equal : (bytes : List ℕ) (byte n : ℕ) (more : List ByteRepeat) → repeats_of bytes ≡ record { byte = byte; count = n } ∷ more → (k : ℕ) → k < n → (k < length bytes) × (get_or bytes k 0 ≡ byte)
 run_equal [] byte n more e k below = absurd (omega (arith, ap (λ (runs : List ByteRepeat). length runs) e))
 run_equal (x ∷ xs) byte n more e k below = by_runs (λ run runs whole k below. run_equal xs run.byte run.count runs whole k below) (repeats_of xs) refl e
@@ -144,7 +144,7 @@ with_short-append xs ys [] = refl
 with_short-append xs ys (Plain more ∷ parts) = ap (λ (bytes : List ℕ). Plain bytes ∷ parts) (sym (append_assoc xs ys more))
 with_short-append xs ys (Repeated run ∷ parts) = refl
 
--- one more byte before a run that stays short goes into the part after it
+-- one more byte before a repeat that stays short goes into the part after it
 short_more : (b y n : ℕ) (more : List ByteRepeat) → (b ≡ y → n < 3) → parts_of (with_byte b (record { byte = y; count = n } ∷ more)) ≡ with_short (b ∷ []) (parts_of (record { byte = y; count = n } ∷ more))
 short_more b y n more short = by_test (b == y) refl
   where
@@ -156,7 +156,7 @@ short_more b y n more short = by_test (b == y) refl
         (ap (λ (count : ℕ). with_short (replicate count b) (parts_of more)) counted ∙ sym (with_short-append (b ∷ []) (replicate n y) (parts_of more) ∙ ap (λ (y : ℕ). with_short (b ∷ replicate n y) (parts_of more)) (sym b_y)))
     by_test false other = refl
 
--- a byte that begins no long run goes into the part after it
+-- a byte that begins no long repeat goes into the part after it
 pub short_first : (b : ℕ) (ys : List ℕ) → begins_long (b ∷ ys) ≡ false → parts_of (repeats_of (b ∷ ys)) ≡ with_short (b ∷ []) (parts_of (repeats_of ys))
 short_first b [] short = refl
 short_first b (y ∷ ys) short =
@@ -209,13 +209,13 @@ begins_long_at (a ∷ b ∷ []) long = absurd (omega arith)
 begins_long_at (a ∷ b ∷ c ∷ []) long = absurd (omega arith)
 begins_long_at (a ∷ b ∷ c ∷ d ∷ ys) long = refl
 
--- whether a run begins at a place, by the four bytes from there on
+-- whether a repeat begins at a place, by the four bytes from there on
 pub begins_long_from : (bytes : List ℕ) (k : ℕ) → k + 3 < length bytes → begins_long (drop k bytes) ≡ (get_or bytes k 0 == get_or bytes (k + 1) 0 && (get_or bytes (k + 1) 0 == get_or bytes (k + 2) 0 && get_or bytes (k + 2) 0 == get_or bytes (k + 3) 0))
 begins_long_from bytes k within =
     let first : get_or (drop k bytes) 0 0 ≡ get_or bytes k 0 = get_or-drop k bytes 0 0 ∙ rw add-zero refl in
     begins_long_at (drop k bytes) (omega (arith, length-drop k bytes)) ∙ rw (first, get_or-drop k bytes 1 0, get_or-drop k bytes 2 0, get_or-drop k bytes 3 0) refl
 
--- bytes that begin no run in a prefix that is longer by three
+-- bytes that begin no repeat in a prefix that is longer by three
 pub no_long_in_front : (bytes : List ℕ) (n : ℕ) → n + 3 ≤ length bytes → HasNoLongBefore n (take (n + 3) bytes) → HasNoLongBefore n bytes
 no_long_in_front bytes n within none k below =
     let front = take (n + 3) bytes in
@@ -232,46 +232,3 @@ none_after n m bytes none after k below = elim (cases_lt k n) [
       let place : n + (k - n) ≡ k = omega arith in
       sym (ap begins_long (drop-drop (k - n) n bytes) ∙ ap (λ (k : ℕ). begins_long (drop k bytes)) place) ∙ after (k - n) (omega arith)
 ]
-
--- no long repeat begins at one place more
-pub none_more : (n : ℕ) (bytes : List ℕ) → HasNoLongBefore n bytes → begins_long (drop n bytes) ≡ false → HasNoLongBefore (n + 1) bytes
-none_more n bytes none next k below = elim (cases_lt k n) [
-  | inl less ↦ none k less
-  | inr ge ↦ let same : k ≡ n = omega arith in ap (λ (k : ℕ). begins_long (drop k bytes)) same ∙ next
-]
-
--- the first four bytes of a long repeat
-pub long_same : (bytes : List ℕ) → begins_long bytes ≡ true → (k : ℕ) → k < 4 → (k < length bytes) × (get_or bytes k 0 ≡ get_or bytes 0 0)
-long_same [] long k below = absurd (false≢true long)
-long_same (a ∷ []) long k below = absurd (false≢true long)
-long_same (a ∷ b ∷ []) long k below = absurd (false≢true long)
-long_same (a ∷ b ∷ c ∷ []) long k below = absurd (false≢true long)
-long_same (a ∷ b ∷ c ∷ d ∷ ys) long zero below = (omega arith, refl)
-long_same (a ∷ b ∷ c ∷ d ∷ ys) long (suc zero) below = (omega arith, (all_equal a b c d long).0)
-long_same (a ∷ b ∷ c ∷ d ∷ ys) long (suc (suc zero)) below = (omega arith, (all_equal a b c d long).1)
-long_same (a ∷ b ∷ c ∷ d ∷ ys) long (suc (suc (suc zero))) below = (omega arith, (all_equal a b c d long).2)
-long_same (a ∷ b ∷ c ∷ d ∷ ys) long (suc (suc (suc (suc k)))) below = absurd (omega arith)
-
--- no long repeat begins at the last three bytes
-pub no_long_at_end : (bytes : List ℕ) (k : ℕ) → length bytes ≤ k + 3 → begins_long (drop k bytes) ≡ false
-no_long_at_end bytes k end = false_from_ne_true (begins_long (drop k bytes)) (λ long. omega (arith, length-drop k bytes, (long_same (drop k bytes) long 3 (omega arith)).0))
-
--- nor among all of them, if at none before the last three
-pub no_long_in_all : (bytes : List ℕ) → HasNoLongBefore (length bytes - 3) bytes → HasNoLongBefore (length bytes) bytes
-no_long_in_all bytes none k below = elim (cases_lt k (length bytes - 3)) [
-  | inl less ↦ none k less
-  | inr ge ↦ no_long_at_end bytes k (omega arith)
-]
-
--- a long repeat that ends among the bytes after its first four
-pub long_count : (bytes few : List ℕ) (n : ℕ) → begins_long bytes ≡ true → IsFrontCount (get_or bytes 0 0) few n → n < length few → ((k : ℕ) → k < length few → (4 + k < length bytes) × (get_or few k 0 ≡ get_or bytes (4 + k) 0)) → IsFirstRepeat bytes (4 + n)
-long_count bytes few n long count ends at =
-    first_repeat bytes (4 + n) (omega (arith, (long_same bytes long 0 (omega arith)).0)) (omega (arith, (at n ends).0)) each (λ more e. count.other ends ((at n ends).1 ∙ e))
-  where
-    each : (k : ℕ) → k < 4 + n → get_or bytes k 0 ≡ get_or bytes 0 0
-    each k below = elim (cases_lt k 4) [
-      | inl less ↦ (long_same bytes long k less).1
-      | inr ge ↦
-          let place : 4 + (k - 4) ≡ k = omega arith in
-          ap (λ (k : ℕ). get_or bytes k 0) (sym place) ∙ sym (at (k - 4) (omega arith)).1 ∙ count.same (k - 4) (omega arith)
-    ]

@@ -1,5 +1,5 @@
 -- What the parts of the reader answer, against the grammar.
-use Rattle.std.specs.Prelude.{◌≡◌, ◌==◌, ◌<◌, ◌≤◌, Bool, true, false, ℕ, ◌+◌, nat_le, List, [], ◌∷◌, ◌++◌, length, replicate, Option, None, Some, option_map, IsSome, IfSome, Result, Ok, Err}
+use Rattle.std.specs.Prelude.{◌≡◌, ◌==◌, ◌<◌, ◌≤◌, Bool, true, false, ℕ, ◌+◌, nat_le, List, [], ◌∷◌, ◌++◌, length, Option, None, Some, option_map, IsSome, IfSome, Result, Ok, Err}
 use Rattle.std.specs.Borrow.{Bor}
 use Rattle.std.specs.List.{flat_map}
 use Rattle.std.specs.Option.{option_copied}
@@ -71,16 +71,3 @@ pub record IsFirstPart (text spelled rest : List ℕ) : Type 0 where
   pub part : List ℕ
   pub bytes : option_map part_bytes (part_of part) ≡ Some spelled
   pub parts : parted 43 text ≡ part ∷ parted 43 rest
-
--- a part of a byte and then `more` times the next one
-abbrev pub IsShortestPart : List ℕ → ℕ → ℕ → ℕ → List ℕ → Type 0
-IsShortestPart text first next more rest = record {
-  part : IsFirstPart text (first ∷ replicate more next) rest;
-  few : more ≤ 8;
-}
-
--- bytes with those of a text's first part after them
-pub record AppendsFirst (before text after rest : List ℕ) : Type 0 where
-  pub spelled : List ℕ
-  pub part : IsFirstPart text spelled rest
-  pub bytes : after ≡ before ++ spelled

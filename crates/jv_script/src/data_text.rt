@@ -1,16 +1,12 @@
 //! Prints DATA, the bytes of a read: `-` for none, or parts joined by `+`.
 ghost use Rattle.std.specs.Prelude.{◌≡◌, ◌<◌, [], ◌∷◌, ◌++◌, false, true, length, IfOk, OnOk};
 ghost use Rattle.jv_model.specs.script.Printed.{data_text, part_text, Repeated};
-ghost use Rattle.jv_script.specs.Printing.{begins_long, joint, PrintsFromAny, PrintsTo};
+ghost use Rattle.jv_script.specs.Printing.{begins_long, joint, PrintsTo};
 
 use crate::hex_text::{hex_pair, push_digits};
-use crate::repeats::{begins_long_repeat, long_repeat_length, plain_length};
+use crate::repeats::{begins_long_repeat, plain_length, repeat_length};
 use jv_slices::push_decimal;
 use std::alloc::AllocError;
-
-/// Plain bytes are printed one by one, the fastest for a few of them. Where a multiple of this is left, the rest of
-/// the plain part is printed at once, the fastest for many.
-const STRIDE: usize = 64;
 
 #[tactic(auto, unfolding(jv_model::specs::script::Printed::data_text))]
 pub(crate) fn push_data(text: &mut Vec<u8>, bytes: &[u8]) -> Result<(), AllocError>
@@ -21,36 +17,22 @@ pub(crate) fn push_data(text: &mut Vec<u8>, bytes: &[u8]) -> Result<(), AllocErr
         return Ok(());
     }
     let mut rest = bytes;
-    // whether the text ends inside a plain part, which more plain bytes would continue
-    let mut is_inside = false;
     while !rest.is_empty() {
-        if begins_long_repeat(rest) {
-            rest = push_long(text, rest, is_inside)?;
-            is_inside = false;
-        } else if rest.len() % STRIDE == 0 {
-            rest = push_plain(text, rest)?;
-            is_inside = false;
+        rest = if begins_long_repeat(rest) {
+            push_long(text, rest)?
         } else {
-            rest = push_byte(text, rest)?;
-            is_inside = true;
-        }
+            push_plain(text, rest)?
+        };
     }
     Ok(())
 }
 
-// Prints the long repeat at the front, with a `+` before it if the text ends inside a plain part, and one after it if there
-// are more bytes. Returns those.
-fn push_long<'a>(
-    text: &mut Vec<u8>,
-    bytes: &'a [u8],
-    is_inside: bool,
-) -> Result<&'a [u8], AllocError>
+// Prints the long repeat at the front, and a `+` if there are more bytes. Returns those.
+fn push_long<'a>(text: &mut Vec<u8>, bytes: &'a [u8]) -> Result<&'a [u8], AllocError>
     requires { begins_long bytes.now ≡ true }
-    ensures { IfOk result (λ rest.
-        PrintsTo text.old.items bytes.now is_inside text.new.items rest.now false) }
+    ensures { IfOk result (λ rest. PrintsTo text.old.items bytes.now text.new.items rest.now) }
 {
-    push_joint(text, is_inside)?;
-    let count = long_repeat_length(bytes);
+    let count = repeat_length(bytes);
     let rest = bytes.split_at(count).1;
     push_repeat(text, bytes[0], count, !rest.is_empty())?;
     Ok(rest)
@@ -60,24 +42,12 @@ fn push_long<'a>(
 fn push_plain<'a>(text: &mut Vec<u8>, bytes: &'a [u8]) -> Result<&'a [u8], AllocError>
     requires some { 0 < length bytes.now }
     requires plain { begins_long bytes.now ≡ false }
-    ensures { IfOk result (λ rest.
-        PrintsFromAny text.old.items bytes.now text.new.items rest.now false) }
+    ensures { IfOk result (λ rest. PrintsTo text.old.items bytes.now text.new.items rest.now) }
 {
     let (plain, rest) = bytes.split_at(plain_length(bytes));
     push_digits(text, plain)?;
     push_joint(text, !rest.is_empty())?;
     Ok(rest)
-}
-
-// Prints the first byte, and leaves its plain part open. Returns the bytes after it.
-fn push_byte<'a>(text: &mut Vec<u8>, bytes: &'a [u8]) -> Result<&'a [u8], AllocError>
-    requires some { 0 < length bytes.now }
-    requires plain { begins_long bytes.now ≡ false }
-    ensures { IfOk result (λ rest.
-        PrintsFromAny text.old.items bytes.now text.new.items rest.now true) }
-{
-    text.extend_from_slice(&hex_pair(bytes[0]))?;
-    Ok(bytes.split_at(1).1)
 }
 
 fn push_joint(text: &mut Vec<u8>, is_wanted: bool) -> Result<(), AllocError>

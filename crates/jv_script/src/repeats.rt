@@ -1,69 +1,26 @@
 //! Repeats, which are equal bytes in a row. A long one has four bytes or more, and is printed as a part of its own.
-ghost use Rattle.std.specs.Prelude.{◌≡◌, ◌+◌, ◌<◌, ◌≤◌, ◌-◌, false, true, length};
+ghost use Rattle.std.specs.Prelude.{◌≡◌, ◌<◌, ◌≤◌, ◌-◌, false, true, length};
 ghost use Rattle.jv_script.specs.declared.repeats.TheConstants.{BLOCK, BEYOND};
-ghost use Rattle.jv_script.specs.Printing.{begins_long, HasNoLongBefore, IsFirstRepeat, IsFrontCount, IsPlainFront};
+ghost use Rattle.jv_script.specs.Printing.{begins_long, HasNoLongBefore, IsFirstRepeat, IsPlainFront};
 
 /// The bytes that are tested together for a long repeat.
 const BLOCK: usize = 64;
 
-/// Half the places of a block.
-const HALF: usize = 32;
-
-/// The bytes of the shortest long repeat.
-const LONG: usize = 4;
-
-/// With this many bytes beyond those a count has two digits.
-const FEW_MORE: usize = 6;
-
 /// The bytes after its first that make a repeat a long one.
 const BEYOND: usize = 3;
 
-/// Whether a long repeat begins at the first byte. Counts the equal neighbours: `&&` or `&` would become a branch each, and
-/// the processor can't guess where short repeats end.
+/// Whether a long repeat begins at the first byte.
 pub(crate) fn begins_long_repeat(bytes: &[u8]) -> bool
     ensures { result ≡ begins_long bytes.now }
 {
     match bytes {
-        [a, b, c, d, ..] => (*a == *b) as u8 + (*b == *c) as u8 + (*c == *d) as u8 == 3,
+        [a, b, c, d, ..] => *a == *b && *b == *c && *c == *d,
         _ => false,
     }
 }
 
-/// The bytes of the long repeat that begins at the first byte. Four are tested first: where most repeats have four, the
-/// processor goes on before it has counted.
-pub(crate) fn long_repeat_length(bytes: &[u8]) -> usize
-    requires { begins_long bytes.now ≡ true }
-    ensures { IsFirstRepeat bytes.now result }
-{
-    if bytes.len() > LONG && bytes[LONG] != bytes[0] {
-        return LONG;
-    }
-    let (_, next) = bytes.split_at(LONG);
-    if next.len() >= FEW_MORE {
-        let more = front_count(bytes[0], next.split_at(FEW_MORE).0);
-        if more < FEW_MORE {
-            return LONG + more;
-        }
-    }
-    repeat_length(bytes)
-}
-
-// How many bytes at the front are this one. Looks at every byte, since leaving the loop would be a branch that the
-// processor can't guess.
-fn front_count(byte: u8, bytes: &[u8]) -> usize
-    ensures { IsFrontCount byte bytes.now result }
-{
-    let mut same = true;
-    let mut count = 0;
-    for next in bytes {
-        same &= *next == byte;
-        count += same as usize;
-    }
-    count
-}
-
-// The bytes of the repeat that begins at the first byte.
-fn repeat_length(bytes: &[u8]) -> usize
+/// The bytes of the repeat that begins at the first byte.
+pub(crate) fn repeat_length(bytes: &[u8]) -> usize
     requires { 0 < length bytes.now }
     ensures { IsFirstRepeat bytes.now result }
 {
@@ -93,8 +50,7 @@ pub(crate) fn plain_length(bytes: &[u8]) -> usize
     bytes.len()
 }
 
-// How many of the bytes from a place on are known to be plain by one test: a block at each 64th place, all of the last few
-// there or at the first place, or one byte.
+// How many of the bytes from a place on are known to be plain by one test: a block at each 64th place, or one byte.
 fn plain_step(place: usize, bytes: &[u8]) -> usize
     requires some { 0 < length bytes.now }
     requires plain { begins_long bytes.now ≡ false }
@@ -102,21 +58,11 @@ fn plain_step(place: usize, bytes: &[u8]) -> usize
     ensures within { result ≤ length bytes.now }
     ensures plain { HasNoLongBefore result bytes.now }
 {
-    let is_next_block = place % BLOCK == BLOCK - 1;
-    if is_next_block && is_plain_block(bytes) {
+    if place % BLOCK == BLOCK - 1 && is_plain_block(bytes) {
         BLOCK
-    } else if (is_next_block || place == 1) && is_plain_end(bytes) {
-        bytes.len()
     } else {
         1
     }
-}
-
-// Whether these are so few bytes that one test goes over all, and no long repeat begins among them.
-fn is_plain_end(bytes: &[u8]) -> bool
-    ensures { result ≡ true → HasNoLongBefore (length bytes.now) bytes.now }
-{
-    bytes.len() <= BLOCK + BEYOND && !end_may_have_long_repeat(bytes)
 }
 
 // Whether no long repeat begins in the block at the front, and there are bytes after it.
@@ -129,20 +75,6 @@ fn is_plain_block(bytes: &[u8]) -> bool
     }
     let (seen, _) = bytes.split_at(BLOCK + BEYOND);
     !may_have_long_repeat(seen)
-}
-
-// As `may_have_long_repeat`, where the compiler doesn't know the length and would test up to 31 places one by one. Tests two
-// halves of a known length, the first bytes and the last ones, which overlap where there are fewer.
-fn end_may_have_long_repeat(bytes: &[u8]) -> bool
-    requires { length bytes.now ≤ BLOCK + BEYOND }
-    ensures { result ≡ false → HasNoLongBefore (length bytes.now - BEYOND) bytes.now }
-{
-    if bytes.len() < HALF + BEYOND {
-        return may_have_long_repeat(bytes);
-    }
-    let (first, _) = bytes.split_at(HALF + BEYOND);
-    let (_, last) = bytes.split_at(bytes.len() - (HALF + BEYOND));
-    may_have_long_repeat(first) | may_have_long_repeat(last)
 }
 
 // False only where no four bytes side by side are equal. Tests each four: the compiler then takes many at a time.

@@ -1,17 +1,17 @@
 use Rattle.std.proofs.Common.{arith, get_or}
 use Rattle.jv_script.proofs.RepeatLaws.{long_part, long_first}
-use Rattle.jv_script.proofs.DataTextLaws.{long_printed}
+use Rattle.jv_script.proofs.DataTextLaws.{part_printed}
+use Rattle.jv_model.specs.script.Printed.{Repeated}
 use Rattle.jv_script.proofs.data_text.push_long.Goals as goal
 
 pub returns : goal.returns
 returns c =
     let bytes = c.args.bytes.now in
-    let rest = c.split_at.result.1.now in
-    let n = c.long_repeat_length-count.result in
-    let repeat = c.long_repeat_length-count.ensures in
+    let n = c.repeat_length-count.result in
+    let repeat = c.repeat_length-count.ensures in
     record {
-      text = long_printed c.args.text.now.items c.push_joint.new.text.items c.push_repeat.new.text.items bytes rest (record { byte = get_or bytes 0 0; count = n }) c.args.is_inside
-          c.in_ok-push_joint.ensures (rw c.is_empty.ensures at c.in_ok-push_repeat.ensures)
+      text = part_printed c.args.text.now.items c.push_repeat.new.text.items bytes c.split_at.result.1.now (Repeated (record { byte = get_or bytes 0 0; count = n }))
+          (rw c.is_empty.ensures at c.in_ok-push_repeat.ensures)
           (rw c.split_at.ensures.back (long_part bytes n repeat (long_first bytes n c.requires repeat)));
       fewer = omega (arith, repeat.some, repeat.within, c.split_at.ensures.back_len);
     }

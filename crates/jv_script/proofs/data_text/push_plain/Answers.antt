@@ -1,13 +1,20 @@
-use Rattle.std.proofs.Common.{arith}
-use Rattle.jv_script.proofs.DataTextLaws.{plain_printed}
+use Rattle.std.proofs.Common.{arith, List, ℕ, ◌++◌, length, not, ◌==◌, ap, ◌∙◌}
+use Rattle.jv_model.specs.script.Printed.{Plain}
+use Rattle.jv_script.specs.Printing.{joint}
+use Rattle.jv_script.proofs.DataTextLaws.{part_printed}
 use Rattle.jv_script.proofs.data_text.push_plain.Goals as goal
 
 pub returns : goal.returns
-returns c = λ was.
+returns c =
     let front = c.plain_length.ensures in
+    let old = c.args.text.now.items in
+    let plain = c.split_at.result.0.now in
+    let rest = c.split_at.result.1.now in
+    let after = joint (not (length rest == 0)) in
+    let closed = rw c.is_empty.ensures at c.in_ok-push_joint.ensures in
     record {
-      text = plain_printed c.args.text.now.items c.push_digits.new.text.items c.push_joint.new.text.items c.args.bytes.now c.split_at.result.0.now c.split_at.result.1.now
-          c.in_ok-push_digits.ensures (rw c.is_empty.ensures at c.in_ok-push_joint.ensures)
-          (rw (c.split_at.ensures.front, c.split_at.ensures.back) front.parts) was;
+      text = part_printed old c.push_joint.new.text.items c.args.bytes.now rest (Plain plain)
+          (closed ∙ ap (λ (text : List ℕ). text ++ after) c.in_ok-push_digits.ensures)
+          (rw (c.split_at.ensures.front, c.split_at.ensures.back) front.parts);
       fewer = omega (arith, front.some, front.within, c.split_at.ensures.back_len);
     }

@@ -3,8 +3,8 @@ use Rattle.jv_script.specs.Reading.{Leaves}
 use Rattle.jv_script.proofs.short_parts.push_short_parts.Given as goal
 use Rattle.jv_model.specs.Lists.{parted}
 
-abbrev pub invariant-loop-parts : goal.invariant-loop-parts
-invariant-loop-parts l = Leaves l.initial.bytes.items l.text l.bytes.items l.rest
+abbrev pub invariant-loop-byte : goal.invariant-loop-byte
+invariant-loop-byte l = Leaves l.initial.bytes.items l.text l.bytes.items l.rest
 
-abbrev pub decreases-loop-parts : goal.decreases-loop-parts
-decreases-loop-parts l = length (parted 43 l.rest)
+abbrev pub decreases-loop-byte : goal.decreases-loop-byte
+decreases-loop-byte l = length (parted 43 l.rest)
