@@ -29,13 +29,13 @@ module _ (P : BlockId → Type 0) (block : ℕ) (f : Flight) (each : EachPut P b
     | inr late ↦ subst (λ n. P (flight_block block f n)) (omega (arith, low, late)) next
   ]
 
-  -- and of all blocks of a whole flight
+  -- and of all blocks of a complete flight
   pub put-complete : IsComplete block f → EachOfSlice P block f.id (length f.bytes)
   put-complete complete index low = each index (omega (arith, complete, low))
 
 module _ (block : ℕ) (rows : Rows) (blocks : Blocks) (f : Flight) (flies : InFlight block rows blocks f) where
   module _ (complete : IsComplete block f) (some : 0 < block) where
-    -- all blocks of a whole flight have its bytes
+    -- all blocks of a complete flight have its bytes
     pub complete-known : (k : ℕ) → k < length f.bytes → known_by block blocks f.id (length f.bytes) k ≡ slice_index f.bytes k
     complete-known k low =
         ap (λ o. slice_index (unwrap_or o []) (k % block)) (flies.those (k / block) put)

@@ -67,8 +67,8 @@ pub record LooksFor (need : Need) (before after : Cached) : Type 0 where
   pub last : LooksLast need before middle after
 
 -- The look-ups of a reading that goes on to a need. Of the blocks that it had ahead, those were
--- found that it hasn't ahead any more, each in its turn; and then the block that is needed was
--- looked up.
+-- found that it hasn't ahead any more, in their order; and then the block that is needed was looked
+-- up.
 pub record Asks (ahead left : List BlockId) (need : Need) (before after : Cached) : Type 0 where
   pub looks : LooksFor need before after
   pub are : looks.finds.blocks ++ left ≡ ahead

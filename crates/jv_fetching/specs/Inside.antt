@@ -123,7 +123,7 @@ pub record HasFilled (cache : Cached) (b : BlockId) (before after : Part) : Type
   pub long : length bytes ≡ b.size
   pub fills : FillsOne bytes before after
 
--- blocks that the cache has are filled in, each looked up once and in its turn
+-- blocks that the cache has are filled in, each looked up once and in their order
 pub record Fills (cache later : Cached) (before after : Part) : Type 0 where
   pub further : IsFurther before after
   pub finds : FindsAll cache later

@@ -81,9 +81,9 @@ impl Fetch {
     }
 
     /// Goes on as far as views and cached blocks reach, and returns what it needs then: a look at the window of the
-    /// next part, a block that the cache lacks, or nothing. Each block on the way is looked up once and in its turn, a
-    /// hit or, at the last, a miss; bytes of another length than the block's aren't it. Out of memory, the reading is
-    /// over.
+    /// next part, a block that the cache lacks, or nothing. Each block on the way is looked up once, in the order of the
+    /// bytes, a hit or, at the last, a miss; bytes of another length than the block's aren't it. Out of memory, the
+    /// reading is over.
     pub fn advance(&mut self, views: &Views, cache: &mut BlockCache) -> Result<Need, AllocError>
         ensures block { self.new.block ≡ self.old.block }
         ensures wants { IfOk result (Wants views.now self.new) }

@@ -25,7 +25,7 @@ use Rattle.jv_rows.specs.Scans.{ScansRows}
 use Rattle.jv_rows.proofs.NextRowLaws.{not_behind, first_where-least, passes, IsRead, ReadsOne, NoRow, OneRow, reads-one, tab_of}
 use Rattle.jv_rows.proofs.ScannedLaws.{number-rises}
 
--- How the keys of a table spell numbers: in so many bytes, which rise with the numbers.
+-- How the keys of a table spell numbers: in bytes that rise with the numbers.
 pub record NumberedTable : Type 0 where
   pub tab : ℕ
   pub width : ℕ

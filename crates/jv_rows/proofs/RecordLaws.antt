@@ -49,7 +49,7 @@ five_pieces out a b c d e = simp append_assoc
 
 -- ---- too few bytes
 
--- a number in front leaves so many bytes, of which nothing more can be read
+-- nothing is read where nothing can be read of the bytes that a number in front leaves
 short_number : {B : Type 0} (w : Width) (bytes : List ℕ) (next : ℕ × List ℕ → Option B)
     → ((x : ℕ × List ℕ) → length x.1 + byte_len w ≡ length bytes → next x ≡ None) → (number_at w bytes >>= next) ≡ None
 short_number {B} w bytes next none = by_reading (number_at w bytes) refl

@@ -12,7 +12,7 @@ use Rattle.jv_model.specs.declared.row.RowKey.{RowKey}
 use Rattle.jv_model.specs.rows.RowGrammar.{row_of, edge_of}
 use Rattle.jv_model.specs.rows.RowKeys.{RowMap}
 use Rattle.jv_model.specs.rows.RowPlaces.{edge_key}
-use Rattle.jv_model.proofs.TestLaws.{if_some-by, of_known}
+use Rattle.jv_model.proofs.TestLaws.{if_some-by, of_known, same_Ok}
 use Rattle.jv_outside.specs.Rows.{rows_after}
 use Rattle.jv_outside.specs.Store.{Store}
 use Rattle.jv_rows.specs.Scans.{row_then, rows_read, ScansRows}
@@ -43,9 +43,6 @@ last_some r (x ∷ rows) = last_some x rows
 
 -- ---- rows that were read
 
-same_ok : {A E : Type 0} (x y : A) → ◌≡◌ {A = Result A E} (Ok x) (Ok y) → x ≡ y
-same_ok x y e = cc
-
 record FirstRead (key : RowKey) (o : Option Row) (others : Result (List (RowKey × Row)) (RowKey × List ℕ)) (list : List (RowKey × Row)) : Type 0 where
   row : Row
   rest : List (RowKey × Row)
@@ -58,7 +55,7 @@ read_first : (key : RowKey) (bytes : List ℕ) (o : Option Row) (others : Result
     → FirstRead key o others list
 read_first key bytes None others list e = absurd (true≢false (sym (ap is_ok e)))
 read_first key bytes (Some row) (Ok rest) list e =
-    record { row = row; rest = rest; is = refl; others_are = refl; list_is = sym (same_ok ((key, row) ∷ rest) list e) }
+    record { row = row; rest = rest; is = refl; others_are = refl; list_is = sym (same_Ok ((key, row) ∷ rest) list e) }
 read_first key bytes (Some row) (Err off) list e = absurd (true≢false (sym (ap is_ok e)))
 
 record EdgeRead (bytes : List ℕ) (row : Row) : Type 0 where
@@ -75,7 +72,7 @@ edge_is : (key : RowKey) (bytes : List ℕ) (row : Row) → key.tab ≡ TABLE_OF
 edge_is key bytes row tab is = edge_by bytes row (edge_of bytes) refl (sym (edge_row bytes) ∙ ap (λ (t : ℕ). row_of t bytes) (sym tab) ∙ is)
 
 last-read : (k : RowKey) (rows : List (RowKey × List ℕ)) (list : List (RowKey × Row)) → rows_read rows ≡ Ok list → last_or k list ≡ last_or k rows
-last-read k [] list read = sym (ap (last_or k) (same_ok [] list read))
+last-read k [] list read = sym (ap (last_or k) (same_Ok [] list read))
 last-read k (r ∷ rows) list read =
     let f = read_first r.0 r.1 (row_of r.0.tab r.1) (rows_read rows) list read in
     ap (last_or k) f.list_is ∙ last-read r.0 rows f.rest f.others_are
@@ -105,8 +102,8 @@ from_first dir r rows edge tab spelled d is_dir =
 all-page : (dir : ℕ) (k : RowKey) (rows : List (RowKey × List ℕ)) (n : ℕ) (list : List (RowKey × Row)) → Chain k rows → rows_read (take n rows) ≡ Ok list
     → all_within dir list ≡ true
     → entries_from dir rows ≡ entries_within dir list ++ entries_from dir (drop n rows)
-all-page dir k rows zero list c read all = ap (λ (l : List (RowKey × Row)). entries_within dir l ++ entries_from dir rows) (same_ok [] list read)
-all-page dir k [] (suc n) list c read all = ap (λ (l : List (RowKey × Row)). entries_within dir l ++ []) (same_ok [] list read)
+all-page dir k rows zero list c read all = ap (λ (l : List (RowKey × Row)). entries_within dir l ++ entries_from dir rows) (same_Ok [] list read)
+all-page dir k [] (suc n) list c read all = ap (λ (l : List (RowKey × Row)). entries_within dir l ++ []) (same_Ok [] list read)
 all-page dir k (r ∷ rows) (suc n) list c read all =
     let f = read_first r.0 r.1 (row_of r.0.tab r.1) (rows_read (take n rows)) list read in
     let e = edge_is r.0 r.1 f.row c.0.table f.is in
@@ -156,8 +153,8 @@ ends_at dir k r rows row rest c tab low e other more false is =
 page-ends : (dir : ℕ) (k : RowKey) (rows : List (RowKey × List ℕ)) (n : ℕ) (list : List (RowKey × Row)) → Chain k rows → k.tab ≡ TABLE_OF_EDGES → dir ≤ k.a
     → rows_read (take n rows) ≡ Ok list
     → all_within dir list ≡ false → entries_from dir rows ≡ entries_within dir list
-page-ends dir k rows zero list c tab low read other = absurd (true≢false (ap (all_within dir) (same_ok [] list read) ∙ other))
-page-ends dir k [] (suc n) list c tab low read other = absurd (true≢false (ap (all_within dir) (same_ok [] list read) ∙ other))
+page-ends dir k rows zero list c tab low read other = absurd (true≢false (ap (all_within dir) (same_Ok [] list read) ∙ other))
+page-ends dir k [] (suc n) list c tab low read other = absurd (true≢false (ap (all_within dir) (same_Ok [] list read) ∙ other))
 page-ends dir k (r ∷ rows) (suc n) list c tab low read other =
     let f = read_first r.0 r.1 (row_of r.0.tab r.1) (rows_read (take n rows)) list read in
     ends_at dir k r rows f.row f.rest c tab low (edge_is r.0 r.1 f.row c.0.table f.is) (sym (ap (all_within dir) f.list_is) ∙ other)
@@ -168,7 +165,7 @@ page-ends dir k (r ∷ rows) (suc n) list c tab low read other =
 page-none : (dir : ℕ) (rows : List (RowKey × List ℕ)) (n : ℕ) (list : List (RowKey × Row)) → 0 < n → rows_read (take n rows) ≡ Ok list → last_of list ≡ None
     → entries_from dir rows ≡ entries_within dir list
 page-none dir rows zero list some read last = absurd (omega (arith, some))
-page-none dir [] (suc n) list some read last = ap (entries_within dir) (same_ok [] list read)
+page-none dir [] (suc n) list some read last = ap (entries_within dir) (same_Ok [] list read)
 page-none dir (r ∷ rows) (suc n) list some read last =
     let f = read_first r.0 r.1 (row_of r.0.tab r.1) (rows_read (take n rows)) list read in
     absurd (true≢false (sym (last_some (r.0, f.row) f.rest) ∙ ap is_some (sym (ap last_of f.list_is) ∙ last)))
@@ -305,7 +302,7 @@ pub first-of-page : (dir : ℕ) (rows : List (RowKey × List ℕ)) (key : RowKey
     → rows_read (take 1 rows) ≡ Ok ((key, row) ∷ rest)
     → has_some (entries_from dir rows) ≡ (key.a == dir)
 unfolding first_key
-first-of-page dir [] key row rest c read = absurd (true≢false (sym (last_some (key, row) rest) ∙ ap (λ (l : List (RowKey × Row)). is_some (last_of l)) (sym (same_ok [] ((key, row) ∷ rest) read))))
+first-of-page dir [] key row rest c read = absurd (true≢false (sym (last_some (key, row) rest) ∙ ap (λ (l : List (RowKey × Row)). is_some (last_of l)) (sym (same_Ok [] ((key, row) ∷ rest) read))))
 first-of-page dir (r ∷ rows) key row rest c read =
     let f = read_first r.0 r.1 (row_of r.0.tab r.1) (rows_read (take 0 rows)) ((key, row) ∷ rest) read in
     let e = edge_is r.0 r.1 f.row c.0.table f.is in

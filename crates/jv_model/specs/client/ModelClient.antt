@@ -83,7 +83,8 @@ pub record ModelClient : Type 0 where
   pub session : Option ℕ
   pub writeback : Bool
   pub handles : List (Option OpenFile)
-  pub sustained : List ℕ  -- inodes that an unlink or a rename of this mount took the last entry of, while they were open
+  -- inodes that an unlink or a rename of this mount took the last entry of, while they were open
+  pub sustained : List ℕ
   pub views : List View  -- the latest first
   pub pending : List PendingByte
   pub doing : Option Doing

@@ -18,19 +18,19 @@ hex_digit n = slice_index (codes "0123456789abcdef") n
 abbrev pub hex_pair : ℕ → List ℕ
 hex_pair byte = hex_digit (byte / 16) ∷ hex_digit (byte % 16) ∷ []
 
--- a maximal run of equal bytes
+-- equal bytes in a row, as many as there are
 pub record ByteRepeat : Type 0 where
   pub byte : ℕ
   pub count : ℕ
 
--- the runs after one more byte in front
+-- the repeats after one more byte in front
 abbrev pub with_byte : ℕ → List ByteRepeat → List ByteRepeat
 with_byte byte [] = record { byte = byte; count = 1 } ∷ []
-with_byte byte (run ∷ runs) = (if byte == run.byte
-    then record { byte = byte; count = run.count + 1 } ∷ runs
-    else record { byte = byte; count = 1 } ∷ run ∷ runs)
+with_byte byte (repeat ∷ repeats) = (if byte == repeat.byte
+    then record { byte = byte; count = repeat.count + 1 } ∷ repeats
+    else record { byte = byte; count = 1 } ∷ repeat ∷ repeats)
 
--- bytes as their maximal runs
+-- bytes as their repeats
 abbrev pub repeats_of : List ℕ → List ByteRepeat
 repeats_of [] = []
 repeats_of (byte ∷ bytes) = with_byte byte (repeats_of bytes)
@@ -40,23 +40,23 @@ pub data DataPart : Type 0 where
   Plain : List ℕ → DataPart
   Repeated : ByteRepeat → DataPart
 
--- the parts after one more short run in front, which goes into a plain part that is first
+-- the parts after one more short repeat in front, which goes into a plain part that is first
 abbrev pub with_short : List ℕ → List DataPart → List DataPart
 with_short bytes [] = Plain bytes ∷ []
 with_short bytes (Plain more ∷ parts) = Plain (bytes ++ more) ∷ parts
-with_short bytes (Repeated run ∷ parts) = Plain bytes ∷ Repeated run ∷ parts
+with_short bytes (Repeated repeat ∷ parts) = Plain bytes ∷ Repeated repeat ∷ parts
 
--- a run of four or more is a part of its own, and shorter ones that stand side by side are one part
+-- a repeat of four or more is a part of its own, and shorter ones that stand side by side are one part
 abbrev pub parts_of : List ByteRepeat → List DataPart
 parts_of [] = []
-parts_of (run ∷ runs) = (if nat_le 4 run.count
-    then Repeated run ∷ parts_of runs
-    else with_short (replicate run.count run.byte) (parts_of runs))
+parts_of (repeat ∷ repeats) = (if nat_le 4 repeat.count
+    then Repeated repeat ∷ parts_of repeats
+    else with_short (replicate repeat.count repeat.byte) (parts_of repeats))
 
 -- digits, or `HHxN`
 abbrev pub part_text : DataPart → List ℕ
 part_text (Plain bytes) = flat_map hex_pair bytes
-part_text (Repeated run) = hex_pair run.byte ++ 120 ∷ decimal run.count
+part_text (Repeated repeat) = hex_pair repeat.byte ++ 120 ∷ decimal repeat.count
 
 -- bytes as DATA: `-` for none, else the parts joined by `+`
 unfoldable pub data_text : List ℕ → List ℕ
