@@ -5,7 +5,7 @@ use Rattle.std.proofs.lemmas.Bool.{eq-eqb, eqb-true, ne_eqb, le-leb, lt-leb, cas
 use Rattle.std.proofs.lemmas.List.{append-nil, append_assoc, take-append-drop, length-take, length-take-le, length-drop, length-replicate, get_or-take, get_or-drop, get_or-replicate, drop-drop}
 use Rattle.std.proofs.lemmas.Grind.{same_number_lists}
 use Rattle.jv_model.specs.script.Printed.{ByteRepeat, with_byte, repeats_of, DataPart, Plain, Repeated, with_short, parts_of, part_text, data_text}
-use Rattle.jv_script.specs.Printing.{IsFirstRepeat, begins_long, HasNoLongBefore}
+use Rattle.jv_script.specs.Printing.{IsFirstRepeat, IsFrontCount, begins_long, HasNoLongBefore}
 
 -- one more byte in front makes a repeat of that byte the first
 pub with_byte-first : (byte : ℕ) (runs : List ByteRepeat) → (count : ℕ) × (more : List ByteRepeat) × (1 ≤ count) × (with_byte byte runs ≡ record { byte = byte; count = count } ∷ more)
@@ -232,3 +232,28 @@ none_after n m bytes none after k below = elim (cases_lt k n) [
       let place : n + (k - n) ≡ k = omega arith in
       sym (ap begins_long (drop-drop (k - n) n bytes) ∙ ap (λ (k : ℕ). begins_long (drop k bytes)) place) ∙ after (k - n) (omega arith)
 ]
+
+-- the first four bytes of a long repeat
+long_same : (bytes : List ℕ) → begins_long bytes ≡ true → (k : ℕ) → k < 4 → (k < length bytes) × (get_or bytes k 0 ≡ get_or bytes 0 0)
+long_same [] long k below = absurd (false≢true long)
+long_same (a ∷ []) long k below = absurd (false≢true long)
+long_same (a ∷ b ∷ []) long k below = absurd (false≢true long)
+long_same (a ∷ b ∷ c ∷ []) long k below = absurd (false≢true long)
+long_same (a ∷ b ∷ c ∷ d ∷ ys) long zero below = (omega arith, refl)
+long_same (a ∷ b ∷ c ∷ d ∷ ys) long (suc zero) below = (omega arith, (all_equal a b c d long).0)
+long_same (a ∷ b ∷ c ∷ d ∷ ys) long (suc (suc zero)) below = (omega arith, (all_equal a b c d long).1)
+long_same (a ∷ b ∷ c ∷ d ∷ ys) long (suc (suc (suc zero))) below = (omega arith, (all_equal a b c d long).2)
+long_same (a ∷ b ∷ c ∷ d ∷ ys) long (suc (suc (suc (suc k)))) below = absurd (omega arith)
+
+-- a long repeat that ends among the bytes after its first four
+pub long_count : (bytes few : List ℕ) (n : ℕ) → begins_long bytes ≡ true → IsFrontCount (get_or bytes 0 0) few n → n < length few → ((k : ℕ) → k < length few → (4 + k < length bytes) × (get_or few k 0 ≡ get_or bytes (4 + k) 0)) → IsFirstRepeat bytes (4 + n)
+long_count bytes few n long count ends at =
+    first_repeat bytes (4 + n) (omega (arith, (long_same bytes long 0 (omega arith)).0)) (omega (arith, (at n ends).0)) each (λ more e. count.other ends ((at n ends).1 ∙ e))
+  where
+    each : (k : ℕ) → k < 4 + n → get_or bytes k 0 ≡ get_or bytes 0 0
+    each k below = elim (cases_lt k 4) [
+      | inl less ↦ (long_same bytes long k less).1
+      | inr ge ↦
+          let place : 4 + (k - 4) ≡ k = omega arith in
+          ap (λ (k : ℕ). get_or bytes k 0) (sym place) ∙ sym (at (k - 4) (omega arith)).1 ∙ count.same (k - 4) (omega arith)
+    ]

@@ -1,5 +1,5 @@
 -- How bytes are cut into the parts that are printed, and which answers are numbers.
-use Rattle.std.specs.Prelude.{Bool, true, false, ◌&&◌, ◌==◌, ◌≡◌, ℕ, ◌<◌, ◌≤◌, List, [], ◌∷◌, ◌++◌, length, map, take, drop, replicate, slice_index}
+use Rattle.std.specs.Prelude.{Bool, true, false, ◌&&◌, ◌==◌, ◌≡◌, ◌≢◌, ℕ, ◌<◌, ◌≤◌, List, [], ◌∷◌, ◌++◌, length, map, take, drop, replicate, slice_index}
 use Rattle.std.specs.List.{join_with_byte}
 use Rattle.jv_model.specs.declared.op.Reply.{Reply}
 use Rattle.jv_model.specs.declared.op.Reply.TheVariants as reply
@@ -12,6 +12,12 @@ pub record IsFirstRepeat (bytes : List ℕ) (n : ℕ) : Type 0 where
   pub same : take n bytes ≡ replicate n (slice_index bytes 0)
   pub repeats : repeats_of bytes ≡ record { byte = slice_index bytes 0; count = n } ∷ repeats_of
       (drop n bytes)
+
+-- the first n bytes are this one, and the next one, if any, is another
+pub record IsFrontCount (byte : ℕ) (bytes : List ℕ) (n : ℕ) : Type 0 where
+  pub within : n ≤ length bytes
+  pub same : (k : ℕ) → k < n → slice_index bytes k ≡ byte
+  pub other : n < length bytes → slice_index bytes n ≢ byte
 
 -- the first four bytes are equal: a long repeat begins there
 abbrev pub begins_long : List ℕ → Bool
@@ -41,7 +47,7 @@ joined parts = join_with_byte 43 (map part_text parts)
 abbrev pub rest_text : List ℕ → List ℕ
 rest_text bytes = joined (parts_of (repeats_of bytes))
 
--- the bytes before the rest were appended to a text, which is between parts
+-- the bytes before the rest were appended to what is printed, which is between parts
 pub record PrintsTo (old bytes new rest : List ℕ) : Type 0 where
   pub text : new ++ rest_text rest ≡ old ++ rest_text bytes
   pub fewer : length rest < length bytes

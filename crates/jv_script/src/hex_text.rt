@@ -5,31 +5,8 @@ ghost use Rattle.jv_model.specs.script.Printed.{hex_digit, hex_pair};
 
 use std::alloc::AllocError;
 
-/// The greatest number of bytes that are printed faster one by one.
-const FEW_BYTES: usize = 8;
-
-/// Prints bytes.
+/// Prints bytes, many digits at a time.
 pub(crate) fn push_digits(text: &mut Vec<u8>, bytes: &[u8]) -> Result<(), AllocError>
-    ensures { OnOk result (text.new.items ≡ text.old.items ++ flat_map hex_pair bytes.now) }
-{
-    if bytes.len() <= FEW_BYTES {
-        push_pairs(text, bytes)
-    } else {
-        push_all_digits(text, bytes)
-    }
-}
-
-fn push_pairs(text: &mut Vec<u8>, bytes: &[u8]) -> Result<(), AllocError>
-    ensures { OnOk result (text.new.items ≡ text.old.items ++ flat_map hex_pair bytes.now) }
-{
-    for byte in bytes {
-        text.extend_from_slice(&hex_pair(*byte))?;
-    }
-    Ok(())
-}
-
-// Prints bytes, many digits at a time.
-fn push_all_digits(text: &mut Vec<u8>, bytes: &[u8]) -> Result<(), AllocError>
     ensures { OnOk result (text.new.items ≡ text.old.items ++ flat_map hex_pair bytes.now) }
 {
     let start = text.len();

@@ -1,26 +1,62 @@
 //! Repeats, which are equal bytes in a row. A long one has four bytes or more, and is printed as a part of its own.
 ghost use Rattle.std.specs.Prelude.{◌≡◌, ◌<◌, ◌≤◌, ◌-◌, false, true, length};
 ghost use Rattle.jv_script.specs.declared.repeats.TheConstants.{BLOCK, BEYOND};
-ghost use Rattle.jv_script.specs.Printing.{begins_long, HasNoLongBefore, IsFirstRepeat, IsPlainFront};
+ghost use Rattle.jv_script.specs.Printing.{begins_long, HasNoLongBefore, IsFirstRepeat, IsFrontCount, IsPlainFront};
 
 /// The bytes that are tested together for a long repeat.
 const BLOCK: usize = 64;
 
+/// The bytes of the shortest long repeat.
+const LONG: usize = 4;
+
+/// With this many bytes beyond those a count has two digits.
+const FEW_MORE: usize = 6;
+
 /// The bytes after its first that make a repeat a long one.
 const BEYOND: usize = 3;
 
-/// Whether a long repeat begins at the first byte.
+/// Whether a long repeat begins at the first byte. Counts the equal neighbours: `&&` would become a branch each, and the
+/// processor can't guess where short repeats end.
 pub(crate) fn begins_long_repeat(bytes: &[u8]) -> bool
     ensures { result ≡ begins_long bytes.now }
 {
     match bytes {
-        [a, b, c, d, ..] => *a == *b && *b == *c && *c == *d,
+        [a, b, c, d, ..] => (*a == *b) as u8 + (*b == *c) as u8 + (*c == *d) as u8 == 3,
         _ => false,
     }
 }
 
-/// The bytes of the repeat that begins at the first byte.
-pub(crate) fn repeat_length(bytes: &[u8]) -> usize
+/// The bytes of the long repeat that begins at the first byte.
+pub(crate) fn long_repeat_length(bytes: &[u8]) -> usize
+    requires { begins_long bytes.now ≡ true }
+    ensures { IsFirstRepeat bytes.now result }
+{
+    let (_, next) = bytes.split_at(LONG);
+    if next.len() >= FEW_MORE {
+        let more = front_count(bytes[0], next.split_at(FEW_MORE).0);
+        if more < FEW_MORE {
+            return LONG + more;
+        }
+    }
+    repeat_length(bytes)
+}
+
+// How many bytes at the front are this one. Looks at every byte, since leaving the loop would be a branch that the
+// processor can't guess.
+fn front_count(byte: u8, bytes: &[u8]) -> usize
+    ensures { IsFrontCount byte bytes.now result }
+{
+    let mut same = true;
+    let mut count = 0;
+    for next in bytes {
+        same &= *next == byte;
+        count += same as usize;
+    }
+    count
+}
+
+// The bytes of the repeat that begins at the first byte.
+fn repeat_length(bytes: &[u8]) -> usize
     requires { 0 < length bytes.now }
     ensures { IsFirstRepeat bytes.now result }
 {

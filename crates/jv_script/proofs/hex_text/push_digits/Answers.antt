@@ -2,7 +2,7 @@ use Rattle.std.proofs.Common.{◌≡◌, List, ℕ, ◌-◌, ◌+◌, ◌*◌, r
 use Rattle.std.proofs.lemmas.List.{take_all, length-replicate}
 use Rattle.std.proofs.lemmas.Grind.{common_steps}
 use Rattle.jv_script.proofs.HexTextLaws.{pairs_len, tail_written}
-use Rattle.jv_script.proofs.hex_text.push_all_digits.Goals as goal
+use Rattle.jv_script.proofs.hex_text.push_digits.Goals as goal
 
 pub returns : goal.returns
 returns c =

@@ -1,7 +1,0 @@
-use Rattle.std.proofs.Common.{◌≡◌, ◌++◌, take}
-use Rattle.std.specs.List.{flat_map}
-use Rattle.jv_model.specs.script.Printed.{hex_pair}
-use Rattle.jv_script.proofs.hex_text.push_pairs.Given as goal
-
-abbrev pub invariant-loop-byte : goal.invariant-loop-byte
-invariant-loop-byte l = l.text.items ≡ l.initial.text.items ++ flat_map hex_pair (take l.byte-index l.bytes)
