@@ -38,7 +38,8 @@ use Rattle.jv_client.specs.CacheUse.{CacheUse}
 use Rattle.jv_client.specs.ClientValue.{ClientValue}
 use Rattle.jv_client.specs.Ending.{ended, finished_here, refused_here, told_here}
 use Rattle.jv_client.specs.Held.{Holds, IsClient, flight_in, in_flight, number_of, stage_of}
-use Rattle.jv_client.specs.Makes.{FailsAlone, Falls, Makes, StepsTo, SaysBad, UsesDevices, faults_of, kinds_of, step_of, says_failure}
+use Rattle.jv_client.specs.Makes.{FailsAlone, Falls, Makes, StepsTo, SaysBad, UsesDevices, faults_of, kinds_of, step_of}
+use Rattle.jv_client.specs.Failures.{says_failure}
 use Rattle.jv_client.specs.Transacting.{Fails}
 use Rattle.jv_client.specs.UnderWay.{IsReady, IsUnderWay}
 use Rattle.jv_client.specs.YardUse.{PutsNone, YardUse}
@@ -192,8 +193,9 @@ module _ (now entry : ℕ) (h : ClientValue) (d : Doing) (before used : Shared) 
         holds = holds-doing s.tree c None holds;
       }
 
-  pub fails-makes : (after : ClientValue) (done : Made) → h.doing ≡ Some d → IsReady h → RestsBy h d failed
-      → is_failure (ToldRefused fault) ≡ true → Fails fault h after done → HoldsSame before used
+  pub fails-makes : (after : ClientValue) (done : Made) → h.doing ≡ Some d → IsReady h
+      → RestsBy before.yard.setting.block h d failed → is_failure (ToldRefused fault) ≡ true
+      → Fails fault h after done → HoldsSame before used
       → UsesDevices done before used → YardUse now h done before.yard used.yard
       → Makes now entry h after before used done
   fails-makes after done busy ready by fail fails same devices yard =
@@ -208,7 +210,7 @@ module _ (now entry : ℕ) (h : ClientValue) (d : Doing) (before used : Shared) 
 pub no_memory-makes : (now entry : ℕ) (h after : ClientValue) (d : Doing) (v : Shared) (done : Made) → h.doing ≡ Some d
     → IsReady h → Fails NoMemory h after done → Makes now entry h after v v done
 no_memory-makes now entry h after d v done busy ready fails =
-    fails-makes now entry h d v v NoMemory after done busy ready (Alone (λ block. tt)) refl fails (same-none v)
+    fails-makes now entry h d v v NoMemory after done busy ready (Alone tt) refl fails (same-none v)
     (subst (λ (x : Made). UsesDevices x v v) (sym fails.made_is)
     (uses-none (made.Answer (ToldRefused NoMemory) (RefusedReply NoMemory)) v (λ device. refl) tt))
     (same-yard now h done v.yard)

@@ -37,7 +37,8 @@ use Rattle.jv_client.specs.ClientValue.{ClientValue}
 use Rattle.jv_client.specs.Ending.{ended, told_here}
 use Rattle.jv_client.specs.Held.{Holds, IsClient, in_flight, is_last_here, stage_of}
 use Rattle.jv_client.specs.Reading.{ahead_from, fetch_at, views_here}
-use Rattle.jv_client.specs.Makes.{Makes, is_failure_of}
+use Rattle.jv_client.specs.Failures.{is_failure_of}
+use Rattle.jv_client.specs.Makes.{Makes}
 use Rattle.jv_client.specs.UnderWay.{Answered, Closes, Copies, Describes, Ends, Flushes, FlushesFor, GoesOn, IsForm, IsReady, IsUnderWay, Leaves, Mounts, Reads, ReadsNothing, Syncs, SaysStats, Transacts, Truncates, Writes, answer_here, ends_itself, has_segment, keeps, left, says_stats}
 use Rattle.jv_client.proofs.HeldLaws.{client-doing, doing_of, holds-doing}
 use Rattle.jv_client.proofs.LastLaws.{is_last-same}
@@ -127,7 +128,8 @@ module _ (now entry : ℕ) (h : ClientValue) (v : Shared) (d : Doing) (busy : h.
   IsAnsweredBy told said = Makes now entry h (told_here d.op told h) v v (made.Answer told said)
 
   -- what the answer leaves of the cache
-  leaves_cache : (told : Told) (said : Reply) → RestsBy h d (made.Answer told said) → AnswersNumbers h (made.Answer told said)
+  leaves_cache : (told : Told) (said : Reply) → RestsBy v.yard.setting.block h d (made.Answer told said)
+      → AnswersNumbers h (made.Answer told said)
       → CacheUse h (told_here d.op told h) (made.Answer told said) v.yard v.yard
   leaves_cache told said by numbers =
       cache-ended h d busy (told_here d.op told h) (made.Answer told said) v.yard v.yard h told by refl refl refl numbers
@@ -143,7 +145,7 @@ module _ (now entry : ℕ) (h : ClientValue) (v : Shared) (d : Doing) (busy : h.
   closed_by-handle handle of_op of_does last =
       let told = Fine 0 0 0 0 in
       answers-makes now entry h (told_here d.op told h) v told reply.Done ready (told-rests d.op told h)
-      (leaves_cache told reply.Done (NoRead (ap is_read of_op) refl) tt) (λ device. refl)
+      (leaves_cache told reply.Done (NoRead (ap is_read of_op) refl refl) tt) (λ device. refl)
       (λ s g store holds is.
       let c = s.clients h.id in
       let last_too = is_last-same g v c s.count h is.held handle ∙ last in
@@ -165,7 +167,7 @@ module _ (now entry : ℕ) (h : ClientValue) (v : Shared) (d : Doing) (busy : h.
   flushed_by-handle handle of_op of_does =
       let told = Fine 0 0 0 0 in
       answers-makes now entry h (told_here d.op told h) v told reply.Done ready (told-rests d.op told h)
-      (leaves_cache told reply.Done (NoRead (ap is_read of_op) refl) tt) (λ device. refl)
+      (leaves_cache told reply.Done (NoRead (ap is_read of_op) refl refl) tt) (λ device. refl)
       (λ s g store holds is.
       let c = s.clients h.id in
       told-well h d v told reply.Done (ap (λ o. keeps_bytes o told) of_op) s g store holds is now
@@ -191,7 +193,7 @@ module _ (now entry : ℕ) (h : ClientValue) (v : Shared) (d : Doing) (busy : h.
   nothing-read handle offset len of_op of_does =
       let told = Looks 0 0 0 in
       answers-makes now entry h (told_here d.op told h) v told (reply.Data []) ready (told-rests d.op told h)
-      (leaves_cache told (reply.Data []) (Alone (none_ahead of_does)) tt)
+      (leaves_cache told (reply.Data []) (Alone (none_ahead of_does v.yard.setting.block)) tt)
       (λ device. refl)
       (λ s g store holds is.
       let c = s.clients h.id in
@@ -211,7 +213,7 @@ module _ (now entry : ℕ) (h : ClientValue) (v : Shared) (d : Doing) (busy : h.
       let told = Fine hits misses cached (length h.pending) in
       let said = reply.CacheStats hits misses cached (length h.pending) in
       answers-makes now entry h (ended h) v told said ready (ended-rests h)
-      (cache-stays h d busy (ended h) (made.Answer told said) v.yard v.yard (NoRead (ap is_read of_op) refl)
+      (cache-stays h d busy (ended h) (made.Answer told said) v.yard v.yard (NoRead (ap is_read of_op) refl refl)
       (ap is_umount of_op) refl numbers)
       (λ device. refl)
       (λ s g store holds is.

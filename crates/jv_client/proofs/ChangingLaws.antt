@@ -1,5 +1,5 @@
 -- A step that is a truncate or a copy with its answer: what it makes of the client and of what clients share.
-use Rattle.std.proofs.Common.{◌≡◌, ℕ, ◌+◌, IsTrue, List, [], ◌∷◌, map, None, Some, Ok, Err, refl, ap, subst}
+use Rattle.std.proofs.Common.{◌≡◌, ℕ, ◌+◌, IsTrue, true, List, [], ◌∷◌, map, None, Some, Ok, Err, refl, ap, subst}
 use Rattle.std.proofs.Common.{◌∙◌, arith}
 use Rattle.std.specs.Prelude.{Result, unwrap_or}
 use Rattle.jv_model.specs.declared.act.ActKind.{ActKind}
@@ -16,6 +16,7 @@ use Rattle.jv_model.specs.declared.op.Op.TheVariants as op
 use Rattle.jv_model.specs.declared.op.Reply.{Reply}
 use Rattle.jv_model.specs.declared.op.Reply.TheVariants as reply
 use Rattle.jv_model.specs.declared.op.Step.TheVariants.{Done}
+use Rattle.jv_model.specs.declared.profile.Does.{Does}
 use Rattle.jv_model.specs.declared.profile.Does.TheVariants as does
 use Rattle.jv_model.specs.declared.setting.Setting.{Setting}
 use Rattle.jv_model.specs.tree.Tree.{Tree}
@@ -45,10 +46,11 @@ use Rattle.jv_client.specs.declared.made.Made.TheVariants.{Both}
 use Rattle.jv_client.specs.ClientValue.{ClientValue, session_here}
 use Rattle.jv_client.specs.Ending.{ended}
 use Rattle.jv_client.specs.Held.{IsClient, IsHeld, Holds, in_flight}
-use Rattle.jv_client.specs.UnderWay.{IsReady, left}
+use Rattle.jv_client.specs.UnderWay.{IsReady, asks_more, left}
 use Rattle.jv_client.specs.Makes.{Makes, StepsTo}
 use Rattle.jv_client.specs.Transacting.{EndsUnmade}
-use Rattle.jv_client.proofs.CacheUseLaws.{NoRead, cache-stays}
+use Rattle.jv_client.specs.CacheUse.{OfTransaction}
+use Rattle.jv_client.proofs.CacheUseLaws.{AsksRows, NoRead, cache-stays}
 use Rattle.jv_client.proofs.AnswerLaws.{request-lands}
 use Rattle.jv_client.proofs.DirectLaws.{direct-unseen}
 use Rattle.jv_client.proofs.HeldLaws.{client-doing, doing_of, holds-doing, holds-later}
@@ -246,7 +248,7 @@ module _ (now : ℕ) (h : ClientValue) (d : Doing) (busy : h.doing ≡ Some d) (
         answered-makes now entry h (ended (blind inode h)) (Truncated inode len) (Fine 0 0 0 0) reply.Done v keeper
         (record { id = refl; limits = refl; idle = refl })
         (cache-stays h d busy (ended (blind inode h)) (Both (Truncated inode len) (Fine 0 0 0 0) reply.Done) v.yard v.yard
-        (NoRead (ap is_read of_op) refl) (ap is_umount of_op) refl tt)
+        (NoRead (ap is_read of_op) refl refl) (ap is_umount of_op) refl tt)
         ready tx.opened_at tx.counts (refl, λ device. refl)
         (λ s g number has holds is. truncate-leads s g has holds is handle len of_op (due_after now)
         (model-truncates s g has holds is handle len of_op (due_after now) (Ok tt) tried))
@@ -267,7 +269,7 @@ module _ (now : ℕ) (h : ClientValue) (d : Doing) (busy : h.doing ≡ Some d) (
         (reply.Count count) v keeper (record { id = refl; limits = refl; idle = refl })
         (cache-stays h d busy (ended (blind inode h))
         (Both (Copied first_inode from inode to count) (Fine count 0 0 0) (reply.Count count)) v.yard v.yard
-        (NoRead (ap is_read of_op) refl) (ap is_umount of_op) refl tt)
+        (NoRead (ap is_read of_op) refl refl) (ap is_umount of_op) refl tt)
         ready tx.opened_at tx.counts
         (refl, λ device. refl)
         (λ s g number has holds is. copy-leads s g has holds is source from target to len of_op (due_after now) count
@@ -345,6 +347,10 @@ module _ (now : ℕ) (h : ClientValue) (d : Doing) (busy : h.doing ≡ Some d) (
   copy-unmade_leads source from target to len of_op of_does s g has holds is (OfRows Failed) tried = tt
   copy-unmade_leads source from target to len of_op of_does s g has holds is (OfRows Memory) tried = tt
 
+  -- it has a transaction to make
+  asks-more : {what : Does} → d.does ≡ what → asks_more h (record d { does = what }) ≡ true → asks_more h d ≡ true
+  asks-more of_does asks = ap (λ (what : Does). asks_more h (record d { does = what })) of_does ∙ asks
+
   module _ (entry : ℕ) (after : ClientValue) (done : Made) where
     pub truncate-unmade : (handle len : ℕ) → d.op ≡ op.Truncate handle len → d.does ≡ does.Truncates
         → (fault : TxFault)
@@ -355,7 +361,9 @@ module _ (now : ℕ) (h : ClientValue) (d : Doing) (busy : h.doing ≡ Some d) (
     truncate-unmade handle len of_op of_does fault tried ends =
         let inode = inode_here h.handles handle in
         let tx = tried (asker inode 0) (asker-is inode 0) refl in
-        unmade now entry h after d v keeper busy ready (λ done fine. NoRead (ap is_read of_op) fine) Quiet fault done refl refl
+        unmade now entry h after d v keeper busy ready
+        (λ done fine. AsksRows (ap is_read of_op) fine (OfTransaction flushed (asks-more of_does refl))) Quiet fault
+        done refl refl
         (record { rows_are = tx.undone; opened_at = tx.opened_at; counts = tx.counts; bad = tx.bad }) ends
         (λ s g number has holds is. truncate-unmade_leads handle len of_op of_does s g has holds is fault tried)
 
@@ -370,7 +378,9 @@ module _ (now : ℕ) (h : ClientValue) (d : Doing) (busy : h.doing ≡ Some d) (
         let first_inode = inode_here h.handles source in
         let inode = inode_here h.handles target in
         let tx = tried (asker first_inode inode) (asker-is first_inode inode) refl refl in
-        unmade now entry h after d v keeper busy ready (λ done fine. NoRead (ap is_read of_op) fine) Quiet fault done refl refl
+        unmade now entry h after d v keeper busy ready
+        (λ done fine. AsksRows (ap is_read of_op) fine (OfTransaction flushed (asks-more of_does refl))) Quiet fault
+        done refl refl
         (record { rows_are = tx.undone; opened_at = tx.opened_at; counts = tx.counts; bad = tx.bad }) ends
         (λ s g number has holds is. copy-unmade_leads source from target to len of_op of_does s g has holds is fault
         tried)

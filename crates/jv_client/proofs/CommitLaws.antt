@@ -1,7 +1,8 @@
 -- A commit that was made: where its step leads, and what it leaves of its client.
 use Rattle.std.proofs.Common.{◌≡◌, ℕ, zero, suc, ◌+◌, ◌-◌, ◌≤◌, ◌<◌, List, [], ◌∷◌, length}
-use Rattle.std.proofs.Common.{Option, None, Some, Ok, refl, sym, ap, subst, ◌∙◌, arith}
+use Rattle.std.proofs.Common.{false, Option, None, Some, Ok, refl, sym, ap, subst, ◌∙◌, arith}
 use Rattle.std.specs.Prelude.{IfSome, unwrap_or}
+use Rattle.std.proofs.lemmas.Bool.{le-ltb}
 use Rattle.jv_model.specs.declared.act.ActKind.{ActKind}
 use Rattle.jv_model.specs.declared.act.ActKind.TheVariants.{Answered, Commit}
 use Rattle.jv_model.specs.declared.op.Reply.{Reply}
@@ -37,6 +38,7 @@ use Rattle.jv_client.specs.ClientValue.{ClientValue, session_here}
 use Rattle.jv_client.specs.Held.{IsClient, IsOnWay, flight_by, flight_from, flight_in, flight_of, flush_of_code}
 use Rattle.jv_client.specs.Held.{in_flight, number_of, segment_left, stage_of}
 use Rattle.jv_client.specs.UnderWay.{IsUnderWay}
+use Rattle.jv_client.specs.CacheUse.{is_put_due}
 use Rattle.jv_client.specs.Flushing.{bytes_of, without_segment}
 use Rattle.jv_client.proofs.HeldLaws.{client-doing, doing_of}
 use Rattle.jv_client.proofs.WithoutLaws.{left_of_model}
@@ -88,6 +90,15 @@ module _ (h : ClientValue) (d : Doing) (v : Shared) (keeper : Store) (at : Segme
   flight-is =
       ap (flight_in h.pending) is_commit.busy ∙ ap (flight_by h.pending d.flush) is_commit.at_is
       ∙ flight-at h.pending d.flush quiets started id segment is_commit.asked is_commit.next
+
+  -- it has all its blocks
+  pub none-due : is_put_due v.yard.setting.block (flight_of h) ≡ false
+  none-due =
+      let same : block_count (length flight.bytes) v.yard.setting.block ≡ block_count at.len v.yard.setting.block =
+      ap (λ n. block_count n v.yard.setting.block) is_commit.long in
+      let put = is_commit.put in
+      ap (is_put_due v.yard.setting.block) flight-is
+      ∙ le-ltb (quiets - 1) (block_count (length flight.bytes) v.yard.setting.block) (omega (arith, same, put))
 
   pub number-is : in_flight h ≡ id
   number-is = ap number_of flight-is

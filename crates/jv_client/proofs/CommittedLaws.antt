@@ -41,9 +41,11 @@ use Rattle.jv_client.specs.Ending.{told_here}
 use Rattle.jv_client.specs.Held.{IsHeld, IsClient, Holds, in_flight, is_last_here, segment_left}
 use Rattle.jv_client.specs.UnderWay.{IsReady, answer_here, ends_itself, left, left_of, moved_to}
 use Rattle.jv_client.specs.Makes.{IsCalm, Makes, StepsTo, SaysBad, UsesDevices, asks_nothing, faults_of}
-use Rattle.jv_client.specs.Makes.{step_of, says_failure}
+use Rattle.jv_client.specs.Makes.{step_of}
+use Rattle.jv_client.specs.CacheUse.{fails_block}
+use Rattle.jv_client.specs.Failures.{says_failure}
 use Rattle.jv_client.specs.Flushing.{Follows, Answers, Writes, GoesOn, written_alone}
-use Rattle.jv_client.proofs.CacheUseLaws.{RestsAlways, cache-ended, cache-stays, left-some, rests-flushing}
+use Rattle.jv_client.proofs.CacheUseLaws.{RestsBy, cache-ended, cache-stays, left-some, rests-calm}
 use Rattle.jv_client.proofs.AfterCommitLaws.{falls-without, way-without}
 use Rattle.jv_client.proofs.AnswerLaws.{Rests, makes-as, makes-ended, rests-flight, same-yard, told-rests}
 use Rattle.jv_client.proofs.CommitLaws.{IsCommit, grown, leads-answered, leads-left, leads-then}
@@ -264,8 +266,9 @@ module _ (h : ClientValue) (d : Doing) (v : Shared) (keeper : Store) (at : Segme
 
   module _ (fewer : length between.pending + at.len ≡ length h.pending) (entry : ℕ) where
     -- it had a segment to flush
-    flushing : RestsAlways h d
-    flushing = rests-flushing h d (left-some h d is_commit.busy (ap is_some is_commit.next))
+    flushing : (done : Made) → fails_block done ≡ false → says_failure device.Keeper done ≡ false
+        → RestsBy v.yard.setting.block h d done
+    flushing = rests-calm v.yard.setting.block h d (left-some h d is_commit.busy (ap is_some is_commit.next))
 
     makes-on : (goes : segment_left d.flush between.pending ≡ None → ends_itself between d ≡ false)
         → Makes now entry h (record between { doing = Some (moved_to (progress.Working 0 0 0) d) }) v used_here
@@ -280,7 +283,7 @@ module _ (h : ClientValue) (d : Doing) (v : Shared) (keeper : Store) (at : Segme
       devices = uses (made.Request commit) (λ failed. refl) refl tt;
       yard = same-yard now h (made.Request commit) v.yard;
       cache = cache-stays h d is_commit.busy (record between { doing = Some (moved_to (progress.Working 0 0 0) d) })
-          (made.Request commit) v.yard v.yard (flushing (made.Request commit) refl) refl refl tt;
+          (made.Request commit) v.yard v.yard (flushing (made.Request commit) refl refl) refl refl tt;
       alone = refl;
       falls = (
         falls-without h d segment_here is_commit.way.form is_commit.next fewer goes quiets started id is_commit.at_is
@@ -302,7 +305,7 @@ module _ (h : ClientValue) (d : Doing) (v : Shared) (keeper : Store) (at : Segme
         (record { id = rests.id; limits = rests.limits; idle = rests.idle })
         (uses (made.Both commit told said) (λ failed. refl) refl tt) (same-yard now h (made.Both commit told said) v.yard)
         (cache-ended h d is_commit.busy (told_here d.op told between) (made.Both commit told said) v.yard v.yard between
-        told (flushing (made.Both commit told said) refl) refl refl refl tt)
+        told (flushing (made.Both commit told said) refl refl) refl refl refl tt)
         (refl, calm-answer d.does)
         (λ s g count store holds is. leads-over s g store holds is over ends alone)
 
@@ -324,8 +327,8 @@ module _ (h : ClientValue) (d : Doing) (v : Shared) (keeper : Store) (at : Segme
         (cache-stays h d is_commit.busy (record between {
           pending = written (inode_here between.handles handle) offset bytes [];
           doing = None;
-        }) (made.Both commit told said) v.yard v.yard (flushing (made.Both commit told said) refl) (ap is_umount of_op)
-        refl tt)
+        }) (made.Both commit told said) v.yard v.yard (flushing (made.Both commit told said) refl refl)
+        (ap is_umount of_op) refl tt)
         (refl, λ failed. refl)
         (λ s g count store holds is. leads-write s g store holds is over handle offset bytes of_op)
 

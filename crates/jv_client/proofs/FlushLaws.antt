@@ -1,7 +1,7 @@
 -- The requests of a flush before its commit, for the number of a segment's slice and for each of its blocks, and what refuses
 -- them.
 use Rattle.std.proofs.Common.{◌≡◌, ℕ, ◌+◌, ◌-◌, ◌*◌, ◌≤◌, ◌<◌, ◌||◌, IsTrue, [], ◌∷◌, length, Option}
-use Rattle.std.proofs.Common.{Some, Ok, Err, refl, sym, ap, subst, ◌∙◌, arith}
+use Rattle.std.proofs.Common.{None, Some, Ok, Err, refl, sym, ap, subst, ◌∙◌, arith}
 use Rattle.std.specs.Prelude.{IfSome, IsSome, List, is_some, unwrap_or}
 use Rattle.std.specs.Option.{option_map}
 use Rattle.jv_model.specs.declared.act.ActKind.TheVariants.{Answered, Quiet}
@@ -34,7 +34,8 @@ use Rattle.jv_client.specs.declared.made.Made.TheVariants.{Request as AsksFor}
 use Rattle.jv_client.specs.ClientValue.{ClientValue, session_here}
 use Rattle.jv_client.specs.Flushing.{bytes_of}
 use Rattle.jv_client.specs.Held.{IsClient, IsOnWay, flight_by, flush_of_code}
-use Rattle.jv_client.specs.Held.{in_flight, number_of, segment_left, stage_of}
+use Rattle.jv_client.specs.CacheUse.{is_put_due}
+use Rattle.jv_client.specs.Held.{flight_of, in_flight, number_of, segment_left, stage_of}
 use Rattle.jv_client.specs.UnderWay.{IsReady, IsWorking, has_segment, asks_more, left, moved_to, progress_of, reading_steps}
 use Rattle.jv_client.specs.UnderWay.{covered, steps_in}
 use Rattle.jv_client.specs.Makes.{Makes, UsesDevices}
@@ -148,8 +149,11 @@ module _ (now entry : ℕ) (h : ClientValue) (d : Doing) (before : Shared) (keep
   abbrev bytes : List ℕ
   bytes = bytes_of segment h.pending
 
+  none_flies : flight_of h ≡ None
+  none_flies = flight-is h d busy (Working 0 started id) at
+
   none_yet : in_flight h ≡ 0
-  none_yet = ap number_of (flight-is h d busy (Working 0 started id) at)
+  none_yet = ap number_of none_flies
 
   module _ (s : State) (g : Known) (store : HasStore s.tree g before)
       (is : IsClient g before (s.clients h.id) s.count h) where
@@ -210,7 +214,9 @@ module _ (now entry : ℕ) (h : ClientValue) (d : Doing) (before : Shared) (keep
       → TakesNumber sid before.keeper keeper (Err fault) → EndsUnmade Quiet fault h after done
       → Makes now entry h after before numbered done
   refuses_number after fault done takes ends =
-      unmade now entry h after d before keeper busy ready (rests-flushing h d (ap is_some next)) Quiet fault done refl refl
+      unmade now entry h after d before keeper busy ready
+      (rests-flushing before.yard.setting.block h d (ap is_some next)
+      (ap (is_put_due before.yard.setting.block) none_flies)) Quiet fault done refl refl
       (not_taken sid before.keeper keeper fault takes) ends
       (λ s g count store holds is. refused_in s g store is fault takes)
 

@@ -25,7 +25,7 @@ use Rattle.jv_client.specs.UnderWay.{left, progress_of, steps_in, steps_left, st
 use Rattle.jv_client.specs.Makes.{Makes, StepsTo, UsesDevices}
 use Rattle.jv_client.specs.YardUse.{YardUse}
 use Rattle.jv_client.specs.CacheUse.{is_miss}
-use Rattle.jv_client.proofs.CacheUseLaws.{cache-stays, rests-flushing}
+use Rattle.jv_client.proofs.CacheUseLaws.{cache-stays, rests-calm}
 use Rattle.jv_client.proofs.FormLaws.{under_way}
 
 -- ---- the operation in progress
@@ -123,7 +123,7 @@ module _ (now entry : ℕ) (h after : ClientValue) (d : Doing) (p : Progress) (k
     devices = uses;
     yard = yard;
     cache = cache-stays h d busy after (AsksFor kind) before.yard used.yard
-        (rests-flushing h d flushing (AsksFor kind) found) refl kept tt;
+        (rests-calm before.yard.setting.block h d flushing (AsksFor kind) found refl) refl kept tt;
     alone = asks;
     falls = (
       (let now_left : steps_left after ≡ steps_in after.pending asked = ap (steps_of after.pending) is in

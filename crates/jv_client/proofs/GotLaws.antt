@@ -64,7 +64,8 @@ use Rattle.jv_client.specs.ClientValue.{ClientValue}
 use Rattle.jv_yard.specs.Refusals.{yard_fault}
 use Rattle.jv_client.specs.Getting.{Fills, IsMissed, IsUnread, NotThere, Unread, missed}
 use Rattle.jv_client.specs.Held.{Holds, IsClient, IsHeld, in_flight}
-use Rattle.jv_client.specs.Makes.{Makes, StepsTo, SaysBad, UsesDevices, faults_of, step_of, says_failure}
+use Rattle.jv_client.specs.Failures.{says_failure}
+use Rattle.jv_client.specs.Makes.{Makes, StepsTo, SaysBad, UsesDevices, faults_of, step_of}
 use Rattle.jv_client.specs.CacheUse.{GotNone, HasAhead, KeepsOne, MovesInRead, WantsBlock, goes_well, is_quiet, may_have_made}
 use Rattle.jv_client.specs.CacheUse.{need_then}
 use Rattle.jv_client.specs.Reading.{GoesAhead, LooksOn, NeedsNext, read_of, told_read, views_here, views_of}

@@ -56,7 +56,8 @@ use Rattle.jv_client.specs.declared.made.Made.TheVariants as made
 use Rattle.jv_client.specs.declared.reading.Found.{Found}
 use Rattle.jv_client.specs.ClientValue.{ClientValue, session_here}
 use Rattle.jv_client.specs.Held.{Holds, IsClient, IsHeld, in_flight}
-use Rattle.jv_client.specs.Makes.{Makes, StepsTo, SaysBad, UsesDevices, faults_of, step_of, says_failure}
+use Rattle.jv_client.specs.Failures.{says_failure}
+use Rattle.jv_client.specs.Makes.{Makes, StepsTo, SaysBad, UsesDevices, faults_of, step_of}
 use Rattle.jv_client.specs.CacheUse.{HasAhead, LooksThen, MovesInRead, goes_well, is_look, may_have_made, need_then}
 use Rattle.jv_client.specs.Reading.{GoesAhead, NeedsNext, read_of, told_read, views_of}
 use Rattle.jv_client.specs.UnderWay.{LacksNeed}

@@ -1,9 +1,10 @@
 -- The request of a flush for one block of its segment's slice: the block is put, and the slice goes on being in flight; or the
 -- carrier or the depot fails, and the operation ends.
 use Rattle.std.proofs.Common.{◌≡◌, ℕ, suc, ◌+◌, ◌-◌, ◌^◌, ◌≤◌, ◌<◌, ◌==◌, List, [], ◌∷◌, ◌++◌, length, Option}
-use Rattle.std.proofs.Common.{Some, Result, Ok, Err, refl, sym, ap, subst, ◌∙◌, arith}
+use Rattle.std.proofs.Common.{false, Some, Result, Ok, Err, refl, sym, ap, subst, ◌∙◌, arith}
 use Rattle.std.specs.Prelude.{IfSome, if◌then◌else◌, is_some}
 use Rattle.std.specs.Option.{option_map}
+use Rattle.std.proofs.lemmas.Bool.{lt-ltb}
 use Rattle.std.proofs.lemmas.Nat.{mul-le}
 use Rattle.jv_model.specs.declared.limits.TheConstants.{WINDOW}
 use Rattle.jv_model.specs.declared.act.ActKind.TheVariants.{Quiet}
@@ -46,7 +47,8 @@ use Rattle.jv_client.specs.ClientValue.{ClientValue}
 use Rattle.jv_client.specs.Flushing.{bytes_of}
 use Rattle.jv_client.specs.Held.{IsClient, IsOnWay, flight_of, flush_of_code, number_of, stage_of}
 use Rattle.jv_client.specs.UnderWay.{IsAt, IsReady, left, moved_to, progress_of}
-use Rattle.jv_client.specs.Makes.{Makes, UsesDevices, faults_of, says_failure}
+use Rattle.jv_client.specs.Failures.{says_failure}
+use Rattle.jv_client.specs.Makes.{Makes, UsesDevices, faults_of}
 use Rattle.jv_client.specs.Transacting.{Fails}
 use Rattle.jv_client.specs.YardUse.{PutsNext, PutsNone, YardUse}
 use Rattle.jv_client.proofs.HeldLaws.{client-doing, doing_of}
@@ -54,7 +56,7 @@ use Rattle.jv_client.proofs.GoesOnLaws.{in_progress}
 use Rattle.jv_client.proofs.FormLaws.{under_way}
 use Rattle.jv_client.proofs.LeftLaws.{flight-flying, flight-is, left-is}
 use Rattle.jv_client.proofs.AnswerLaws.{fails-makes, makes-as}
-use Rattle.jv_client.specs.CacheUse.{InFlight}
+use Rattle.jv_client.specs.CacheUse.{InFlight, is_put_due}
 use Rattle.jv_client.proofs.CacheUseLaws.{Flushing}
 use Rattle.jv_client.proofs.FlushLaws.{Asked, asks}
 
@@ -87,6 +89,12 @@ told-unput : (fault : PutFault) (d : Device) → says_failure d (not_put fault) 
 told-unput Carrier = told-carrier
 told-unput Depot = told-depot
 told-unput Memory = told-memory
+
+-- and that isn't the keeper
+put-spares_rows : (fault : PutFault) → says_failure device.Keeper (not_put fault) ≡ false
+put-spares_rows Carrier = refl
+put-spares_rows Depot = refl
+put-spares_rows Memory = refl
 
 told-put : (d : Device) → says_failure d (AsksFor Quiet) ≡ put_fails d (Ok tt)
 told-put device.Keeper = refl
@@ -166,6 +174,12 @@ module _ (now entry : ℕ) (h : ClientValue) (d : Doing) (before : Shared) (yard
   id_some : 0 < id
   id_some = numbered h d quiets started id busy ready at (omega (arith, some))
 
+  -- it lacks a block
+  lacks_one : length bytes ≡ segment.len → quiets ≤ block_count segment.len before.yard.setting.block
+      → put < block_count (length bytes) before.yard.setting.block
+  lacks_one long there =
+      subst (λ n. put < block_count n before.yard.setting.block) (sym long) (omega (arith, there, some))
+
   module _ (long : length bytes ≡ segment.len) (short : segment.len ≤ WINDOW) (low : id < 2 ^ 64)
       (block : IsLength before.yard.setting.block) (there : quiets ≤ block_count segment.len before.yard.setting.block)
       (puts : PutsFlight h.id now flight before.yard yard before.carrier carrier (Ok tt)) where
@@ -188,7 +202,7 @@ module _ (now entry : ℕ) (h : ClientValue) (d : Doing) (before : Shared) (yard
     }
 
     more : put < block_count (length bytes) before.yard.setting.block
-    more = subst (λ n. put < block_count n before.yard.setting.block) (sym long) (omega (arith, there, some))
+    more = lacks_one long there
 
     small : length bytes ≤ WINDOW
     small = omega (arith, long, short)
@@ -252,14 +266,19 @@ module _ (now entry : ℕ) (h : ClientValue) (d : Doing) (before : Shared) (yard
         uses_devices puts_next (λ s g count store holds is. put_in s g store is)
 
   -- It wasn't, and the operation ends.
-  fails_block : (after : ClientValue) (done : Made) (fault : PutFault)
+  fails_block : length bytes ≡ segment.len → quiets ≤ block_count segment.len before.yard.setting.block
+      → (after : ClientValue) (done : Made) (fault : PutFault)
       → PutsFlight h.id now flight before.yard yard before.carrier carrier (Err fault) → Fails (fault_of fault) h after done
       → Makes now entry h after before (record before { yard = yard; carrier = carrier }) done
-  fails_block after done fault puts ends =
+  fails_block long there after done fault puts ends =
+      let due = ap (is_put_due before.yard.setting.block) flying
+      ∙ lt-ltb put (block_count (length bytes) before.yard.setting.block) (lacks_one long there) in
       let uses = put-uses h.id now flight before.yard yard before.carrier carrier (Err fault) puts in
       let same = unput-same before flight h.id now yard carrier fault puts in
       fails-makes now entry h d before then_shared (fault_of fault) after done busy ready
-      (Flushing (ap is_some next) (λ fails. InFlight (ap is_some flying) refl)) (put-fails fault) ends same
+      (Flushing (ap is_some next) (λ fails. InFlight due refl)
+      (λ fails. absurd (cc (sym (put-spares_rows fault) ∙ fails))))
+      (put-fails fault) ends same
       (subst (λ (x : Made). UsesDevices x before then_shared) (sym ends.made_is) (record {
         keeper_at = refl;
         carrier_at = uses.carrier_at;
@@ -316,12 +335,13 @@ module _ (now entry : ℕ) (h after : ClientValue) (before : Shared) (yard : Yar
         (puts_block now entry h d.0 before yard carrier segment quiets (quiets - 1) started id d.1 ready next d.2 one_less
         (ap length (sym bytes_are) ∙ long) short low block there (puts_same (Ok tt) puts))
 
-    pub block-unput : (fault : PutFault)
+    pub block-unput : length bytes ≡ segment.len → quiets ≤ block_count segment.len before.yard.setting.block
+        → (fault : PutFault)
         → PutsFlight client now (record { id = id; bytes = bytes; put = quiets - 1 }) before.yard yard before.carrier
         carrier (Err fault)
         → Fails (fault_of fault) h after done
         → Makes now entry h after before (record before { yard = yard; carrier = carrier }) done
-    block-unput fault puts ends =
+    block-unput long there fault puts ends =
         let d = in_progress h.doing (Working quiets started id) at in
         fails_block now entry h d.0 before yard carrier segment quiets (quiets - 1) started id d.1 ready next d.2
-        one_less after done fault (puts_same (Err fault) puts) ends
+        one_less (ap length (sym bytes_are) ∙ long) there after done fault (puts_same (Err fault) puts) ends

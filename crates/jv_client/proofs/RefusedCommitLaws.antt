@@ -27,7 +27,7 @@ use Rattle.jv_client.specs.Makes.{Makes}
 use Rattle.jv_client.specs.Transacting.{EndsUnmade, NotMade}
 use Rattle.jv_client.specs.UnderWay.{IsReady}
 use Rattle.jv_client.proofs.CommitLaws.{IsCommit, asked-model, at-model, busy-model, bytes-model, flies-here, flight}
-use Rattle.jv_client.proofs.CommitLaws.{is-complete, next-model, number-is, own-model, record_for, segment}
+use Rattle.jv_client.proofs.CommitLaws.{is-complete, next-model, none-due, number-is, own-model, record_for, segment}
 use Rattle.jv_client.proofs.HeldLaws.{doing_of}
 use Rattle.jv_client.proofs.NextSegmentLaws.{segment-of}
 use Rattle.jv_client.proofs.CacheUseLaws.{left-some, rests-flushing}
@@ -126,6 +126,7 @@ module _ (h : ClientValue) (d : Doing) (v : Shared) (keeper : Store) (at : Segme
       → EndsUnmade Quiet fault h after outcome → Makes now entry h after v used_here outcome
   refuses-commit entry after fault outcome commits ends =
       unmade now entry h after d v keeper is_commit.busy ready
-      (rests-flushing h d (left-some h d is_commit.busy (ap is_some is_commit.next))) Quiet fault outcome refl refl
+      (rests-flushing v.yard.setting.block h d (left-some h d is_commit.busy (ap is_some is_commit.next))
+      (none-due h d v keeper at now quiets started id is_commit)) Quiet fault outcome refl refl
       (not-committed fault commits) ends
       (λ s g count store holds is. unmade-so s g store holds is fault commits)

@@ -42,7 +42,8 @@ use Rattle.jv_client.specs.declared.reading.Found.{Found}
 use Rattle.jv_client.specs.ClientValue.{ClientValue}
 use Rattle.jv_client.specs.Ending.{ended}
 use Rattle.jv_client.specs.Held.{GoesOn, IsClient, IsHeld, in_flight, stage_of}
-use Rattle.jv_client.specs.Makes.{Makes, says_failure}
+use Rattle.jv_client.specs.Failures.{says_failure}
+use Rattle.jv_client.specs.Makes.{Makes}
 use Rattle.jv_client.specs.Transacting.{Fails}
 use Rattle.jv_client.specs.UnderWay.{IsReady, asks_more, does_of, has_more, has_not_seen, has_segment, left}
 use Rattle.jv_client.specs.Reading.{Begins, IsAhead, IsCachedAs, LooksAhead, ReadsAtOnce, Shows, ahead_from, need_in}

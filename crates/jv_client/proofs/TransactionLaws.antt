@@ -51,8 +51,8 @@ use Rattle.jv_client.specs.UnderWay.{ClosesOpen, IsReady, asks_more, left, makes
 use Rattle.jv_client.specs.Makes.{FailsAlone, IsCalm, Makes, StepsTo, kinds_of}
 use Rattle.jv_client.specs.Transacting.{IsCaller, Attempts, EndsUnmade, NotMade, answered_here, given_here}
 use Rattle.jv_client.specs.Transacting.{handles_given, sustained_with}
-use Rattle.jv_client.specs.CacheUse.{CacheUse, is_miss}
-use Rattle.jv_client.proofs.CacheUseLaws.{NoRead, cache-ended}
+use Rattle.jv_client.specs.CacheUse.{CacheUse, OfTransaction, is_miss}
+use Rattle.jv_client.proofs.CacheUseLaws.{AsksRows, NoRead, cache-ended}
 use Rattle.jv_client.proofs.AnswerLaws.{Rests, makes-ended, request-lands, rests-flight, same-yard, told-rests}
 use Rattle.jv_client.proofs.HeldLaws.{client-doing, doing_of, holds-later}
 use Rattle.jv_client.proofs.LastLaws.{is_last-same}
@@ -301,7 +301,8 @@ module _ (now : ℕ) (h : ClientValue) (d : Doing) (busy : h.doing ≡ Some d) (
         (told_of answer.reply) answer.reply v keeper
         (record { id = rests.id; limits = rests.limits; idle = rests.idle })
         (cache-ended h d busy (answered_here entry d.op answer h) made v.yard v.yard (given_here entry answer h)
-        (told_of answer.reply) (NoRead (one-reads_none d one) (found-by_gift (gift_of answer.reply))) refl refl refl tt)
+        (told_of answer.reply)
+        (NoRead (one-reads_none d one) (found-by_gift (gift_of answer.reply)) refl) refl refl refl tt)
         ready tx.opened_at tx.counts
         (asks-by_gift (gift_of answer.reply), calm-reply answer.reply tried.answers)
         (λ s g number has holds is.
@@ -354,7 +355,8 @@ module _ (now : ℕ) (h : ClientValue) (d : Doing) (busy : h.doing ≡ Some d) (
       → Attempts h d.op now v.keeper keeper (Err fault) → EndsUnmade Meta fault h after done
       → Makes now entry h after v used done
   transaction-unmade entry fault after done tried ends =
-      unmade now entry h after d v keeper busy ready (λ done fine. NoRead (one-reads_none d one) fine) Meta fault done refl refl
+      unmade now entry h after d v keeper busy ready
+      (λ done fine. AsksRows (one-reads_none d one) fine (OfTransaction flushed asks)) Meta fault done refl refl
       (not_made fault tried) ends
       (λ s g number has holds is. unmade-leads s g has holds is fault tried)
 

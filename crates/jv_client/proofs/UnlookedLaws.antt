@@ -52,7 +52,8 @@ use Rattle.jv_client.specs.declared.made.Made.TheVariants as made
 use Rattle.jv_client.specs.ClientValue.{ClientValue, session_here}
 use Rattle.jv_client.specs.Ending.{refused_here}
 use Rattle.jv_client.specs.Held.{Holds, IsClient, in_flight}
-use Rattle.jv_client.specs.Makes.{Makes, StepsTo, UsesDevices, faults_of, is_same_device}
+use Rattle.jv_client.specs.Failures.{is_same_device}
+use Rattle.jv_client.specs.Makes.{Makes, StepsTo, UsesDevices, faults_of}
 use Rattle.jv_client.specs.Transacting.{EndsUnmade, refusal_of}
 use Rattle.jv_client.specs.CacheUse.{LooksInVain, MovesInRead, fails_block, goes_well}
 use Rattle.jv_client.specs.Reading.{NeedsNext, put_at}
@@ -238,7 +239,7 @@ module _ (now entry block : ℕ) (h : ClientValue) (d : Doing) (offset len : ℕ
             looks.looks.rows_are looks.looks.opened_at looks.looks.counts tt;
         yard = same-yard now h (made.Both Quiet (ToldRefused why) (Refused why)) before.yard;
         cache = cache-refused h d asks.busy (refused_here why c) (made.Both Quiet (ToldRefused why) (Refused why))
-            before.yard before.yard (ap is_read asks.reads.op_is) c why refl refl
+            before.yard before.yard (ap is_read asks.reads.op_is) c why refl refl refl
             (looked-before (made.Both Quiet (ToldRefused why) (Refused why)) (refused_here why c) refl refl) refl tt;
         alone = (refl, calm-refusal fault);
         falls = rests.idle;

@@ -35,8 +35,8 @@ use Rattle.jv_client.specs.Ending.{refused_here}
 use Rattle.jv_client.specs.Reading.{put_at}
 use Rattle.jv_client.specs.UnderWay.{IsReady}
 use Rattle.jv_client.specs.YardUse.{YardUse}
-use Rattle.jv_client.specs.Makes.{IsCalm, Makes, Stops, SaysBad, UsesDevices, asks_nothing, faults_of, is_failure_of, step_of}
-use Rattle.jv_client.specs.Makes.{says_failure}
+use Rattle.jv_client.specs.Makes.{IsCalm, Makes, Stops, SaysBad, UsesDevices, asks_nothing, faults_of, step_of}
+use Rattle.jv_client.specs.Failures.{is_failure_of, says_failure}
 use Rattle.jv_client.specs.Transacting.{EndsUnmade, Fails, NotMade, Refuses, refusal_of}
 use Rattle.jv_client.proofs.EndingLaws.{holds-told}
 use Rattle.jv_client.proofs.KeptLaws.{client-told}
@@ -129,7 +129,7 @@ InState entry h before P = (s : State) (g : Known) → s.count + 1 ≡ entry →
 -- ---- the steps
 
 module _ (now entry : ℕ) (h : ClientValue) (d : Doing) (before used : Shared) (busy : h.doing ≡ Some d)
-    (ready : IsReady h) (rests : RestsAlways h d) where
+    (ready : IsReady h) (rests : RestsAlways before.yard.setting.block h d) where
   -- A request that is refused.
   pub refuses : (kind : ActKind) (fault : Fault) → is_answer kind ≡ false → is_miss kind ≡ false
       → IsCalm (ToldRefused fault)
@@ -173,7 +173,7 @@ stops-as h d busy = record {
 
 -- A transaction that wasn't made, by how the step ends.
 module _ (now entry : ℕ) (h after : ClientValue) (d : Doing) (before : Shared) (keeper : Store)
-    (busy : h.doing ≡ Some d) (ready : IsReady h) (rests : RestsAlways h d) where
+    (busy : h.doing ≡ Some d) (ready : IsReady h) (rests : RestsAlways before.yard.setting.block h d) where
   abbrev then_shared : Shared
   then_shared = record before { keeper = keeper }
 

@@ -122,7 +122,7 @@ module _ (h : ClientValue) (d : Doing) (busy : h.doing ≡ Some d) (ready : IsRe
       answers-makes now entry h (wrote w.handle w.offset w.bytes h) v (Fine count 0 0 0) (Count count) ready
       (record { id = refl; limits = refl; idle = refl })
       (cache-stays h d busy (wrote w.handle w.offset w.bytes h) (made.Answer (Fine count 0 0 0) (Count count)) v.yard v.yard
-      (NoRead (ap is_read w.op_is) refl) (ap is_umount w.op_is) refl tt)
+      (NoRead (ap is_read w.op_is) refl refl) (ap is_umount w.op_is) refl tt)
       (λ device. refl)
       (λ s g store holds is.
       let c = s.clients h.id in

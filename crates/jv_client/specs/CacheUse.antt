@@ -1,5 +1,5 @@
 -- What a step does with the client's cache, and what it answers of it.
-use Rattle.std.specs.Prelude.{◌≡◌, ℕ, Bool, true, false, ◌&&◌, List, [], ◌∷◌, IfSome, IsTrue, is_some, unwrap_or, Option, None, Some, Ok}
+use Rattle.std.specs.Prelude.{◌≡◌, ℕ, nat_lt, length, Bool, true, false, ◌&&◌, List, [], ◌∷◌, IfSome, IsTrue, is_some, unwrap_or, Option, None, Some, Ok}
 use Rattle.jv_model.specs.declared.act.ActKind.{ActKind}
 use Rattle.jv_model.specs.declared.act.ActKind.TheVariants.{Look as LookEntry, Miss, Quiet}
 use Rattle.jv_model.specs.declared.act.Told.{Told}
@@ -11,8 +11,10 @@ use Rattle.jv_model.specs.declared.fault.Gone.TheVariants.{Session}
 use Rattle.jv_model.specs.declared.op.Op.{Op}
 use Rattle.jv_model.specs.declared.slice.BlockId.{BlockId}
 use Rattle.jv_model.specs.blocks.BlockNames.{name_in}
+use Rattle.jv_model.specs.blocks.Slices.{block_count}
 use Rattle.jv_model.specs.client.OpForms.{is_read, is_umount}
 use Rattle.jv_cache.specs.Cached.{Cached}
+use Rattle.jv_contents.specs.Flights.{Flight}
 use Rattle.jv_yard.specs.BlockCalls.{GetsBlock}
 use Rattle.jv_yard.specs.YardValue.{YardValue}
 use Rattle.jv_handles.specs.declared.views.View.{View}
@@ -26,11 +28,12 @@ use Rattle.jv_client.specs.declared.doing.Doing.{Doing}
 use Rattle.jv_client.specs.declared.made.Made.{Made}
 use Rattle.jv_client.specs.declared.made.Made.TheVariants as made
 use Rattle.jv_client.specs.ClientValue.{ClientValue}
+use Rattle.jv_client.specs.Failures.{says_failure}
 use Rattle.jv_client.specs.Getting.{GetsNone}
 use Rattle.jv_client.specs.Held.{flight_of}
 use Rattle.jv_client.specs.Reading.{LooksAhead, NeedsNext, ahead_from, ahead_in, fetch_in, need_in, views_here}
 use Rattle.jv_client.specs.Stats.{AnswersNumbers}
-use Rattle.jv_client.specs.UnderWay.{left}
+use Rattle.jv_client.specs.UnderWay.{asks_more, left}
 
 -- the session is gone
 abbrev pub is_gone : Fault → Bool
@@ -167,12 +170,27 @@ pub data MovesInRead (h : ClientValue) (d : Doing) (done : Made) (before used : 
       → WantsBlock before.setting.block h d fetch b looked → GetsNone h d fetch b done before used
       → is ≡ Some looked → MovesInRead h d done before used after is
 
--- Where a step may say that a block didn't come or wasn't put: where the client has a slice in
--- flight, and then only that a device failed; or in a read that has nothing left to flush, as
--- `MovesInRead` says.
-pub data MayFail (h : ClientValue) (d : Doing) (done : Made) : Type 0 where
-  InFlight : IsTrue (is_some (flight_of h)) → IsTrue (answers_alone done) → MayFail h d done
-  InRead : IsTrue (is_read d.op) → left h ≡ None → leaves d.op done ≡ false → MayFail h d done
+-- whether a block of the slice in flight is still to be put
+abbrev pub is_put_due : ℕ → Option Flight → Bool
+is_put_due block None = false
+is_put_due block (Some f) = nat_lt f.put (block_count (length f.bytes) block)
+
+-- Where a step may say that a block didn't come or wasn't put: where a put is due, and then only
+-- that a device failed; or in a read that has nothing left to flush, as `MovesInRead` says.
+pub data MayFail (block : ℕ) (h : ClientValue) (d : Doing) (done : Made) : Type 0 where
+  InFlight : IsTrue (is_put_due block (flight_of h)) → IsTrue (answers_alone done)
+      → MayFail block h d done
+  InRead : IsTrue (is_read d.op) → left h ≡ None → leaves d.op done ≡ false
+      → MayFail block h d done
+
+-- Where a step may say that the keeper failed: while something is left to flush, where no put is
+-- due, but a slice's number or a commit; and after that in a read, at a look, as `MovesInRead`
+-- says, or where the operation has a transaction to make.
+pub data MayFailRows (block : ℕ) (h : ClientValue) (d : Doing) : Type 0 where
+  OfSegment : IsTrue (is_some (left h)) → is_put_due block (flight_of h) ≡ false
+      → MayFailRows block h d
+  OfLook : left h ≡ None → IsTrue (is_read d.op) → MayFailRows block h d
+  OfTransaction : left h ≡ None → IsTrue (asks_more h d) → MayFailRows block h d
 
 -- A step that ends the mount drops the cache, and no other one but a read's changes it.
 pub record MovesCache (d : Doing) (h after : ClientValue) (done : Made)
@@ -181,7 +199,8 @@ pub record MovesCache (d : Doing) (h after : ClientValue) (done : Made)
   pub stays : leaves d.op done ≡ false → is_read d.op ≡ false → after.cache ≡ h.cache
   pub reads : leaves d.op done ≡ false → IsTrue (is_read d.op)
       → MovesInRead h d done before used after after.cache
-  pub fails : IsTrue (fails_block done) → MayFail h d done
+  pub fails : IsTrue (fails_block done) → MayFail before.setting.block h d done
+  pub fails_rows : IsTrue (says_failure Keeper done) → MayFailRows before.setting.block h d
 
 -- the cache moves as the operation in progress says, and the answer of its numbers has those
 -- before the step

@@ -13,5 +13,6 @@ pub mod Changing
 pub mod Stats
 pub mod Getting
 pub mod YardUse
+pub mod Failures
 pub mod CacheUse
 pub mod Makes

@@ -5,10 +5,8 @@ use Rattle.jv_model.specs.declared.act.Act.{Act}
 use Rattle.jv_model.specs.declared.act.ActKind.{ActKind}
 use Rattle.jv_model.specs.declared.act.ActKind.TheVariants.{Answered}
 use Rattle.jv_model.specs.declared.act.Told.{Told}
-use Rattle.jv_model.specs.declared.act.Told.TheVariants.{Refused as ToldRefused}
 use Rattle.jv_model.specs.declared.fault.Device.{Device}
 use Rattle.jv_model.specs.declared.fault.Device.TheVariants.{Keeper, Depot, Shelf, Carrier}
-use Rattle.jv_model.specs.declared.fault.Fault.TheVariants.{DeviceFailed}
 use Rattle.jv_model.specs.declared.op.Step.{Step}
 use Rattle.jv_model.specs.declared.op.Step.TheVariants.{More, Done, Broken}
 use Rattle.jv_model.specs.tree.Tree.{Tree}
@@ -26,6 +24,7 @@ use Rattle.jv_client.specs.declared.made.Made.TheVariants as made
 use Rattle.jv_client.specs.CacheUse.{CacheUse}
 use Rattle.jv_client.specs.ClientValue.{ClientValue}
 use Rattle.jv_client.specs.Direct.{KeepsShelf}
+use Rattle.jv_client.specs.Failures.{is_failure_of, says_failure}
 use Rattle.jv_client.specs.Held.{IsClient, Holds, in_flight}
 use Rattle.jv_client.specs.Reading.{put_at}
 use Rattle.jv_client.specs.Stats.{AnswersStats}
@@ -47,25 +46,6 @@ step_of (made.Broken key bytes) = Broken key bytes
 
 abbrev pub entries_of : ℕ → ℕ → ℕ → List ActKind → List Act
 entries_of line now client kinds = map (entry_of line now client) kinds
-
-abbrev pub is_same_device : Device → Device → Bool
-is_same_device Keeper Keeper = true
-is_same_device Depot Depot = true
-is_same_device Shelf Shelf = true
-is_same_device Carrier Carrier = true
-is_same_device _ _ = false
-
--- the answer is that the device failed
-abbrev pub is_failure_of : Device → Told → Bool
-is_failure_of device (ToldRefused (DeviceFailed failed)) = is_same_device device failed
-is_failure_of device _ = false
-
--- an answer without a request is that the device failed
-abbrev pub says_failure : Device → Made → Bool
-says_failure device (made.Request kind) = false
-says_failure device (made.Answer told reply) = is_failure_of device told
-says_failure device (made.Both kind told reply) = false
-says_failure device (made.Broken key bytes) = false
 
 -- an answer says of no device that it failed
 abbrev pub IsCalm : Told → Type 0

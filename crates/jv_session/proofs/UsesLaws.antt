@@ -24,7 +24,8 @@ use Rattle.jv_client.specs.ClientValue.{ClientValue}
 use Rattle.jv_client.specs.YardUse.{YardUse}
 use Rattle.jv_client.specs.declared.made.Made.{Made}
 use Rattle.jv_client.specs.declared.made.Made.TheVariants as made
-use Rattle.jv_client.specs.Makes.{FailsAlone, SaysBad, UsesDevices, entries_of, faults_of, is_failure_entry, is_failure_of, kinds_of, step_of, says_failure}
+use Rattle.jv_client.specs.Failures.{is_failure_of, says_failure}
+use Rattle.jv_client.specs.Makes.{FailsAlone, SaysBad, UsesDevices, entries_of, faults_of, is_failure_entry, kinds_of, step_of}
 use Rattle.jv_session.specs.Stands.{ScheduleValue, IsYardOf}
 use Rattle.jv_session.specs.Direct.{BlocksStay}
 use Rattle.jv_session.specs.Lines.{AnswersSo, LineState, LineUses, StaysPut, AreFailures, device_failures}

@@ -41,5 +41,5 @@ returns-in-Err g c entry keeper =
     c.self.inside.id (ap (λ (h : ClientValue). h.id) c.self.view_is) c.segment-bytes.result.now
     (c.segment-bytes.ensures.bytes
     ∙ ap (λ (h : ClientValue). bytes_of (segment_at c.args.at) h.pending) c.self.view_is)
-    c.in-Err.fault c.in-Err.ensures
+    c.segment-bytes.ensures.len c.requires.there c.in-Err.fault c.in-Err.ensures
     (subst (λ (fault : Fault). Fails fault c.args.self.now c.fail.new.self c.fail.result) c.from.ensures c.fail.ensures)
