@@ -79,8 +79,8 @@ use Rattle.jv_client.proofs.HeldLaws.{doing_of}
 use Rattle.jv_client.proofs.KeptLaws.{cache-goes, held-goes}
 use Rattle.jv_client.proofs.LooksLaws.{looks-on}
 use Rattle.jv_client.proofs.ReadingLaws.{lacks-later}
-use Rattle.jv_client.proofs.ReaderLaws.{IsAsking, busy_in, cached-known, file_by, flushed-asking, handle_in, may_get}
-use Rattle.jv_client.proofs.ReaderLaws.{none_flying, opened_in}
+use Rattle.jv_client.proofs.ReaderLaws.{IsAsking, IsRead, cached-known, file_by, flushed-asking, is_read_in, may_get}
+use Rattle.jv_client.proofs.ReaderLaws.{none_flying}
 use Rattle.jv_client.proofs.GoneOnLaws.{client-on, client-over, falls-on, going_on, none-kept, over, reading-is}
 use Rattle.jv_client.proofs.GoneOnLaws.{ready-on}
 use Rattle.jv_client.proofs.ReadFailedLaws.{failed}
@@ -200,32 +200,21 @@ module _ (now entry block : ℕ) (h : ClientValue) (d : Doing) (offset len : ℕ
     abbrev md : ModelDoing
     md = doing_of d
 
-    busy : m.doing ≡ Some md
-    busy = busy_in h d asks.busy asks.at asks.none offset len asks.reads g before m s.count client
-
-    in_use : file_in_use m md ≡ Some (file_by file)
-    in_use = opened_in h d asks.busy asks.at asks.none offset len asks.reads g before m s.count client
-
-    named : IsHandle g before m.views s.count handle (file_by file) file
-    named = handle_in h d asks.busy asks.at asks.none offset len asks.reads g before m s.count client
-
-    fetching : IsFetching g.blocks file.views (asked_parts offset len) fetch
-    fetching = (asks.goes g before m s.count length_is client).1
-
-    own_block : fetch.block ≡ before.yard.setting.block
-    own_block = (asks.goes g before m s.count length_is client).0
+    here : IsRead g before m s.count d offset len file fetch
+    here = is_read_in asks g before m s.count length_is client
 
     -- a view of the handle names the block
     of_view : IsOfView file.views fetch.block (asked_parts offset len) b
-    of_view = fetches_show.block g.blocks file.views (asked_parts offset len) fetch b asks.wants fetching
+    of_view = fetches_show.block g.blocks file.views (asked_parts offset len) fetch b asks.wants here.fetching
 
     may : MayGet offset len m md 0
     may = may_get h d asks.busy asks.at asks.none offset len asks.reads g before m s.count client
-        (sees_same g before m md s.count (file_by file) file in_use named (asked_parts offset len) of_view.first)
+        (sees_same g before m md s.count (file_by file) file here.in_use here.named (asked_parts offset len)
+        of_view.first)
 
     sized : b ≡ block_at b.id (g.sizes b.id) fetch.block b.index
     sized = fetches_show.block_sized g.sizes file.views fetch.block (asked_parts offset len) b
-        (fetches_show.sized g before m.views s.count handle (file_by file) file named) of_view
+        (fetches_show.sized g before m.views s.count handle (file_by file) file here.named) of_view
 
     -- the depot has what the view names
     names_there : HasNamed before.yard.setting.block (depot_in before) of_view.view.list
@@ -238,12 +227,12 @@ module _ (now entry block : ℕ) (h : ClientValue) (d : Doing) (offset len : ℕ
     got value gets =
         let seen : SamePlace (IsSeen g before of_view.window)
         (fresh_view m.views handle (file_by file) of_view.window) (view_at file.views of_view.window) =
-        named.seen of_view.window in
+        here.named.seen of_view.window in
         let there = there_in (IsSeen g before of_view.window)
         (fresh_view m.views handle (file_by file) of_view.window) (view_at file.views of_view.window) of_view.view
         of_view.seen seen in
         let of : IsNamed of_view.view.list before.yard.setting.block b =
-        subst (λ n. IsNamed of_view.view.list n b) own_block of_view.named in
+        subst (λ n. IsNamed of_view.view.list n b) here.block of_view.named in
         got-block s g before has h.id yard of_view.window of_view.view.length of_view.view.list there.0.content
         there.2.shows names_there b of.r of.there of.some of.below of.is low value gets
 
@@ -254,7 +243,8 @@ module _ (now entry block : ℕ) (h : ClientValue) (d : Doing) (offset len : ℕ
         → Keeps b bytes cache kept → IsCacheOf g.sizes before.yard.setting.block g.blocks kept
     cached-kept bytes kept gets keeps =
         cache_of-keeps g.sizes before.yard.setting.block g.blocks b bytes cache kept keeps (known bytes gets)
-        (subst (λ n. b ≡ block_at b.id (g.sizes b.id) n b.index) own_block sized) (cached-known asks before length_is s g has client)
+        (subst (λ n. b ≡ block_at b.id (g.sizes b.id) n b.index) here.block sized)
+        (cached-known asks before length_is s g has client)
 
   -- the block is needed next
   wanted : WantsBlock before.yard.setting.block h d fetch b cache
@@ -294,7 +284,7 @@ module _ (now entry block : ℕ) (h : ClientValue) (d : Doing) (offset len : ℕ
 
         named-on : IsHandle g used mine.views (s.count + 1) handle (file_by file) file
         named-on = handle-stays s.tree g before has 0 g used stays mine.views s.count (s.count + 1) (omega arith) handle
-            (file_by file) file (named s g has client)
+            (file_by file) file (here s g has client).named
 
         cached-on : IsCacheOf g.sizes used.yard.setting.block g.blocks kept
         cached-on = cache-goes s.tree g before has 0 g used stays (Some kept)
@@ -302,10 +292,10 @@ module _ (now entry block : ℕ) (h : ClientValue) (d : Doing) (offset len : ℕ
 
         fetching-on : IsFetching g.blocks file.views (asked_parts offset len) filled
         fetching-on = fills.reads g.blocks file.views (asked_parts offset len) (known s g has client bytes gets)
-            (fetching s g has client)
+            (here s g has client).fetching
 
         block-on : filled.block ≡ used.yard.setting.block
-        block-on = fills.block ∙ own_block s g has client ∙ sym (ap (λ (x : Setting). x.block) stays.setting)
+        block-on = fills.block ∙ (here s g has client).block ∙ sym (ap (λ (x : Setting). x.block) stays.setting)
 
         idle : in_flight h ≡ 0
         idle = none_flying h d asks.busy asks.at asks.none
@@ -320,7 +310,7 @@ module _ (now entry block : ℕ) (h : ClientValue) (d : Doing) (offset len : ℕ
           request = subst
               (λ n. Request s g g before used h.id now (in_flight h) n (Quiet ∷ []) More s.tree
               (at_stage (ModelReading 0) (doing_of d) mine) s.copied) idle
-              (get-request s g before has h.id yard now (doing_of d) (busy s g has client) offset len asks.does 0
+              (get-request s g before has h.id yard now (doing_of d) (here s g has client).busy offset len asks.does 0
               (may s g has client) (in_flight h) name (Some bytes) gets);
           is_client = client-on block h d offset len cache fetch (NeedsBlock b) asks h.handles file asks.reads.opened refl
               g used mine (s.count + 1) held-on named-on kept cached-on later looks_up filled block-on fetching-on f need
@@ -342,9 +332,9 @@ module _ (now entry block : ℕ) (h : ClientValue) (d : Doing) (offset len : ℕ
           request = subst
               (λ n. Request s g g before used h.id now (in_flight h) n (Quiet ∷ Answered (told_read found) ∷ [])
               (Done (Data found.bytes)) s.tree (after_told d.op (told_read found) mine) s.copied) idle
-              (get-answered s g before has h.id yard now (doing_of d) (busy s g has client) offset len asks.does 0
-              (may s g has client) (in_flight h) name (Some bytes) gets (file_by file) (in_use s g has client) found.first
-              found.second found.bytes
+              (get-answered s g before has h.id yard now (doing_of d) (here s g has client).busy offset len asks.does 0
+              (may s g has client) (in_flight h) name (Some bytes) gets (file_by file) (here s g has client).in_use
+              found.first found.second found.bytes
               (reading-is block h d offset len cache fetch (NeedsBlock b) asks h.handles file asks.reads.opened refl g used
               mine (s.count + 1) held-on named-on kept cached-on later looks_up filled block-on fetching-on found read));
           is_client = client-over block h d offset len cache fetch (NeedsBlock b) asks h.handles file asks.reads.opened

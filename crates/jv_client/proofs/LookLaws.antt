@@ -15,7 +15,7 @@ use Rattle.jv_model.specs.client.ModelClient.{Reading as ModelReading, file_of, 
 use Rattle.jv_model.specs.client.Profile.{handle_of}
 use Rattle.jv_model.specs.journal.Reading.{Asked, asked_parts}
 use Rattle.jv_model.specs.journal.State.{State, after_told, view_now}
-use Rattle.jv_model.specs.journal.Steps.{file_in_use, window_to_look}
+use Rattle.jv_model.specs.journal.Steps.{window_to_look}
 use Rattle.jv_model.specs.client.OpForms.{is_read, is_umount}
 use Rattle.jv_outside.specs.Causes.{RoseIf}
 use Rattle.jv_outside.specs.Store.{Store}
@@ -45,7 +45,6 @@ use Rattle.jv_fetching.specs.Going.{CanFetch, IsFetching}
 use Rattle.jv_fetching.specs.Shows.{IsReadBy}
 use Rattle.jv_fetching.proofs.FetchLaws.{fetches_go_on}
 use Rattle.jv_fetching.proofs.SameLaws.{fetches_show}
-use Rattle.jv_steps.specs.Stages.{MayRead}
 use Rattle.jv_steps.specs.IsStep.{at_stage}
 use Rattle.jv_steps.proofs.LookStepLaws.{window-needed}
 use Rattle.jv_requests.specs.Request.{Request}
@@ -69,8 +68,7 @@ use Rattle.jv_client.proofs.DirectLaws.{direct-looked}
 use Rattle.jv_client.proofs.EndingLaws.{holds-told}
 use Rattle.jv_client.proofs.HeldLaws.{doing_of}
 use Rattle.jv_client.proofs.KeptLaws.{held-goes}
-use Rattle.jv_client.proofs.ReaderLaws.{IsAsking, busy_in, file_by, flushed-asking, handle_in, may_read, none_flying}
-use Rattle.jv_client.proofs.ReaderLaws.{opened_in}
+use Rattle.jv_client.proofs.ReaderLaws.{IsAsking, IsRead, file_by, flushed-asking, is_read_in, none_flying}
 use Rattle.jv_client.proofs.GoneOnLaws.{client-on, client-over, falls-on, going_on, none-kept, over, reading-is}
 use Rattle.jv_client.proofs.GoneOnLaws.{ready-on}
 
@@ -182,20 +180,8 @@ module _ (now entry block : ℕ) (h : ClientValue) (d : Doing) (offset len : ℕ
     abbrev taken : ModelView
     taken = view_now s handle file.inode window
 
-    busy : m.doing ≡ Some md
-    busy = busy_in h d asks.busy asks.at asks.none offset len asks.reads g before m s.count client
-
-    may : MayRead m md 0
-    may = may_read h d asks.busy asks.at asks.none offset len asks.reads g before m s.count client
-
-    in_use : file_in_use m md ≡ Some (file_by file)
-    in_use = opened_in h d asks.busy asks.at asks.none offset len asks.reads g before m s.count client
-
-    named : IsHandle g before m.views s.count handle (file_by file) file
-    named = handle_in h d asks.busy asks.at asks.none offset len asks.reads g before m s.count client
-
-    fetching : IsFetching g.blocks file.views (asked_parts offset len) fetch
-    fetching = (asks.goes g before m s.count length_is client).1
+    here : IsRead g before m s.count d offset len file fetch
+    here = is_read_in asks g before m s.count length_is client
 
     in_rows : LooksAt (session_of m) file.inode window before.keeper keeper (Ok looked)
     in_rows = subst (λ (o : Option ℕ). LooksAt (unwrap_or o 0) file.inode window before.keeper keeper (Ok looked))
@@ -204,13 +190,14 @@ module _ (now entry block : ℕ) (h : ClientValue) (d : Doing) (offset len : ℕ
     -- the model looks at the same window
     to_look : window_to_look m md (file_by file) ≡ Some window
     to_look =
-        window-needed m md 0 offset len asks.does may (file_by file)
-        ∙ sym (fetches_show.same_look g before m.views s.count handle (file_by file) file (asked_parts offset len) named)
-        ∙ fetches_show.look g.blocks file.views (asked_parts offset len) fetch window asks.wants fetching
+        window-needed m md 0 offset len asks.does here.may (file_by file)
+        ∙ sym (fetches_show.same_look g before m.views s.count handle (file_by file) file (asked_parts offset len)
+        here.named)
+        ∙ fetches_show.look g.blocks file.views (asked_parts offset len) fetch window asks.wants here.fetching
 
     still : HoldsSame before used
-    still = looked-still s h.id now md busy offset len asks.does 0 may (file_by file) in_use window to_look g before has
-        keeper 0 (Ok looked) in_rows
+    still = looked-still s h.id now md here.busy offset len asks.does 0 here.may (file_by file) here.in_use
+        window to_look g before has keeper 0 (Ok looked) in_rows
 
     stays : KeepsShared 0 g g before used
     stays = same-stays 0 g before used still
@@ -218,14 +205,14 @@ module _ (now entry block : ℕ) (h : ClientValue) (d : Doing) (offset len : ℕ
     shown : IsView g used window looked.length looked.list taken.content
     shown =
         subst (IsView g used window looked.length looked.list)
-        (sym (looked-content s h.id now md busy offset len asks.does 0 may (file_by file) in_use window to_look g before
-        has keeper 0 looked in_rows))
-        (look-shows s h.id now md busy offset len asks.does 0 may (file_by file) in_use window to_look g before has
-        keeper 0 looked in_rows)
+        (sym (looked-content s h.id now md here.busy offset len asks.does 0 here.may (file_by file) here.in_use
+        window to_look g before has keeper 0 looked in_rows))
+        (look-shows s h.id now md here.busy offset len asks.does 0 here.may (file_by file) here.in_use
+        window to_look g before has keeper 0 looked in_rows)
 
     names_there : HasNamed used.yard.setting.block (depot_in used) looked.list
-    names_there = look-named s h.id now md busy offset len asks.does 0 may (file_by file) in_use window to_look g before has
-        keeper 0 looked in_rows
+    names_there = look-named s h.id now md here.busy offset len asks.does 0 here.may (file_by file) here.in_use
+        window to_look g before has keeper 0 looked in_rows
 
     -- ---- the client in memory stands for the model's then
 
@@ -239,7 +226,7 @@ module _ (now entry block : ℕ) (h : ClientValue) (d : Doing) (offset len : ℕ
           session = goes.session;
           removed = goes.removed;
           handles = handles-looked g used m.views s.count taken view number (sym number) shown m.handles h.handles
-              (file_by file) in_use refl goes.handles;
+              (file_by file) here.in_use refl goes.handles;
           views = views_old;
           pending = goes.pending;
           direct = direct-looked used.yard.setting.block (depot_in used) m.writeback h.handles goes.direct handle window view
@@ -250,16 +237,14 @@ module _ (now entry block : ℕ) (h : ClientValue) (d : Doing) (offset len : ℕ
     named_then =
         handle-looked g used m.views s.count taken view number (sym number) shown handle (file_by file) file refl refl
         (handle-stays s.tree g before has 0 g used stays m.views s.count s.count (omega arith) handle (file_by file) file
-        named)
+        here.named)
 
     cached : IsCacheOf g.sizes used.yard.setting.block g.blocks cache
     cached = (asks.goes g before m s.count length_is client).2
 
     fetching_then : IsFetching g.blocks seen.views (asked_parts offset len) fetch
-    fetching_then = fetches_go_on.seen g.blocks file.views (asked_parts offset len) fetch window view unseen fetching
-
-    own_block : fetch.block ≡ used.yard.setting.block
-    own_block = (asks.goes g before m s.count length_is client).0
+    fetching_then =
+        fetches_go_on.seen g.blocks file.views (asked_parts offset len) fetch window view unseen here.fetching
 
     holds_then : Holds s.tree (record m { views = taken ∷ m.views })
     holds_then = record { opened = holds.opened; pending = holds.pending }
@@ -278,11 +263,11 @@ module _ (now entry block : ℕ) (h : ClientValue) (d : Doing) (offset len : ℕ
         request = subst
             (λ n. Request s g g before used h.id now (in_flight h) n (Look file.inode window ∷ []) More s.tree
             (at_stage (ModelReading 0) md (record m { views = taken ∷ m.views })) s.copied) idle
-            (look-request s h.id now md busy offset len asks.does 0 may (file_by file) in_use window to_look g before has
-            keeper (in_flight h) looked in_rows);
+            (look-request s h.id now md here.busy offset len asks.does 0 here.may (file_by file) here.in_use
+            window to_look g before has keeper (in_flight h) looked in_rows);
         is_client = client-on block h d offset len cache fetch (NeedsLook window) asks handles seen opened refl g used
             (record m { views = taken ∷ m.views }) (s.count + 1) held named_then cache cached later looks_up fetch
-            own_block fetching_then f need goes;
+            here.block fetching_then f need goes;
         holds = record { opened = holds.opened; pending = holds.pending };
       }
 
@@ -301,11 +286,11 @@ module _ (now entry block : ℕ) (h : ClientValue) (d : Doing) (offset len : ℕ
             (λ n. Request s g g before used h.id now (in_flight h) n
             (Look file.inode window ∷ Answered (told_read found) ∷ []) (Done (Data found.bytes)) s.tree
             (after_told d.op (told_read found) (record m { views = taken ∷ m.views })) s.copied) idle
-            (look-answered s h.id now md busy offset len asks.does 0 may (file_by file) in_use window to_look g before
-            has keeper (in_flight h) looked in_rows found.first found.second found.bytes
+            (look-answered s h.id now md here.busy offset len asks.does 0 here.may (file_by file) here.in_use
+            window to_look g before has keeper (in_flight h) looked in_rows found.first found.second found.bytes
             (reading-is block h d offset len cache fetch (NeedsLook window) asks handles seen opened refl g used
             (record m { views = taken ∷ m.views }) (s.count + 1) held named_then cache cached later looks_up fetch
-            own_block fetching_then found read));
+            here.block fetching_then found read));
         is_client = client-over block h d offset len cache fetch (NeedsLook window) asks handles seen opened refl g used
             (record m { views = taken ∷ m.views }) (s.count + 1) held named_then cache cached later looks_up
             (s.count + 2) (omega arith) found;

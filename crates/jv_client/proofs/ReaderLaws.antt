@@ -174,6 +174,28 @@ pub cached-known : {block : ℕ} {h : ClientValue} {d : Doing} {offset len : ℕ
     → IsCacheOf g.sizes before.yard.setting.block g.blocks cache
 cached-known {block} {h} asks before length_is s g has client = (asks.goes g before (s.clients h.id) s.count length_is client).2
 
+-- the model's reading, by what is known
+pub record IsRead (g : Known) (v : Shared) (m : ModelClient) (count : ℕ) (d : Doing) (offset len : ℕ) (file : Handle)
+    (fetch : Fetching) : Type 0 where
+  pub busy : m.doing ≡ Some (doing_of d)
+  pub may : MayRead m (doing_of d) 0
+  pub in_use : file_in_use m (doing_of d) ≡ Some (file_by file)
+  pub named : IsHandle g v m.views count (handle_of d.op) (file_by file) file
+  pub block : fetch.block ≡ v.yard.setting.block
+  pub fetching : IsFetching g.blocks file.views (asked_parts offset len) fetch
+
+pub is_read_in : {block : ℕ} {h : ClientValue} {d : Doing} {offset len : ℕ} {cache : Cached} {fetch : Fetching}
+    {next : Need} → (asks : IsAsking block h d offset len cache fetch next) (g : Known) (v : Shared) (m : ModelClient) (count : ℕ)
+    → v.yard.setting.block ≡ block → IsClient g v m count h → IsRead g v m count d offset len asks.reads.file fetch
+is_read_in {block} {h} {d} {offset} {len} asks g v m count length_is client = record {
+  busy = busy_in h d asks.busy asks.at asks.none offset len asks.reads g v m count client;
+  may = may_read h d asks.busy asks.at asks.none offset len asks.reads g v m count client;
+  in_use = opened_in h d asks.busy asks.at asks.none offset len asks.reads g v m count client;
+  named = handle_in h d asks.busy asks.at asks.none offset len asks.reads g v m count client;
+  block = (asks.goes g v m count length_is client).0;
+  fetching = (asks.goes g v m count length_is client).1;
+}
+
 -- nothing is left to flush
 pub flushed-asking : {block : ℕ} {h : ClientValue} {d : Doing} {offset len : ℕ} {cache : Cached} {fetch : Fetching} {next : Need}
     → IsAsking block h d offset len cache fetch next → left h ≡ None

@@ -21,7 +21,7 @@ use Rattle.jv_model.specs.client.Profile.{handle_of}
 use Rattle.jv_model.specs.journal.Reading.{asked_parts}
 use Rattle.jv_model.specs.tree.Tree.{Tree}
 use Rattle.jv_model.specs.journal.State.{State, after_told}
-use Rattle.jv_model.specs.journal.Steps.{file_in_use, window_to_look}
+use Rattle.jv_model.specs.journal.Steps.{window_to_look}
 use Rattle.jv_model.specs.tree.FileBytes.{length_seen}
 use Rattle.jv_model.specs.client.OpForms.{is_read}
 use Rattle.jv_outside.specs.Causes.{RoseIf}
@@ -33,13 +33,10 @@ use Rattle.jv_shared.specs.Keeping.{KeepsShared}
 use Rattle.jv_shared.specs.Shared.{HasStore, Known, Shared}
 use Rattle.jv_shared.proofs.SameLaws.{same-rows, same-stays}
 use Rattle.jv_handles.specs.declared.handle.Handle.{Handle}
-use Rattle.jv_handles.specs.Held.{IsHandle}
 use Rattle.jv_fetching.specs.declared.need.Need.TheVariants.{Look as NeedsLook}
 use Rattle.jv_fetching.specs.Calls.{IsCacheOf}
 use Rattle.jv_fetching.specs.Fetching.{Fetching}
-use Rattle.jv_fetching.specs.Going.{IsFetching}
 use Rattle.jv_fetching.proofs.SameLaws.{fetches_show}
-use Rattle.jv_steps.specs.Stages.{MayRead}
 use Rattle.jv_steps.proofs.LookStepLaws.{window-needed}
 use Rattle.jv_requests.specs.Request.{Request}
 use Rattle.jv_requests.proofs.LookLaws.{SeesNone, NoSession, NoFile, look-never_bad, look-never_moved, look-refused}
@@ -64,8 +61,8 @@ use Rattle.jv_client.proofs.EndingLaws.{holds-told}
 use Rattle.jv_client.proofs.HeldLaws.{doing_of}
 use Rattle.jv_client.proofs.KeptLaws.{cache-goes, held-goes, told-client}
 use Rattle.jv_client.proofs.WrittenLaws.{names-held}
-use Rattle.jv_client.proofs.ReaderLaws.{IsAsking, asking, busy_in, cached-known, file_by, flushed-asking, handle_in}
-use Rattle.jv_client.proofs.ReaderLaws.{may_read, none_flying, opened_in}
+use Rattle.jv_client.proofs.ReaderLaws.{IsAsking, IsRead, asking, cached-known, file_by, flushed-asking, is_read_in}
+use Rattle.jv_client.proofs.ReaderLaws.{none_flying}
 use Rattle.jv_client.proofs.GoneOnLaws.{over}
 use Rattle.jv_client.proofs.ReadFailedLaws.{failed, held-cache}
 use Rattle.jv_client.proofs.LookLaws.{uses-look}
@@ -152,20 +149,8 @@ module _ (now entry block : ℕ) (h : ClientValue) (d : Doing) (offset len : ℕ
     abbrev md : ModelDoing
     md = doing_of d
 
-    busy : m.doing ≡ Some md
-    busy = busy_in h d asks.busy asks.at asks.none offset len asks.reads g before m s.count client
-
-    may : MayRead m md 0
-    may = may_read h d asks.busy asks.at asks.none offset len asks.reads g before m s.count client
-
-    in_use : file_in_use m md ≡ Some (file_by file)
-    in_use = opened_in h d asks.busy asks.at asks.none offset len asks.reads g before m s.count client
-
-    named : IsHandle g before m.views s.count handle (file_by file) file
-    named = handle_in h d asks.busy asks.at asks.none offset len asks.reads g before m s.count client
-
-    fetching : IsFetching g.blocks file.views (asked_parts offset len) fetch
-    fetching = (asks.goes g before m s.count length_is client).1
+    here : IsRead g before m s.count d offset len file fetch
+    here = is_read_in asks g before m s.count length_is client
 
     in_rows : LooksAt (session_of m) file.inode window before.keeper keeper (Err (RefusedBy fault))
     in_rows =
@@ -174,13 +159,14 @@ module _ (now entry block : ℕ) (h : ClientValue) (d : Doing) (offset len : ℕ
 
     to_look : window_to_look m md (file_by file) ≡ Some window
     to_look =
-        window-needed m md 0 offset len asks.does may (file_by file)
-        ∙ sym (fetches_show.same_look g before m.views s.count handle (file_by file) file (asked_parts offset len) named)
-        ∙ fetches_show.look g.blocks file.views (asked_parts offset len) fetch window asks.wants fetching
+        window-needed m md 0 offset len asks.does here.may (file_by file)
+        ∙ sym (fetches_show.same_look g before m.views s.count handle (file_by file) file (asked_parts offset len)
+        here.named)
+        ∙ fetches_show.look g.blocks file.views (asked_parts offset len) fetch window asks.wants here.fetching
 
     holdable : IsHoldable s.tree file.inode
     holdable =
-        let inode : inode_at m handle ≡ file.inode = ap inode_in in_use in
+        let inode : inode_at m handle ≡ file.inode = ap inode_in here.in_use in
         subst (IsHoldable s.tree) inode
         (holds.opened (inode_at m handle)
         (names-held g before m s.count h handle file client.held asks.reads.opened))
@@ -206,8 +192,8 @@ module _ (now entry block : ℕ) (h : ClientValue) (d : Doing) (offset len : ℕ
           (λ n. Request s g g before used h.id now (in_flight h) n (Quiet ∷ Answered (ToldRefused fault) ∷ [])
           (Done (Refused fault)) s.tree (after_told d.op (ToldRefused fault) m) s.copied)
           (none_flying h d asks.busy asks.at asks.none ∙ sym none_flies)
-          (look-refused s h.id now md busy offset len asks.does 0 may (file_by file) in_use window to_look g before has
-          keeper (in_flight h) holdable fault in_rows);
+          (look-refused s h.id now md here.busy offset len asks.does 0 here.may (file_by file) here.in_use
+          window to_look g before has keeper (in_flight h) holdable fault in_rows);
       is_client = told-client g used (s.count + 2) d.op (ToldRefused fault) m c refl
           (held-goes s.tree g before has 0 g used stays m s.count (s.count + 2) c (omega arith)
           (held-cache g before m s.count h c.cache c.doing client.held))
