@@ -65,17 +65,6 @@ fn wanted(position: u64) -> u8 {
     }
 }
 
-fn is_as_wanted(bytes: &[u8], from: u64) -> bool
-    requires { from < 2 ^ 60 }
-{
-    for at in 0..bytes.len() {
-        if bytes[at] != wanted(from + at as u64) {
-            return false;
-        }
-    }
-    true
-}
-
 #[test]
 fn a_part_is_read_from_its_blocks(rt: HostRuntime) -> Result<(), Fail> {
     let list = written(rt.alloc())?;
@@ -103,7 +92,9 @@ fn a_part_is_read_from_its_blocks(rt: HostRuntime) -> Result<(), Fail> {
         let (asked, bytes) = read(rt.alloc(), &list, from, to)?;
         assert_eq!(rt; asked.as_slice(), blocks, "{row}");
         assert_eq!(rt; bytes.len(), (to - from) as usize, "{row}");
-        assert!(rt; is_as_wanted(bytes.as_slice(), u64::from(from)), "{row}");
+        for (position, byte) in (u64::from(from)..).zip(bytes.as_slice()) {
+            assert_eq!(rt; *byte, wanted(position), "{row}");
+        }
     }
     Ok(())
 }
