@@ -1,11 +1,10 @@
 //! The program: its words and the process's own streams and clock, handed to `jv_cmd`.
 #![tactic(auto)]
 
-use jv_cmd::{Finish, OUT_OF_MEMORY, WORDS_REFUSED, World, run};
+use jv_cmd::{Finish, World, give_up, refuse, run};
 use jv_model::{Down, Journal, Moment, Sequence};
 use jv_outside::{
     Fails, Keeper, MemCarrier, MemDepot, MemKeeper, MemShelf, Reading, Sink, Ticking, Writing,
-    write_whole,
 };
 use jv_rows::{default_setting, fresh_rows};
 use std::alloc::Global;
@@ -33,19 +32,13 @@ fn keeper(alloc: Global) -> Result<MemKeeper, Down> {
     Ok(keeper)
 }
 
-/// Writes that the process is out of memory, and returns the exit status.
-fn give_up(err: &mut impl Sink) -> u8 {
-    let _ = write_whole(err, b"juicevol: out of memory\n");
-    OUT_OF_MEMORY
-}
-
-/// Writes why there are no words, and returns the exit status.
-fn refuse(error: &io::Error, err: &mut impl Sink) -> u8 {
+/// Says why there are no words, and returns the exit status.
+fn without_words(error: &io::Error, err: &mut impl Sink) -> u8 {
     if error.kind() == io::ErrorKind::OutOfMemory {
-        return give_up(err);
+        give_up(err)
+    } else {
+        refuse(err)
     }
-    let _ = write_whole(err, b"juicevol: words refused\n");
-    WORDS_REFUSED
 }
 
 fn main(rt: HostRuntime) -> ExitCode {
@@ -53,7 +46,7 @@ fn main(rt: HostRuntime) -> ExitCode {
     let mut err = Writing::new(rt.stderr());
     let words = match words(&rt) {
         Ok(words) => words,
-        Err(error) => return ExitCode::from(refuse(&error, &mut err)),
+        Err(error) => return ExitCode::from(without_words(&error, &mut err)),
     };
     let Ok(carrier) = Box::new(alloc, MemCarrier::new(alloc, never(alloc))) else {
         return ExitCode::from(give_up(&mut err));

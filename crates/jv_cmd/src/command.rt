@@ -11,7 +11,7 @@ ghost use Rattle.jv_cmd.specs.Words.{IsAllowedCommand};
 use crate::blocks::{attach_all, ended_by_yard};
 use crate::bounds::limits_of;
 use crate::drawn::run_drawn;
-use crate::ended::{Ended, report, say};
+use crate::ended::{Ended, give_up, report, say};
 use crate::format::run_format;
 use crate::lines::run_script;
 use crate::stage::{ObservedStage, RunStage};
@@ -74,8 +74,7 @@ pub fn run<S: Source, O: Sink, E: Sink, K: Keeper, D: Depot, H: Shelf, C: Clock>
             Finish { status, world }
         }
         Err(WordsFault::Memory) => {
-            report(&Ended::OutOfMemory, &mut world.err);
-            let status = Ended::OutOfMemory.status();
+            let status = give_up(&mut world.err);
             Finish { status, world }
         }
     }

@@ -3,6 +3,7 @@ ghost use Rattle.std.specs.List.{flat_map};
 ghost use Rattle.jv_model.specs.script.Printed.{hex_pair};
 ghost use Rattle.jv_cmd.specs.Ends.{status_of, message_of, key_text, digits_or_dash};
 ghost use Rattle.jv_cmd.specs.Saying.{Says};
+ghost use Rattle.jv_cmd.specs.declared.ended.Ended.TheVariants.{OutOfMemory};
 ghost use Rattle.jv_outside.specs.Stream.{WritesAll};
 
 use itoa::Buffer;
@@ -88,6 +89,16 @@ pub(crate) fn report<E: Sink>(ended: &Ended, err: &mut E)
         Ended::ShelfFailed => say(b"juicevol: shelf failed\n", err),
         Ended::OutOfMemory => say(b"juicevol: out of memory\n", err),
     }
+}
+
+/// Says on standard error that the process is out of memory, and returns the exit status. Takes no memory. A fault there
+/// is passed over.
+pub fn give_up<E: Sink>(err: &mut E) -> u8
+    ensures says { Says (E.seen err.old) (E.seen err.new) (message_of OutOfMemory) }
+    ensures status { result ≡ status_of OutOfMemory }
+{
+    report(&Ended::OutOfMemory, err);
+    Ended::OutOfMemory.status()
 }
 
 /// Writes a text to standard error. A fault there is passed over.

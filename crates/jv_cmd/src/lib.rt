@@ -15,5 +15,6 @@ mod words;
 mod world;
 
 pub use command::{WORDS_REFUSED, run};
-pub use ended::OUT_OF_MEMORY;
+pub use ended::{OUT_OF_MEMORY, give_up};
+pub use words::refuse;
 pub use world::{Finish, Observed, World};

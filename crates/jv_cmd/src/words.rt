@@ -6,4 +6,5 @@ mod request;
 mod values;
 
 pub(crate) use read::read_words;
+pub use refusal::refuse;
 pub(crate) use request::{Command, SessionOptions, WordsFault};

@@ -1,19 +1,36 @@
 ghost use Rattle.std.specs.Prelude.{◌≡◌, IfOk, string_bytes};
 ghost use Rattle.clap.specs.Words.{kind_of};
 ghost use Rattle.clap.specs.declared.error.kind.ErrorKind.TheVariants.{OutOfMemory};
-ghost use Rattle.jv_cmd.specs.Saying.{EndsInFeed};
-ghost use Rattle.jv_cmd.specs.Words.{HasFeed, SaysRefused};
+ghost use Rattle.jv_cmd.specs.declared.command.TheConstants.{WORDS_REFUSED};
+ghost use Rattle.jv_cmd.specs.Saying.{EndsInFeed, Says};
+ghost use Rattle.jv_cmd.specs.Words.{HasFeed, SaysRefused, refused_text};
 
 use super::request::WordsFault;
+use crate::command::WORDS_REFUSED;
+use crate::ended::say;
 use clap::Error;
 use clap::error::ErrorKind;
+use jv_outside::Sink;
 use std::alloc::{AllocError, Global};
+
+/// The text of a refusal that says nothing of the words.
+const REFUSED: &str = "juicevol: words refused\n";
+
+/// Says on standard error that the words are refused, and returns the exit status, [`WORDS_REFUSED`]. A fault there is
+/// passed over.
+pub fn refuse<E: Sink>(err: &mut E) -> u8
+    ensures says { Says (E.seen err.old) (E.seen err.new) refused_text }
+    ensures status { result ≡ WORDS_REFUSED }
+{
+    say(REFUSED.as_bytes(), err);
+    WORDS_REFUSED
+}
 
 /// The refusal of words that `clap` takes.
 pub(crate) fn refused(alloc: Global) -> WordsFault
     ensures { SaysRefused result }
 {
-    match String::from_str(alloc, "juicevol: words refused\n") {
+    match String::from_str(alloc, REFUSED) {
         Ok(text) => WordsFault::Refused(text),
         Err(_) => WordsFault::Memory,
     }

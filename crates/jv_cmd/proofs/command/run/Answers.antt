@@ -61,9 +61,8 @@ returns-in-Err-Memory g c =
     ((goal.Carrier-dyn g (w.carrier.vtable, w.carrier.value)).seen w.carrier.value) in
     let before : List Act → WorldValue = λ acts. world_value (g.S.Source.seen w.source) (g.O.Sink.seen w.out)
     (g.E.Sink.seen w.err) (g.K.Keeper.seen w.keeper) blocks (g.C.Clock.seen w.clock) acts in
-    let err = g.E.Sink.seen c.report-in-Err-Memory.new.err in
-    let status = c.status-status-in-Err-Memory.result in
-    subst (λ acts. RunsAsked words (asked words) (before []) (record (before acts) { err = err }) status)
+    let err = g.E.Sink.seen c.give_up-status.new.err in
+    subst (λ acts. RunsAsked words (asked words) (before []) (record (before acts) { err = err }) c.give_up-status.result)
     (sym c.clear.ensures)
-    (RunsAsked-unread words (asked words) (before []) err status c.report-in-Err-Memory.ensures
-    c.status-status-in-Err-Memory.ensures)
+    (RunsAsked-unread words (asked words) (before []) err c.give_up-status.result c.give_up-status.ensures.says
+    c.give_up-status.ensures.status)
