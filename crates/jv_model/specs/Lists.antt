@@ -1,5 +1,5 @@
 -- Lists of any items, and the parts of a text.
-use Rattle.std.specs.Prelude.{ℕ, zero, suc, Bool, true, false, not, ◌==◌, List, [], ◌∷◌, slice_get, Option, None, Some}
+use Rattle.std.specs.Prelude.{ℕ, zero, suc, ◌<◌, Bool, true, false, not, ◌==◌, List, [], ◌∷◌, slice_get, slice_index, Option, None, Some}
 use Rattle.std.specs.List.{list_all, list_any, slice_split}
 
 -- a list without items
@@ -43,3 +43,7 @@ abbrev pub numbers_of : {A : Type 0} → (A → ℕ) → List (Option A) → Lis
 numbers_of number [] = []
 numbers_of number (None ∷ items) = numbers_of number items
 numbers_of number (Some item ∷ items) = number item ∷ numbers_of number items
+
+-- numbers of 8 bits; past the end a list reads 0
+abbrev pub AreBytes : List ℕ → Type 0
+AreBytes bytes = (i : ℕ) → slice_index bytes i < 256

@@ -1,7 +1,7 @@
 //! Refusals, and the errors of devices, readings and transactions.
-use crate::bytes::Bytes;
 use crate::row::RowKey;
 use crate::slice::List;
+use crate::texts::Bytes;
 use std::alloc::AllocError;
 use thiserror::Error;
 

@@ -4,7 +4,6 @@
 
 mod act;
 mod basics;
-mod bytes;
 mod fault;
 mod journal;
 pub mod lifetimes;
@@ -13,32 +12,112 @@ mod op;
 pub mod options;
 mod profile;
 mod row;
+mod row_bytes;
 mod sequence;
 mod setting;
 mod slice;
 mod spelled;
 pub mod tables;
+mod texts;
 
-pub use act::{Act, ActKind, NO_CLIENT, Told};
-pub use basics::{ClientId, How, InodeList, Limits, Moment, Who};
-pub use bytes::{Bytes, Name, Path, Text, copied, has_no_zero};
-pub use fault::{Busy, Device, Down, Fault, Gone, RowFault, TxFault};
+pub use act::Act;
+pub use act::ActKind;
+pub use act::NO_CLIENT;
+pub use act::Told;
+pub use basics::ClientId;
+pub use basics::How;
+pub use basics::InodeList;
+pub use basics::Limits;
+pub use basics::Moment;
+pub use basics::Who;
+pub use fault::Busy;
+pub use fault::Device;
+pub use fault::Down;
+pub use fault::Fault;
+pub use fault::Gone;
+pub use fault::RowFault;
+pub use fault::TxFault;
 pub use journal::Journal;
-pub use limits::{
-    CLIENTS, DEFAULT_BLOCK, DEFAULT_BUFFER, DIRECTORY_LENGTH, FILE_END, FULL_COUNT, FULL_MODE, GIB,
-    KIB, LAST_CLIENT, LAST_MOMENT, MAX_BLOCK, MAX_BLOCKS, MAX_BUCKET, MAX_CAPACITY, MAX_DATA,
-    MAX_HANDLES, MAX_ITEMS, MAX_LINE, MAX_LINES, MAX_LINKS, MAX_MISSES, MAX_MODE, MAX_NAME,
-    MAX_PATH, MAX_SYMLINKS, MAX_TICK, MAX_TRASH_DAYS, MAX_VOLUME_NAME, MIB, MIN_BLOCK,
-    MIN_VOLUME_NAME, READ_ONLY_MODE, ROOT, SPACE_UNIT, TRASH_ROOT, WINDOW,
-};
-pub use op::{Line, Op, Reply, Step};
-pub use profile::{Answer, Does, Flushes, Handles, Profile};
-pub use row::{
-    Counters, Dead, Dropped, Edge, Finding, Findings, Node, Row, RowKey, RowList, Rows, Session,
-    SliceRow,
-};
-pub use sequence::{Sequence, push_in_room};
-pub use setting::{Attr, FileKind, Setting, Space};
-pub use slice::{
-    BlockId, BlockKeys, EntryList, List, NameList, Piece, Pieces, Rec, Seen, SeenList, Spot,
-};
+pub use limits::CLIENTS;
+pub use limits::DEFAULT_BLOCK;
+pub use limits::DEFAULT_BUFFER;
+pub use limits::DIRECTORY_LENGTH;
+pub use limits::FILE_END;
+pub use limits::FULL_COUNT;
+pub use limits::FULL_MODE;
+pub use limits::GIB;
+pub use limits::KIB;
+pub use limits::LAST_CLIENT;
+pub use limits::LAST_MOMENT;
+pub use limits::MAX_BLOCK;
+pub use limits::MAX_BLOCKS;
+pub use limits::MAX_BUCKET;
+pub use limits::MAX_CAPACITY;
+pub use limits::MAX_DATA;
+pub use limits::MAX_HANDLES;
+pub use limits::MAX_ITEMS;
+pub use limits::MAX_LINE;
+pub use limits::MAX_LINES;
+pub use limits::MAX_LINKS;
+pub use limits::MAX_MISSES;
+pub use limits::MAX_MODE;
+pub use limits::MAX_NAME;
+pub use limits::MAX_PATH;
+pub use limits::MAX_SYMLINKS;
+pub use limits::MAX_TICK;
+pub use limits::MAX_TRASH_DAYS;
+pub use limits::MAX_VOLUME_NAME;
+pub use limits::MIB;
+pub use limits::MIN_BLOCK;
+pub use limits::MIN_VOLUME_NAME;
+pub use limits::READ_ONLY_MODE;
+pub use limits::ROOT;
+pub use limits::SPACE_UNIT;
+pub use limits::TRASH_ROOT;
+pub use limits::WINDOW;
+pub use op::Line;
+pub use op::Op;
+pub use op::Reply;
+pub use op::Step;
+pub use profile::Answer;
+pub use profile::Does;
+pub use profile::Flushes;
+pub use profile::Handles;
+pub use profile::Profile;
+pub use row::Counters;
+pub use row::Dead;
+pub use row::Dropped;
+pub use row::Edge;
+pub use row::Finding;
+pub use row::Findings;
+pub use row::Node;
+pub use row::Row;
+pub use row::RowKey;
+pub use row::RowList;
+pub use row::Rows;
+pub use row::Session;
+pub use row::SliceRow;
+pub use row_bytes::RowBytes;
+pub use sequence::Sequence;
+pub use sequence::push_in_room;
+pub use setting::Attr;
+pub use setting::FileKind;
+pub use setting::Setting;
+pub use setting::Space;
+pub use slice::BlockId;
+pub use slice::BlockKeys;
+pub use slice::EntryList;
+pub use slice::List;
+pub use slice::NameList;
+pub use slice::Piece;
+pub use slice::Pieces;
+pub use slice::Rec;
+pub use slice::Seen;
+pub use slice::SeenList;
+pub use slice::Spot;
+pub use texts::Bytes;
+pub use texts::Name;
+pub use texts::Path;
+pub use texts::Text;
+pub use texts::copied;
+pub use texts::has_no_zero;

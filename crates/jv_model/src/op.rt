@@ -1,10 +1,10 @@
 //! Operations, lines of a script, and replies.
 use crate::basics::{ClientId, How};
-use crate::bytes::{Bytes, Path};
 use crate::fault::Fault;
 use crate::row::RowKey;
 use crate::setting::{Attr, Space};
 use crate::slice::{BlockId, EntryList};
+use crate::texts::{Bytes, Path};
 
 /// An operation of a client. Handles are the numbers that `create` and `open` returned; offsets, positions and lengths
 /// are in bytes.

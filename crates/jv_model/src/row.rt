@@ -1,10 +1,11 @@
 //! The rows of a volume's metadata, a type for each table. Their fields have the widths of the stored numbers.
 ghost use Rattle.std.specs.Prelude.{◌≡◌, IfOk};
 
-use crate::bytes::{Bytes, Name, copied};
+use crate::row_bytes::RowBytes;
 use crate::sequence::Sequence;
 use crate::setting::Setting;
 use crate::slice::List;
+use crate::texts::{Bytes, Name, copied};
 use std::alloc::{AllocError, Global};
 
 /// The key of a row: its table and two parts, of which some tables use one. Keys go by table, number and bytes.
@@ -32,7 +33,7 @@ impl RowKey {
 }
 
 /// Rows with their bytes.
-pub type Rows = Sequence<(RowKey, Bytes)>;
+pub type Rows = Sequence<(RowKey, RowBytes)>;
 
 /// The next numbers and the running totals.
 #[derive(Clone, Copy, Debug, PartialEq, Eq)]

@@ -1,6 +1,6 @@
 //! A volume's setting, and what `stat` and `statfs` return.
-use crate::bytes::{Text, copied};
 use crate::limits::{FULL_COUNT, GIB};
+use crate::texts::{Text, copied};
 use std::alloc::{AllocError, Global};
 
 /// What a volume was formatted with.

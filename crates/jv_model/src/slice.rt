@@ -1,7 +1,7 @@
 //! Records of a window's list, the pieces that a reader sees, and blocks.
 use crate::basics::Moment;
-use crate::bytes::Name;
 use crate::sequence::Sequence;
+use crate::texts::Name;
 
 /// One contiguous write inside a window: the positions from `pos` on show the bytes of a slice from `off` on.
 #[derive(Clone, Copy, Debug, PartialEq, Eq)]

@@ -2,9 +2,9 @@
 ghost use Rattle.std.specs.Prelude.{◌≡◌};
 ghost use Rattle.jv_model.specs.script.Spelled.{is_spelled};
 
-use crate::bytes::has_no_zero;
 use crate::limits::MAX_MODE;
 use crate::op::Op;
+use crate::texts::has_no_zero;
 
 impl Op {
     /// Whether what the operation writes is spelled as a line can spell it: paths and targets without the byte 0,

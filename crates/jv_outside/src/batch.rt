@@ -1,14 +1,14 @@
 ghost use Rattle.std.specs.Prelude.{◌≡◌, ◌^◌, ◌<◌, [], ◌∷◌, ◌++◌, length, OnOk, OnErr, IsTrue, ◌↔◌};
 
-use jv_model::{Bytes, RowKey, Sequence};
+use jv_model::{RowBytes, RowKey, Sequence};
 use std::alloc::{AllocError, Global};
 use std::marker::Model;
 
 /// A change of one row.
-#[derive(Debug, Drop, PartialEq, Eq)]
+#[derive(Debug, Drop)]
 pub enum Change {
     /// The row has these bytes from then on, whether it was there or not.
-    Put(RowKey, Bytes),
+    Put(RowKey, RowBytes),
     /// The row is gone from then on, whether it was there or not.
     Del(RowKey),
 }
@@ -41,7 +41,7 @@ impl Batch {
     }
 
     /// Adds that the row has these bytes from then on. Out of memory, nothing has changed.
-    pub fn put(&mut self, key: RowKey, bytes: Bytes) -> Result<(), AllocError>
+    pub fn put(&mut self, key: RowKey, bytes: RowBytes) -> Result<(), AllocError>
         ensures ok { OnOk result (self.new ≡ self.old ++ Put key bytes ∷ []) }
         ensures err { OnErr result (self.new ≡ self.old) }
     {

@@ -2,7 +2,7 @@ ghost use Rattle.std.specs.Option.{option_copied};
 ghost use Rattle.jv_outside.specs.Store.{Store, Opens, Finds, Scans, Commits};
 
 use crate::batch::Batch;
-use jv_model::{Bytes, Down, RowKey, Rows, Text};
+use jv_model::{Down, RowBytes, RowKey, Rows, Text};
 
 /// Where the rows of a volume's metadata are kept, each with its bytes at its key (JuiceFS, Architecture: metadata
 /// engine).
@@ -19,7 +19,7 @@ pub trait Keeper {
         ensures { Opens (seen self.old) (seen self.new) result place.now };
 
     /// The bytes at a key, or None if and only if there is no such row.
-    fn get(&mut self, key: &RowKey) -> Result<Option<Bytes>, Down>
+    fn get(&mut self, key: &RowKey) -> Result<Option<RowBytes>, Down>
         ensures { Finds (seen self.old) (seen self.new) result key.now };
 
     /// The first `n` rows of a table after a key, or from the table's first row on, in the order of their keys. They are

@@ -13,7 +13,7 @@ use crate::batch::Batch;
 use crate::calls::{Calls, Fails};
 use crate::keeper::Keeper;
 use crate::store::RowStore;
-use jv_model::{Bytes, Down, RowKey, Rows, Text, copied};
+use jv_model::{Down, RowBytes, RowKey, Rows, Text, copied};
 use std::alloc::Global;
 use std::marker::Model;
 
@@ -67,7 +67,7 @@ impl Keeper for MemKeeper {
         Ok(())
     }
 
-    fn get(&mut self, key: &RowKey) -> Result<Option<Bytes>, Down>
+    fn get(&mut self, key: &RowKey) -> Result<Option<RowBytes>, Down>
         ensures finds { Finds (store_of self.old) (store_of self.new) result key.now }
         ensures fails { (result ≡ Err Failed) ↔ IsTrue (fails_next self.old.calls) }
         ensures calls { self.new.calls ≡ after_call (fails_next self.old.calls) self.old.calls }
@@ -142,7 +142,7 @@ impl Keeper for NeverKeeper {
         Ok(())
     }
 
-    fn get(&mut self, key: &RowKey) -> Result<Option<Bytes>, Down>
+    fn get(&mut self, key: &RowKey) -> Result<Option<RowBytes>, Down>
         ensures finds { Finds (never_failing_store self.old) (never_failing_store self.new)
             result key.now }
         ensures memory { IfErr result (λ e. e ≡ Memory) }

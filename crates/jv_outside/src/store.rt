@@ -10,8 +10,7 @@ ghost use Rattle.jv_outside.specs.Stored.{stored, IsSettled, scan_start};
 
 use crate::batch::{Batch, Change};
 use crate::lazy_tree::LazyTree;
-use jv_model::tables::RECORD_LENGTH;
-use jv_model::{Bytes, RowKey, Rows, Sequence, copied, push_in_room};
+use jv_model::{RowBytes, RowKey, Rows, Sequence, push_in_room};
 use std::alloc::{AllocError, Global};
 use std::collections::VecDeque;
 use std::collections::btree_map::Range;
@@ -20,9 +19,9 @@ use std::ops::Bound;
 /// Rows by their keys. Those that it was given and changes that wait are brought into its tree by the next call.
 #[derive(Debug, Drop)]
 pub(crate) struct RowStore {
-    tree: LazyTree<RowKey, Bytes>,
+    tree: LazyTree<RowKey, RowBytes>,
     // Rows that aren't in the tree yet. Of rows with one key the first stands, and before one in the tree.
-    listed: Vec<(RowKey, Bytes)>,
+    listed: Vec<(RowKey, RowBytes)>,
     // Changes that were made and aren't in the tree yet.
     waiting: VecDeque<Change>,
     alloc: Global,
@@ -42,13 +41,13 @@ impl RowStore {
     }
 
     /// The bytes at a key.
-    pub(crate) fn get(&mut self, key: &RowKey) -> Result<Option<Bytes>, AllocError>
+    pub(crate) fn get(&mut self, key: &RowKey) -> Result<Option<RowBytes>, AllocError>
         ensures same { stored self.new ≡ stored self.old }
         ensures value { IfOk result (λ value. value ≡ get (stored self.old) key.now) }
     {
         self.settle()?;
         match self.tree.get(key) {
-            Some(bytes) => Ok(Some(copied_with_room(self.alloc, bytes.as_slice())?)),
+            Some(bytes) => Ok(Some(bytes.shared()?)),
             None => Ok(None),
         }
     }
@@ -130,7 +129,7 @@ impl RowStore {
 }
 
 /// Makes a change in a tree. Out of memory, nothing has changed, and it returns the change.
-fn make(tree: &mut LazyTree<RowKey, Bytes>, change: Change) -> Result<(), Change>
+fn make(tree: &mut LazyTree<RowKey, RowBytes>, change: Change) -> Result<(), Change>
     ensures ok { OnOk result (row_map (entries_in tree.new)
         ≡ after_change change (row_map (entries_in tree.old))) }
     ensures err { OnErr result (entries_in tree.new ≡ entries_in tree.old) }
@@ -162,7 +161,7 @@ fn start<'a>(first: &'a RowKey, after: Option<&'a RowKey>) -> Bound<&'a RowKey>
 /// Copies of the first `n` of these rows, up to one of another table.
 fn copied_rows(
     alloc: Global,
-    rows: Range<'_, RowKey, Bytes>,
+    rows: Range<'_, RowKey, RowBytes>,
     tab: u8,
     n: u32,
 ) -> Result<Rows, AllocError>
@@ -174,7 +173,7 @@ fn copied_rows(
         if key.tab != tab || found.len() >= n as usize {
             break;
         }
-        found.push((key.copied(alloc)?, copied(alloc, bytes.as_slice())?))?;
+        found.push((key.copied(alloc)?, bytes.shared()?))?;
     }
     Ok(found)
 }
@@ -183,7 +182,7 @@ fn copied_rows(
 fn copied_changes(alloc: Global, changes: &[Change]) -> Result<VecDeque<Change>, AllocError>
     ensures { IfOk result (λ copies. copies.items ≡ changes.now) }
 {
-    let mut copies = VecDeque::new(alloc);
+    let mut copies = VecDeque::with_capacity(alloc, changes.len())?;
     for change in changes {
         copies.push_back(copied_change(alloc, change)?)?;
     }
@@ -195,18 +194,7 @@ fn copied_change(alloc: Global, change: &Change) -> Result<Change, AllocError>
     ensures { IfOk result (λ copy. copy ≡ change.now) }
 {
     Ok(match change {
-        Change::Put(key, bytes) => {
-            Change::Put(key.copied(alloc)?, copied(alloc, bytes.as_slice())?)
-        }
+        Change::Put(key, bytes) => Change::Put(key.copied(alloc)?, bytes.shared()?),
         Change::Del(key) => Change::Del(key.copied(alloc)?),
     })
-}
-
-/// A copy of a row's bytes with room for a record more: what a list gets behind it needs no other place.
-fn copied_with_room(alloc: Global, bytes: &[u8]) -> Result<Bytes, AllocError>
-    ensures { IfOk result (λ copy. copy ≡ bytes.now) }
-{
-    let mut copy = Vec::with_capacity(alloc, bytes.len().saturating_add(RECORD_LENGTH))?;
-    copy.extend_from_slice(bytes)?;
-    Ok(Sequence::from_vec(copy))
 }

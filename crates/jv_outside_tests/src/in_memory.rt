@@ -1,7 +1,7 @@
 //! Each device in memory: its short reads and writes, and its failing calls. Out of memory a check is false, too.
 ghost use Rattle.std.specs.Prelude.{◌<◌};
 
-use jv_model::{Bytes, Down, Moment, RowKey, Rows, Sequence, copied};
+use jv_model::{Down, Moment, RowBytes, RowKey, Rows, Sequence, copied};
 use jv_outside::{
     Batch, Clock, Keeper, MemClock, MemKeeper, MemSink, MemSource, NeverClock, NeverKeeper,
     NeverSink, NeverSource, Sink, Source, write_whole,
@@ -128,10 +128,10 @@ fn key(alloc: Global, tab: u8, a: u64, b: &[u8]) -> Result<RowKey, AllocError> {
 /// A row's table, the number and the bytes of its key, and its own bytes.
 type Row = (u8, u64, &'static [u8], &'static [u8]);
 
-fn row(alloc: Global, shown: Row) -> Result<(RowKey, Bytes), AllocError> {
+fn row(alloc: Global, shown: Row) -> Result<(RowKey, RowBytes), AllocError> {
     let (tab, a, b, bytes) = shown;
     let key = key(alloc, tab, a, b)?;
-    Ok((key, copied(alloc, bytes)?))
+    Ok((key, RowBytes::from_bytes(copied(alloc, bytes)?)?))
 }
 
 fn rows(alloc: Global, all: &[Row]) -> Result<Rows, AllocError> {
@@ -170,13 +170,27 @@ fn opens<K: Keeper>(alloc: Global, keeper: &mut K) -> bool {
     keeper.attach(&place).is_ok()
 }
 
+/// Whether the bytes of a row are these.
+fn has_bytes(alloc: Global, row: &RowBytes, bytes: &[u8]) -> bool {
+    match row.joined(alloc) {
+        Ok(found) => found.as_slice() == bytes,
+        Err(_) => false,
+    }
+}
+
+fn is_row(alloc: Global, found: &(RowKey, RowBytes), shown: &Row) -> bool {
+    let (tab, a, b, bytes) = *shown;
+    let key = &found.0;
+    key.tab == tab && key.a == a && key.b.as_slice() == b && has_bytes(alloc, &found.1, bytes)
+}
+
 /// Whether a keeper finds the row 1 of table 3.
 fn finds<K: Keeper>(alloc: Global, keeper: &mut K) -> bool {
     let Ok(key) = key(alloc, 3, 1, b"a") else {
         return false;
     };
     match keeper.get(&key) {
-        Ok(Some(found)) => found.as_slice() == b"one".as_slice(),
+        Ok(Some(found)) => has_bytes(alloc, &found, b"one"),
         _ => false,
     }
 }
@@ -189,10 +203,11 @@ fn scans<K: Keeper>(
     n: u32,
     all: &[Row],
 ) -> bool {
-    let Ok(rows) = rows(alloc, all) else {
+    let Ok(rows) = keeper.scan(3, after, n) else {
         return false;
     };
-    keeper.scan(3, after, n) == Ok(rows)
+    let mut pairs = rows.as_slice().iter().zip(all.iter());
+    rows.len() == all.len() && pairs.all(|pair| is_row(alloc, pair.0, pair.1))
 }
 
 fn scans_all<K: Keeper>(alloc: Global, keeper: &mut K) -> bool {

@@ -7,7 +7,8 @@ use Rattle.jv_model.specs.declared.row.Row.TheVariants.{OfSetting, OfCounters, O
 use Rattle.jv_model.specs.rows.RowGrammar.{row_of, row_bytes, is_row}
 use Rattle.jv_rows.specs.declared.misread.Misread.{Misread}
 use Rattle.jv_rows.specs.Reads.{ReadsAs, IsSpelled}
-use Rattle.jv_rows.specs.RoundTrips.{AreBytes, IsExact}
+use Rattle.jv_model.specs.Lists.{AreBytes}
+use Rattle.jv_rows.specs.RoundTrips.{IsExact}
 use Rattle.jv_rows.proofs.ExactRowLaws.{setting_exact, counters_exact, node_exact, edge_exact, slice_exact, session_exact, sustained_exact, dropped_exact, dead_exact}
 use Rattle.jv_rows.proofs.ExactListLaws.{list_exact}
 

@@ -1,5 +1,5 @@
 -- One more record in a list: how its bytes are gone over, what is spelled with the record behind, and what becomes of the draft.
-use Rattle.std.proofs.Common.{◌≡◌, ℕ, suc, ◌+◌, ◌-◌, ◌/◌, ◌<◌, ◌≤◌, ◌≢◌, Bool, true, false, cond, List, [], ◌∷◌, ◌++◌, length, Option, None, Some, Result, Ok, Err, option_map, refl, sym, ap, ◌∙◌, arith, ne_eqb}
+use Rattle.std.proofs.Common.{◌≡◌, ℕ, suc, ◌+◌, ◌-◌, ◌/◌, ◌<◌, ◌≤◌, ◌≢◌, Bool, true, false, cond, List, [], ◌∷◌, ◌++◌, length, Option, None, Some, Result, Ok, Err, option_map, refl, sym, ap, ◌∙◌, subst, arith, ne_eqb}
 use Rattle.std.specs.Prelude.{◌&&◌, ◌==◌, not, IsTrue, OnOk, OnErr}
 use Rattle.std.specs.List.{flat_map, list_all}
 use Rattle.std.specs.Option.{IsSome, is_some}
@@ -36,7 +36,8 @@ use Rattle.jv_rows.specs.declared.misread.Misread.TheVariants.{Malformed, Memory
 use Rattle.jv_rows.specs.Appending.{FindsLeft, reading, AppendsTo, Appends}
 use Rattle.jv_rows.specs.Drafts.{last_change, cell, drafted, ReadsPut, Sees, Drafts}
 use Rattle.jv_rows.specs.Reads.{Misses}
-use Rattle.jv_rows.specs.RoundTrips.{AreBytes, RecordWidths, ListWidths}
+use Rattle.jv_model.specs.Lists.{AreBytes}
+use Rattle.jv_rows.specs.RoundTrips.{RecordWidths, ListWidths}
 use Rattle.jv_rows.specs.Tables.{list_row}
 use Rattle.jv_rows.proofs.DraftLaws.{left_by, get-applied, spelled_cell, drafts_put}
 use Rattle.jv_rows.proofs.ExactListLaws.{list_exact}
@@ -177,6 +178,25 @@ row-push : (list : List Rec) (rec : Rec) → ListWidths list → IsTrue (list_al
 row-push list rec widths all low is =
     ap (row_of TABLE_OF_LISTS) (sym (bytes-push list rec)) ∙ list_row (list_bytes (list ++ rec ∷ []))
     ∙ ap (option_map OfList) (list_exact.again (list ++ rec ∷ []) (widths-push list rec widths low) (is_list-push list rec all is))
+
+-- the bytes of a list, or none, and those of a record behind them are a list's
+longer-push : (list : List Rec) (bytes : List ℕ) (rec : Rec) → bytes ≡ list_bytes list → ListWidths list → IsTrue (list_all is_record list) → RecordWidths rec → IsRecord rec
+    → IsSome (list_of (bytes ++ record_bytes rec))
+longer-push list bytes rec spelled widths all low is =
+    subst IsSome
+    (sym (ap (λ (b : List ℕ). list_of (b ++ record_bytes rec)) spelled ∙ ap list_of (sym (bytes-push list rec))
+    ∙ list_exact.again (list ++ rec ∷ []) (widths-push list rec widths low) (is_list-push list rec all is)))
+    refl
+
+pub longer-found : (bytes : List ℕ) (rec : Rec) → AreBytes bytes → IsSome (list_of bytes) → RecordWidths rec → IsRecord rec → IsSome (list_of (bytes ++ record_bytes rec))
+longer-found bytes rec are spelled low is =
+    let list = some_of (list_of bytes) spelled in
+    longer-push list.0 bytes rec (list_exact.same bytes list.0 are list.1) (list_exact.widths bytes list.0 are list.1)
+    (and_parts _ (list_all is_record list.0) (list_exact.allowed bytes list.0 are list.1)).1 low is
+
+pub longer-first : (rec : Rec) → RecordWidths rec → IsRecord rec → IsSome (list_of ([] ++ record_bytes rec))
+unfolding list_bytes
+longer-first rec low is = longer-push [] [] rec refl tt refl low is
 
 -- ---- what becomes of the draft
 

@@ -9,7 +9,8 @@ use Rattle.jv_model.specs.declared.tables.TheConstants.{RECORD_LENGTH}
 use Rattle.jv_model.specs.declared.slice.Rec.{Rec}
 use Rattle.jv_model.specs.rows.RowFields.{◌>>=◌, whole}
 use Rattle.jv_model.specs.rows.RowGrammar.{record_bytes, record_at, records_at, is_list, list_bytes, list_of}
-use Rattle.jv_rows.specs.RoundTrips.{AreBytes, RecordWidths, ListWidths, IsExact}
+use Rattle.jv_model.specs.Lists.{AreBytes}
+use Rattle.jv_rows.specs.RoundTrips.{RecordWidths, ListWidths, IsExact}
 use Rattle.jv_rows.proofs.FieldLaws.{AreBytes-back, bind_some, IsField, word_field, long_field}
 use Rattle.jv_rows.proofs.ReaderLaws.{IsReader, field_then, finish_front, some_is, whole_is, lets_through}
 

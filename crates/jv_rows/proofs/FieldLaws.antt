@@ -4,7 +4,7 @@ use Rattle.std.specs.Int.{Width, w16, w32, w64, byte_len, from_be_bytes, to_be_b
 use Rattle.std.proofs.lemmas.Bool.{cases_lt, ltb-false, le-ltb}
 use Rattle.std.proofs.lemmas.List.{take_at, drop_at, take-append-drop, length-append, length-take, get_or-drop, get_or-take, get_or_past}
 use Rattle.std.proofs.lemmas.Nat.{be_bytes_2, be_bytes_4, be_bytes_8, from_be_bytes-to_be_bytes_2, from_be_bytes-to_be_bytes_4, from_be_bytes-to_be_bytes_8}
-use Rattle.jv_rows.specs.RoundTrips.{AreBytes}
+use Rattle.jv_model.specs.Lists.{AreBytes}
 use Rattle.jv_model.specs.rows.RowFields.{◌>>=◌, byte, byte_at, front_at, number_at}
 
 pub AreBytes-drop : (n : ℕ) (bytes : List ℕ) → AreBytes bytes → AreBytes (drop n bytes)

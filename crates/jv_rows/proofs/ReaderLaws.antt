@@ -2,7 +2,8 @@
 use Rattle.std.proofs.Common.{◌≡◌, ℕ, Bool, true, false, cond, List, [], ◌∷◌, ◌++◌, length, Option, Some, None, refl, sym, ap, subst, ◌∙◌}
 use Rattle.std.specs.Prelude.{IsTrue}
 use Rattle.jv_model.specs.rows.RowFields.{◌>>=◌, front_at, whole}
-use Rattle.jv_rows.specs.RoundTrips.{AreBytes, IsExact}
+use Rattle.jv_model.specs.Lists.{AreBytes}
+use Rattle.jv_rows.specs.RoundTrips.{IsExact}
 use Rattle.jv_rows.proofs.FieldLaws.{bind_some, IsField, IsFront, front_field}
 
 -- a reader of all the bytes that are left: of the values that fit it and have the parts that are known from before

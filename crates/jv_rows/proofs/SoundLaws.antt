@@ -3,7 +3,8 @@ use Rattle.std.proofs.Common.{ℕ, Bool, List, Option, Result, Ok, Err, sym, ap,
 use Rattle.std.specs.Prelude.{IfOk}
 use Rattle.jv_rows.specs.declared.misread.Misread.{Misread}
 use Rattle.jv_rows.specs.Reads.{ReadsAs, IsSpelled}
-use Rattle.jv_rows.specs.RoundTrips.{AreBytes, IsExact}
+use Rattle.jv_model.specs.Lists.{AreBytes}
+use Rattle.jv_rows.specs.RoundTrips.{IsExact}
 
 pub sound : {A : Type 0} {HasWidths : A → Type 0} {is_allowed : A → Bool} {spelled : A → List ℕ} {read : List ℕ → Option A} → IsExact HasWidths is_allowed spelled read
     → (bytes : List ℕ) (r : Result A Misread) → AreBytes bytes → ReadsAs r (read bytes) → IfOk r (IsSpelled read spelled is_allowed bytes)

@@ -1,5 +1,5 @@
 -- That a grammar is exact: what is spelled is read again, and what is read is spelled so.
-use Rattle.std.specs.Prelude.{◌≡◌, ℕ, ◌<◌, ◌^◌, Bool, true, List, [], slice_index, Option, Some, IsTrue}
+use Rattle.std.specs.Prelude.{◌≡◌, ℕ, ◌<◌, ◌^◌, Bool, true, List, [], Option, Some, IsTrue}
 use Rattle.std.specs.List.{AllByRecursion}
 use Rattle.jv_model.specs.declared.setting.Setting.{Setting}
 use Rattle.jv_model.specs.declared.slice.Rec.{Rec}
@@ -10,11 +10,8 @@ use Rattle.jv_model.specs.declared.row.SliceRow.{SliceRow}
 use Rattle.jv_model.specs.declared.row.Session.{Session}
 use Rattle.jv_model.specs.declared.row.Dropped.{Dropped}
 use Rattle.jv_model.specs.declared.row.Dead.{Dead}
+use Rattle.jv_model.specs.Lists.{AreBytes}
 use Rattle.jv_model.specs.rows.RowGrammar.{is_setting, setting_bytes, setting_of, is_counters, counters_bytes, counters_of, is_node, node_bytes, node_of, is_edge, edge_bytes, edge_of, is_list, list_bytes, list_of, is_slice, slice_bytes, slice_of, is_session, session_bytes, session_of, sustained_of, dropped_bytes, dropped_of, dead_bytes, dead_of}
-
--- numbers of 8 bits; past the end a list reads 0
-abbrev pub AreBytes : List ℕ → Type 0
-AreBytes bytes = (i : ℕ) → slice_index bytes i < 256
 
 -- of the values whose numbers have the widths of the row, those that are allowed are spelled and
 -- read again, and bytes that are read spell an allowed value

@@ -1,5 +1,7 @@
-//! One more record in the list of a window: its bytes go behind those of the row, which are gone over and not made a list.
+//! One more record in the list of a window: its bytes go behind those of the row, which are gone over where they aren't
+//! known to be a list, and not made one.
 ghost use Rattle.std.specs.Prelude.{◌≡◌, ◌++◌, ◌∷◌, [], IfOk, OnOk, OnErr};
+ghost use Rattle.std.specs.Option.{IsSome};
 ghost use Rattle.jv_model.specs.declared.tables.TheConstants.{TABLE_OF_LISTS};
 ghost use Rattle.jv_model.specs.blocks.Slices.{IsRecord};
 ghost use Rattle.jv_model.specs.rows.RowGrammar.{record_bytes, list_of};
@@ -12,11 +14,11 @@ use crate::keys::key_of_list;
 use crate::misread::Misread;
 use crate::parsing::take_record;
 use crate::spelling::put_record;
-use crate::widths::{are_bytes, has_record_widths};
+use crate::widths::has_record_widths;
 use jv_model::tables::RECORD_LENGTH;
-use jv_model::{Bytes, Down, Rec, RowFault, RowKey, Sequence, copied};
+use jv_model::{Down, Rec, RowBytes, RowFault, RowKey};
 use jv_outside::{Change, Keeper};
-use std::alloc::AllocError;
+use std::alloc::{AllocError, Global};
 
 /// Goes over the records that the bytes spell, and returns whether they are a list.
 fn judge_list(bytes: &[u8]) -> Result<(), Misread>
@@ -43,14 +45,24 @@ fn judge_list(bytes: &[u8]) -> Result<(), Misread>
     }
 }
 
-/// The bytes with those of a record behind them.
-fn with_record(bytes: Bytes, rec: &Rec) -> Result<Bytes, AllocError>
-    ensures { IfOk result (λ longer. longer ≡ bytes ++ record_bytes rec.now) }
+/// Whether the bytes of a row are a list, which are gone over where that isn't known.
+fn judge(alloc: Global, bytes: &RowBytes) -> Result<(), Misread>
+    ensures { Judges result (list_of bytes.now) }
 {
-    let mut out = bytes.into_vec();
-    out.reserve_exact(RECORD_LENGTH)?;
-    put_record(&mut out, rec)?;
-    Ok(Sequence::from_vec(out))
+    if bytes.is_list() {
+        return Ok(());
+    }
+    judge_list(bytes.joined(alloc)?.as_slice())
+}
+
+/// The bytes with those of a record behind them, which together are a list.
+fn with_record(alloc: Global, bytes: &RowBytes, rec: &Rec) -> Result<RowBytes, AllocError>
+    requires { IsSome (list_of (bytes.now ++ record_bytes rec.now)) }
+    ensures { IfOk result (λ longer. longer ≡ bytes.now ++ record_bytes rec.now) }
+{
+    let mut spelled = Vec::with_capacity(alloc, RECORD_LENGTH)?;
+    put_record(&mut spelled, rec)?;
+    bytes.with_record(alloc, spelled.as_slice())
 }
 
 impl Draft {
@@ -76,49 +88,49 @@ impl Draft {
             Some(bytes) => self.put_behind(key, bytes, rec),
             None => {
                 has_record_widths(rec);
-                self.put_longer(key, Bytes::new(self.alloc), rec)?;
+                self.put_longer(key, &RowBytes::new(), rec)?;
                 Ok(())
             }
         }
     }
 
     // The bytes at a key once the changes are made.
-    fn bytes_at<K: Keeper>(&self, k: &mut K, key: &RowKey) -> Result<Option<Bytes>, Down>
+    fn bytes_at<K: Keeper>(&self, k: &mut K, key: &RowKey) -> Result<Option<RowBytes>, Down>
         ensures { FindsLeft self.now key.now (K.seen k.old) (K.seen k.new) result }
     {
         match last_of(key, self.batch.as_slice()) {
             None => k.get(key),
-            Some(Change::Put(_, bytes)) => Ok(Some(copied(self.alloc, bytes.as_slice())?)),
+            Some(Change::Put(_, bytes)) => Ok(Some(bytes.shared()?)),
             Some(Change::Del(_)) => Ok(None),
         }
     }
 
     // Adds that a list, which these bytes spell, has one record more.
-    fn put_behind(&mut self, key: RowKey, bytes: Bytes, rec: &Rec) -> Result<(), RowFault>
+    fn put_behind(&mut self, key: RowKey, bytes: RowBytes, rec: &Rec) -> Result<(), RowFault>
         requires tab { key.tab ≡ TABLE_OF_LISTS }
         requires record { IsRecord rec.now }
         ensures { AppendsTo key bytes rec.now self.old self.new result }
     {
         has_record_widths(rec);
-        let spelled = bytes.as_slice();
-        are_bytes(spelled);
-        match judge_list(spelled) {
+        bytes.are_bytes();
+        match judge(self.alloc, &bytes) {
             Ok(()) => {
-                self.put_longer(key, bytes, rec)?;
+                self.put_longer(key, &bytes, rec)?;
                 Ok(())
             }
-            Err(Misread::Malformed) => Err(RowFault::Bad(key, bytes)),
+            Err(Misread::Malformed) => Err(RowFault::Bad(key, bytes.copied(self.alloc)?)),
             Err(Misread::Memory) => Err(RowFault::Memory),
         }
     }
 
     // Adds that the row at a key has these bytes and those of a record behind them.
-    fn put_longer(&mut self, key: RowKey, bytes: Bytes, rec: &Rec) -> Result<(), AllocError>
+    fn put_longer(&mut self, key: RowKey, bytes: &RowBytes, rec: &Rec) -> Result<(), AllocError>
+        requires { IsSome (list_of (bytes.now ++ record_bytes rec.now)) }
         ensures ok { OnOk result (self.new ≡ self.old
-            ++ Put key (bytes ++ record_bytes rec.now) ∷ []) }
+            ++ Put key (bytes.now ++ record_bytes rec.now) ∷ []) }
         ensures err { OnErr result (self.new ≡ self.old) }
     {
-        let longer = with_record(bytes, rec)?;
+        let longer = with_record(self.alloc, bytes, rec)?;
         self.batch.put(key, longer)
     }
 }

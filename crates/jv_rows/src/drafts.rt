@@ -19,8 +19,8 @@ use crate::misread::Misread;
 use crate::reading::read_row;
 use jv_model::tables::TABLE_OF_SLICES;
 use jv_model::{
-    Counters, Dead, Down, Dropped, Edge, List, Name, Node, RowFault, RowKey, Session, Setting,
-    SliceRow, copied,
+    Counters, Dead, Down, Dropped, Edge, List, Name, Node, RowBytes, RowFault, RowKey, Session,
+    Setting, SliceRow,
 };
 use jv_outside::{Batch, Change, Keeper};
 use std::alloc::{AllocError, Global};
@@ -62,12 +62,12 @@ fn is_of_slice(change: &Change) -> bool
 }
 
 // The row that bytes spell, which a change left at a key.
-fn read_put<R: Grammar>(alloc: Global, key: RowKey, bytes: &[u8]) -> Result<Option<R>, RowFault>
+fn read_put<R: Grammar>(alloc: Global, key: RowKey, bytes: &RowBytes) -> Result<Option<R>, RowFault>
     ensures { ReadsPut R.read_as R.is_allowed key bytes.now result }
 {
-    match R::parse(alloc, bytes) {
+    match R::parse(alloc, bytes.joined(alloc)?.as_slice()) {
         Ok(row) => Ok(Some(row)),
-        Err(Misread::Malformed) => Err(RowFault::Bad(key, copied(alloc, bytes)?)),
+        Err(Misread::Malformed) => Err(RowFault::Bad(key, bytes.copied(alloc)?)),
         Err(Misread::Memory) => Err(RowFault::Memory),
     }
 }
@@ -337,7 +337,7 @@ impl Draft {
     {
         match last_of(&key, self.batch.as_slice()) {
             None => read_row(self.alloc, k, key),
-            Some(Change::Put(_, bytes)) => read_put(self.alloc, key, bytes.as_slice()),
+            Some(Change::Put(_, bytes)) => read_put(self.alloc, key, bytes),
             Some(Change::Del(_)) => Ok(None),
         }
     }
@@ -349,7 +349,7 @@ impl Draft {
         ensures { Drafts key (cell R.row_as (Some row.now)) self.old self.new result }
     {
         let bytes = row.spell(self.alloc)?;
-        self.batch.put(key, bytes)
+        self.batch.put(key, RowBytes::from_bytes(bytes)?)
     }
 
     // Takes the row at a key away.

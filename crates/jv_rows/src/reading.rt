@@ -30,9 +30,9 @@ pub(crate) fn read_row<K: Keeper, R: Grammar>(
     let Some(bytes) = k.get(&key)? else {
         return Ok(None);
     };
-    match R::parse(alloc, bytes.as_slice()) {
+    match R::parse(alloc, bytes.joined(alloc)?.as_slice()) {
         Ok(row) => Ok(Some(row)),
-        Err(Misread::Malformed) => Err(RowFault::Bad(key, bytes)),
+        Err(Misread::Malformed) => Err(RowFault::Bad(key, bytes.copied(alloc)?)),
         Err(Misread::Memory) => Err(RowFault::Memory),
     }
 }

@@ -14,7 +14,7 @@ use jv_model::tables::{
     TABLE_OF_COUNTERS, TABLE_OF_DEAD, TABLE_OF_DROPPED, TABLE_OF_EDGES, TABLE_OF_LISTS,
     TABLE_OF_NODES, TABLE_OF_SESSIONS, TABLE_OF_SETTING, TABLE_OF_SLICES, TABLE_OF_SUSTAINED,
 };
-use jv_model::{Bytes, Row, RowFault, RowKey, RowList, Rows, Sequence};
+use jv_model::{Row, RowBytes, RowFault, RowKey, RowList, Rows, Sequence};
 use jv_outside::Keeper;
 use std::alloc::Global;
 
@@ -55,15 +55,15 @@ pub fn parse_row(alloc: Global, tab: u8, bytes: &[u8]) -> Result<Row, Misread>
 }
 
 /// A row with its key.
-fn typed_row(alloc: Global, key: RowKey, bytes: Bytes) -> Result<(RowKey, Row), RowFault>
+fn typed_row(alloc: Global, key: RowKey, bytes: RowBytes) -> Result<(RowKey, Row), RowFault>
     ensures key { IfOk result (λ row. row.0 ≡ key) }
     ensures found { IfOk result (λ row. row_of key.tab bytes ≡ Some row.1) }
     ensures allowed { IfOk result (λ row. IsTrue (is_row row.1)) }
     ensures refused { IfErr result (RefusesBytes key bytes) }
 {
-    match parse_row(alloc, key.tab, bytes.as_slice()) {
+    match parse_row(alloc, key.tab, bytes.joined(alloc)?.as_slice()) {
         Ok(row) => Ok((key, row)),
-        Err(Misread::Malformed) => Err(RowFault::Bad(key, bytes)),
+        Err(Misread::Malformed) => Err(RowFault::Bad(key, bytes.copied(alloc)?)),
         Err(Misread::Memory) => Err(RowFault::Memory),
     }
 }

@@ -1,6 +1,7 @@
 //! The numbers of rows have the widths of their fields. Each law is a function that only reads the fields.
 ghost use Rattle.std.specs.Prelude.{◌<◌, ◌^◌};
-ghost use Rattle.jv_rows.specs.RoundTrips.{AreBytes, CountersWidths, NodeWidths, EdgeWidths, RecordWidths, ListWidths, SliceWidths, SessionWidths, DroppedWidths, DeadWidths};
+ghost use Rattle.jv_model.specs.Lists.{AreBytes};
+ghost use Rattle.jv_rows.specs.RoundTrips.{CountersWidths, NodeWidths, EdgeWidths, RecordWidths, ListWidths, SliceWidths, SessionWidths, DroppedWidths, DeadWidths};
 
 use jv_model::{Counters, Dead, Dropped, Edge, List, Node, Rec, Session, SliceRow};
 

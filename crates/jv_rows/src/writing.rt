@@ -13,7 +13,7 @@ use crate::spelling::{
     spell_setting, spell_slice,
 };
 use jv_model::{
-    Bytes, Counters, Dead, Dropped, Edge, List, Name, Node, Session, Setting, SliceRow,
+    Counters, Dead, Dropped, Edge, List, Name, Node, RowBytes, Session, Setting, SliceRow,
 };
 use jv_outside::Batch;
 use std::alloc::{AllocError, Global};
@@ -27,7 +27,7 @@ pub fn put_setting(alloc: Global, batch: &mut Batch, setting: &Setting) -> Resul
 {
     let key = key_of_setting(alloc);
     let bytes = spell_setting(alloc, setting)?;
-    batch.put(key, bytes)
+    batch.put(key, RowBytes::from_bytes(bytes)?)
 }
 
 /// Writes the next numbers and the running totals. Out of memory the batch is as before.
@@ -39,7 +39,7 @@ pub fn put_counters(alloc: Global, batch: &mut Batch, counters: &Counters) -> Re
 {
     let key = key_of_counters(alloc);
     let bytes = spell_counters(alloc, counters)?;
-    batch.put(key, bytes)
+    batch.put(key, RowBytes::from_bytes(bytes)?)
 }
 
 /// Writes a node. Out of memory the batch is as before.
@@ -51,7 +51,7 @@ pub fn put_node(alloc: Global, batch: &mut Batch, inode: u64, node: &Node) -> Re
 {
     let key = key_of_node(alloc, inode);
     let bytes = spell_node(alloc, node)?;
-    batch.put(key, bytes)
+    batch.put(key, RowBytes::from_bytes(bytes)?)
 }
 
 /// Writes an entry of a directory. Out of memory the batch is as before.
@@ -69,7 +69,7 @@ pub fn put_edge(
 {
     let key = key_of_edge(alloc, dir, name)?;
     let bytes = spell_edge(alloc, edge)?;
-    batch.put(key, bytes)
+    batch.put(key, RowBytes::from_bytes(bytes)?)
 }
 
 /// Writes the records of a window. Out of memory the batch is as before.
@@ -87,7 +87,7 @@ pub fn put_list(
 {
     let key = key_of_list(alloc, inode, window)?;
     let bytes = spell_list(alloc, list)?;
-    batch.put(key, bytes)
+    batch.put(key, RowBytes::from_bytes(bytes)?)
 }
 
 /// Writes a slice. Out of memory the batch is as before.
@@ -104,7 +104,7 @@ pub fn put_slice(
 {
     let key = key_of_slice(alloc, id);
     let bytes = spell_slice(alloc, slice)?;
-    batch.put(key, bytes)
+    batch.put(key, RowBytes::from_bytes(bytes)?)
 }
 
 /// Writes a session. Out of memory the batch is as before.
@@ -121,7 +121,7 @@ pub fn put_session(
 {
     let key = key_of_session(alloc, sid);
     let bytes = spell_session(alloc, session)?;
-    batch.put(key, bytes)
+    batch.put(key, RowBytes::from_bytes(bytes)?)
 }
 
 /// Writes that a session keeps an unlinked file. Out of memory the batch is as before.
@@ -135,8 +135,7 @@ pub fn put_sustained(
     ensures err { OnErr result (batch.new ≡ batch.old) }
 {
     let key = key_of_sustained(alloc, sid, inode)?;
-    let bytes = Bytes::new(alloc);
-    batch.put(key, bytes)
+    batch.put(key, RowBytes::new())
 }
 
 /// Writes a dropped file. Out of memory the batch is as before.
@@ -152,7 +151,7 @@ pub fn put_dropped(
 {
     let key = key_of_dropped(alloc, inode);
     let bytes = spell_dropped(alloc, dropped)?;
-    batch.put(key, bytes)
+    batch.put(key, RowBytes::from_bytes(bytes)?)
 }
 
 /// Writes a dead slice. Out of memory the batch is as before.
@@ -163,5 +162,5 @@ pub fn put_dead(alloc: Global, batch: &mut Batch, id: u64, dead: &Dead) -> Resul
 {
     let key = key_of_dead(alloc, id);
     let bytes = spell_dead(alloc, dead)?;
-    batch.put(key, bytes)
+    batch.put(key, RowBytes::from_bytes(bytes)?)
 }

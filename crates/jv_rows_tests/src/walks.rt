@@ -1,4 +1,4 @@
-use jv_model::{Bytes, Down, Edge, Node, ROOT, Sequence, TRASH_ROOT, copied};
+use jv_model::{Bytes, Down, Edge, Node, ROOT, RowBytes, Sequence, TRASH_ROOT, copied};
 use jv_outside::{Batch, Keeper, NeverKeeper};
 use jv_rows::{Draft, key_of_edge, key_of_node, spell_edge, spell_node, walk, walk_entry};
 use std::alloc::{AllocError, Global};
@@ -37,7 +37,7 @@ fn add_node(
     target: &str,
 ) -> Result<(), AllocError> {
     let node = node(alloc, kind, target)?;
-    let bytes = spell_node(alloc, &node)?;
+    let bytes = RowBytes::from_bytes(spell_node(alloc, &node)?)?;
     batch.put(key_of_node(alloc, inode), bytes)
 }
 
@@ -49,7 +49,7 @@ fn add_entry(
     edge: Edge,
 ) -> Result<(), AllocError> {
     let name = bytes_of(alloc, name)?;
-    let bytes = spell_edge(alloc, &edge)?;
+    let bytes = RowBytes::from_bytes(spell_edge(alloc, &edge)?)?;
     batch.put(key_of_edge(alloc, dir, &name)?, bytes)
 }
 

@@ -1,6 +1,6 @@
 //! The rows of a keeper, before a run and after it.
 use jv_model::tables::{TABLE_OF_COUNTERS, TABLE_OF_DEAD, TABLE_OF_LISTS, TABLE_OF_SLICES};
-use jv_model::{Moment, RowKey, Rows, Sequence, copied};
+use jv_model::{Moment, RowBytes, RowKey, Rows, Sequence, copied};
 use jv_outside::{Change, MemKeeper};
 use jv_rows::{default_setting, fresh_rows};
 use jv_scenes::{Altered, Scene};
@@ -43,7 +43,7 @@ fn add_rest(
 ) -> Result<(), AllocError> {
     for (key, bytes) in rows.as_slice() {
         if !altered.without.contains(key) {
-            add_row(alloc, all, key, bytes.as_slice())?;
+            add_row(alloc, all, key, bytes.joined(alloc)?.as_slice())?;
         }
     }
     Ok(())
@@ -54,7 +54,7 @@ fn add_fresh(alloc: Global, rows: &mut Rows) -> Result<(), AllocError> {
     let batch = fresh_rows(alloc, &default_setting(alloc)?, Moment(0))?;
     for change in batch.as_slice() {
         if let Change::Put(key, bytes) = change {
-            add_row(alloc, rows, key, bytes.as_slice())?;
+            add_row(alloc, rows, key, bytes.joined(alloc)?.as_slice())?;
         }
     }
     Ok(())
@@ -63,7 +63,7 @@ fn add_fresh(alloc: Global, rows: &mut Rows) -> Result<(), AllocError> {
 /// Adds a copy of a row.
 fn add_row(alloc: Global, rows: &mut Rows, key: &RowKey, bytes: &[u8]) -> Result<(), AllocError> {
     let key = key.copied(alloc)?;
-    rows.push((key, copied(alloc, bytes)?))
+    rows.push((key, RowBytes::from_bytes(copied(alloc, bytes)?)?))
 }
 
 /// Adds the rows of a table of a keeper.
@@ -87,7 +87,7 @@ pub fn rows_of(alloc: Global, keeper: &mut MemKeeper) -> Result<Rows, AllocError
 pub fn rows_text(alloc: Global, rows: &Rows) -> Result<String, AllocError> {
     let mut text = String::new(alloc);
     for (key, value) in rows.as_slice() {
-        push_row(alloc, &mut text, key, value.as_slice())?;
+        push_row(alloc, &mut text, key, value.joined(alloc)?.as_slice())?;
     }
     Ok(text)
 }
@@ -97,7 +97,7 @@ pub fn rows_text(alloc: Global, rows: &Rows) -> Result<String, AllocError> {
 pub fn unnumbered_text(alloc: Global, rows: &Rows) -> Result<String, AllocError> {
     let mut text = String::new(alloc);
     for (key, value) in rows.as_slice() {
-        push_unnumbered(alloc, &mut text, key, value.as_slice())?;
+        push_unnumbered(alloc, &mut text, key, value.joined(alloc)?.as_slice())?;
     }
     Ok(text)
 }

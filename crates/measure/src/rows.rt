@@ -1,6 +1,6 @@
 //! Rows through a keeper in memory.
 use jv_model::tables::TABLE_OF_NODES;
-use jv_model::{Down, RowKey, Rows, Sequence, copied};
+use jv_model::{Down, RowBytes, RowKey, Rows, Sequence, copied};
 use jv_outside::{Batch, Fails, Keeper, MemKeeper};
 use std::alloc::{AllocError, Global};
 
@@ -31,7 +31,8 @@ fn written_keeper(alloc: Global, count: u32) -> Result<MemKeeper, Down> {
     let mut keeper = MemKeeper::new(alloc, Sequence::new(alloc), fails);
     let mut batch = Batch::new(alloc);
     for number in 0..count {
-        batch.put(key(alloc, number), copied(alloc, &BYTES)?)?;
+        let bytes = RowBytes::from_bytes(copied(alloc, &BYTES)?)?;
+        batch.put(key(alloc, number), bytes)?;
         if batch.len() >= BATCH {
             keeper.commit(&batch)?;
             batch = Batch::new(alloc);

@@ -5,8 +5,8 @@ use jv_model::tables::{
     TABLE_OF_SUSTAINED,
 };
 use jv_model::{
-    Bytes, Counters, Dead, Edge, List, MAX_NAME, Name, Node, Row, RowKey, Rows, Setting, SliceRow,
-    copied,
+    Counters, Dead, Edge, List, MAX_NAME, Name, Node, Row, RowBytes, RowKey, Rows, Setting,
+    SliceRow, copied,
 };
 use jv_rows::{parse_counters, parse_row, parse_setting};
 use std::alloc::Global;
@@ -65,21 +65,21 @@ pub fn read_tables(alloc: Global, rows: &Rows) -> Result<Tables, Stop> {
     let Some(bytes) = first_in(rows, TABLE_OF_COUNTERS) else {
         return Err(Stop::Flaw("there is no row of counters"));
     };
-    let counters = parse_counters(bytes)?;
+    let counters = parse_counters(bytes.joined(alloc)?.as_slice())?;
     let Some(bytes) = first_in(rows, TABLE_OF_SETTING) else {
         return Err(Stop::Flaw("there is no row of the setting"));
     };
-    let setting = parse_setting(alloc, bytes)?;
+    let setting = parse_setting(alloc, bytes.joined(alloc)?.as_slice())?;
     let mut tables = Tables::new(alloc, setting, counters);
     tables.add_all(alloc, rows)?;
     Ok(tables)
 }
 
 /// The bytes of the first row of a table.
-fn first_in(rows: &Rows, tab: u8) -> Option<&[u8]> {
+fn first_in(rows: &Rows, tab: u8) -> Option<&RowBytes> {
     for (key, bytes) in rows.as_slice() {
         if key.tab == tab {
-            return Some(bytes.as_slice());
+            return Some(bytes);
         }
     }
     None
@@ -109,9 +109,9 @@ impl Tables {
         Ok(())
     }
 
-    fn add(&mut self, alloc: Global, key: &RowKey, bytes: &Bytes) -> Result<(), Stop> {
+    fn add(&mut self, alloc: Global, key: &RowKey, bytes: &RowBytes) -> Result<(), Stop> {
         expect(is_key(key), "a row's key isn't one of its table")?;
-        match parse_row(alloc, key.tab, bytes.as_slice())? {
+        match parse_row(alloc, key.tab, bytes.joined(alloc)?.as_slice())? {
             Row::OfSetting(_) | Row::OfCounters(_) => Ok(()),
             Row::OfNode(node) => put(&mut self.nodes, key.a, node),
             Row::OfEdge(edge) => self.add_entry(alloc, key, edge),

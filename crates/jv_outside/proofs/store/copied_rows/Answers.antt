@@ -9,5 +9,5 @@ loop-key-preserved c =
     let few : length c.loop-key.found < c.args.n = omega (arith, c.len.ensures.length, c.if-len-n.false) in
     record {
       found = glimpse-next_while (λ (row : RowKey × List ℕ). row.0.tab == c.args.tab) c.args.n c.loop-key.found _ _ _ _ _ _ c.in-Some.ensures.steps c.in_ok-push.ensures.ok
-          (λ i. (c.in_ok-copied.ensures i, (c.in_ok-copied-2.ensures ∙ c.as_slice.ensures) i)) few (eq-eqb _ _ c.if-key-tab.false) c.loop-key.invariant.found;
+          (λ i. (c.in_ok-copied.ensures i, c.in_ok-shared.ensures i)) few (eq-eqb _ _ c.if-key-tab.false) c.loop-key.invariant.found;
     }

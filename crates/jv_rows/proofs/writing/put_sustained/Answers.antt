@@ -8,5 +8,5 @@ use Rattle.jv_rows.proofs.writing.put_sustained.Goals as goal
 pub returns-clause-ok : goal.returns-clause-ok
 returns-clause-ok c =
     let old = c.args.batch.now in
-    subst (λ (b : List ℕ). OnOk c.put.result (c.put.new.self ≡ old ++ Put (sustained_key c.args.sid c.args.inode) b ∷ [])) c.new-bytes.ensures
-    (subst (λ (k : RowKey). OnOk c.put.result (c.put.new.self ≡ old ++ Put k c.new-bytes.result ∷ [])) c.in_ok-key.ensures c.put.ensures.ok)
+    subst (λ (b : List ℕ). OnOk c.put.result (c.put.new.self ≡ old ++ Put (sustained_key c.args.sid c.args.inode) b ∷ [])) c.new.ensures
+    (subst (λ (k : RowKey). OnOk c.put.result (c.put.new.self ≡ old ++ Put k c.new.result ∷ [])) c.in_ok-key.ensures c.put.ensures.ok)

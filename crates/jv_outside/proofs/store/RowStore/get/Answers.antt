@@ -5,9 +5,9 @@ use Rattle.jv_model.specs.rows.RowKeys.{row_key}
 use Rattle.jv_outside.proofs.StoredLaws.{stored-settled, get-lookup}
 use Rattle.jv_outside.proofs.store.RowStore.get.Goals as goal
 
-pub returns-in_ok-copied_with_room-in-Some-clause-value : goal.returns-in_ok-copied_with_room-in-Some-clause-value
-returns-in_ok-copied_with_room-in-Some-clause-value c =
-    ap Some c.in_ok-copied_with_room-in-Some.ensures ∙ ap Some c.as_slice.ensures ∙ c.in-Some.ensures ∙ sym (get-lookup row_key _ _)
+pub returns-in_ok-shared-in-Some-clause-value : goal.returns-in_ok-shared-in-Some-clause-value
+returns-in_ok-shared-in-Some-clause-value c =
+    ap Some c.in_ok-shared-in-Some.ensures ∙ c.in-Some.ensures ∙ sym (get-lookup row_key _ _)
     ∙ ap (λ m. get m c.args.key.now) (sym (stored-settled _ c.in_ok-settle.ensures.settled) ∙ c.in_ok-settle.ensures.same)
 
 pub returns-in-None-clause-value : goal.returns-in-None-clause-value

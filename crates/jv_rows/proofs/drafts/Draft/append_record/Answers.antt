@@ -1,11 +1,11 @@
-use Rattle.std.proofs.Common.{◌≡◌, ℕ, List, [], ◌∷◌, ◌++◌, Option, None, Ok, Err, ap, subst}
+use Rattle.std.proofs.Common.{◌≡◌, ℕ, List, [], ◌∷◌, ◌++◌, Option, None, Ok, Err, IsSome, ap, subst, sym}
 use Rattle.std.proofs.lemmas.Result.{err_from_is_err_and}
 use Rattle.jv_model.specs.declared.row.RowKey.{RowKey}
-use Rattle.jv_model.specs.rows.RowGrammar.{record_bytes}
+use Rattle.jv_model.specs.rows.RowGrammar.{record_bytes, list_of}
 use Rattle.jv_model.specs.rows.RowPlaces.{list_key}
 use Rattle.jv_outside.specs.declared.batch.Change.TheVariants.{Put}
 use Rattle.jv_rows.specs.Appending.{FindsLeft, AppendsTo}
-use Rattle.jv_rows.proofs.AppendingLaws.{appends-found, appends-first, appends-memory, appends-none, appends-down}
+use Rattle.jv_rows.proofs.AppendingLaws.{longer-first, appends-found, appends-first, appends-memory, appends-none, appends-down}
 use Rattle.jv_rows.proofs.drafts.Draft.append_record.Goals as goal
 
 pub returns-in_err-key : goal.returns-in_err-key
@@ -47,3 +47,6 @@ returns-in_ok-put_longer-in-None g c =
     (subst (λ (key : RowKey). c.put_longer-in-None.new.self ≡ c.args.self.now ++ Put key ([] ++ record_bytes c.args.rec.now) ∷ []) c.in_ok-key.ensures
     (subst (λ (none : List ℕ). c.put_longer-in-None.new.self ≡ c.args.self.now ++ Put c.in_ok-key.key (none ++ record_bytes c.args.rec.now) ∷ []) c.new.ensures
     c.in_ok-put_longer-in-None.ensures.ok))
+
+pub put_longer-requires : goal.put_longer-requires
+put_longer-requires g c = subst (λ (none : List ℕ). IsSome (list_of (none ++ record_bytes c.args.rec.now))) (sym c.new.ensures) (longer-first c.args.rec.now c.has_record_widths.ensures c.requires)

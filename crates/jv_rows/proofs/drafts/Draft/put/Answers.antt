@@ -8,4 +8,4 @@ use Rattle.jv_rows.proofs.drafts.Draft.put.Goals as goal
 pub returns : goal.returns
 returns g c =
     subst (λ (before : List Change). Drafts c.args.key (Some (Ok (g.R.Grammar.row_as c.args.row.now))) before c.put.new.self c.put.result) c.self.view_is
-    (drafts_put c.args.key c.in_ok-bytes.bytes (g.R.Grammar.row_as c.args.row.now) c.self.inside.batch c.put.new.self c.put.result (ap (λ (t : ℕ). row_of t c.in_ok-bytes.bytes) c.requires.tab ∙ c.in_ok-bytes.ensures) c.put.ensures.ok c.put.ensures.err)
+    (drafts_put c.args.key c.in_ok-from_bytes.field-0 (g.R.Grammar.row_as c.args.row.now) c.self.inside.batch c.put.new.self c.put.result (ap (row_of c.args.key.tab) c.in_ok-from_bytes.ensures ∙ ap (λ (t : ℕ). row_of t c.in_ok-bytes.bytes) c.requires.tab ∙ c.in_ok-bytes.ensures) c.put.ensures.ok c.put.ensures.err)

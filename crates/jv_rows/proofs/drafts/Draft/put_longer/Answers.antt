@@ -7,7 +7,7 @@ use Rattle.jv_rows.proofs.drafts.Draft.put_longer.Goals as goal
 
 pub returns-clause-ok : goal.returns-clause-ok
 returns-clause-ok c =
-    subst (λ (before : List Change). OnOk c.put.result (c.put.new.self ≡ before ++ Put c.args.key (c.args.bytes ++ record_bytes c.args.rec.now) ∷ [])) c.self.view_is
+    subst (λ (before : List Change). OnOk c.put.result (c.put.new.self ≡ before ++ Put c.args.key (c.args.bytes.now ++ record_bytes c.args.rec.now) ∷ [])) c.self.view_is
     (subst (λ (longer : List ℕ). OnOk c.put.result (c.put.new.self ≡ c.self.inside.batch ++ Put c.args.key longer ∷ [])) c.in_ok-longer.ensures c.put.ensures.ok)
 
 pub returns-clause-err : goal.returns-clause-err
