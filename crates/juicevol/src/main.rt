@@ -1,7 +1,7 @@
 //! The program: its words and the process's own streams and clock, handed to `jv_cmd`.
 #![tactic(auto)]
 
-use jv_cmd::{Finish, World, give_up, refuse, run};
+use jv_cmd::{World, give_up, refuse, run};
 use jv_model::{Down, Journal, Moment, Sequence};
 use jv_outside::{
     Fails, Keeper, MemCarrier, MemDepot, MemKeeper, MemShelf, Reading, Sink, Ticking, Writing,
@@ -10,7 +10,7 @@ use jv_rows::{default_setting, fresh_rows};
 use std::alloc::Global;
 use std::process::ExitCode;
 use std::rt::Env;
-use std::{env, io};
+use std::{env, io, mem};
 
 /// The words after the program's name. Fails if one of them isn't text, or if the process is out of memory.
 fn words(rt: &(impl Env + AllocGlobal)) -> io::Result<Vec<String>> {
@@ -65,6 +65,9 @@ fn main(rt: HostRuntime) -> ExitCode {
         carrier,
         journal: Journal::new(alloc),
     };
-    let Finish { status, .. } = run(alloc, &words, world);
+    let finish = run(alloc, &words, world);
+    let status = finish.status;
+    // The process ends, which frees its memory at once; each write was flushed.
+    mem::forget(finish);
     ExitCode::from(status)
 }
