@@ -5,19 +5,12 @@ use jv_cmd::{World, give_up, refuse, run};
 use jv_model::{Down, Journal, Moment, Sequence};
 use jv_outside::{
     Fails, Keeper, MemCarrier, MemDepot, MemKeeper, MemShelf, Reading, Sink, Ticking, Writing,
+    words,
 };
 use jv_rows::{default_setting, fresh_rows};
 use std::alloc::Global;
 use std::process::ExitCode;
-use std::rt::Env;
-use std::{env, io, mem};
-
-/// The words after the program's name. Fails if one of them isn't text, or if the process is out of memory.
-fn words(rt: &(impl Env + AllocGlobal)) -> io::Result<Vec<String>> {
-    let mut all = env::args(rt)?;
-    let _program = all.next();
-    Ok(all.collect(rt.alloc())?)
-}
+use std::{io, mem};
 
 /// No call of a device in memory fails.
 fn never(alloc: Global) -> Fails {

@@ -1,9 +1,9 @@
 //! The bytes of a row.
-ghost use Rattle.std.specs.Prelude.{◌≡◌, [], ◌++◌, IfOk, IsTrue};
+ghost use Rattle.std.specs.Prelude.{◌≡◌, [], ◌++◌, IfOk, IfSome, IsTrue};
 ghost use Rattle.std.specs.Cow.{cow_slice_items};
 ghost use Rattle.std.specs.Option.{IsSome};
 ghost use Rattle.jv_model.specs.Lists.{AreBytes};
-ghost use Rattle.jv_model.specs.rows.RowBytes.{first_bytes, behind};
+ghost use Rattle.jv_model.specs.rows.RowBytes.{held_bytes};
 ghost use Rattle.jv_model.specs.rows.RowGrammar.{list_of};
 
 use crate::sequence::Sequence;
@@ -18,16 +18,18 @@ use std::sync::Arc;
 /// The most bytes that stand in the row itself: as many as two records have, and more than the node of a file.
 const MAX_SHORT: usize = 2 * RECORD_LENGTH;
 
-/// The most bytes that stand behind the front: those of 64 records.
+/// The most bytes that stand behind the others of a list: those of 64 records.
 const MAX_BACK: usize = 64 * RECORD_LENGTH;
 
-/// The first bytes of a row.
+/// How the bytes of a row are held.
 #[derive(Debug, Drop)]
-enum Front {
-    /// Bytes in the row itself: their number, and an array whose first ones they are.
+enum Held {
+    /// In the row itself: their number, and an array whose first ones they are.
     Short(usize, [u8; MAX_SHORT]),
-    /// Bytes that copies share.
-    Long(Shared),
+    /// By all who have copies of them.
+    Shared(Shared),
+    /// Those of a list of records, the last ones apart.
+    List(Shared, Arc<Vec<u8>, Global>),
 }
 
 /// The bytes of a row, of which a few stand in the row itself and more are shared by those who have them. Those that
@@ -35,75 +37,18 @@ enum Front {
 /// 65th time. Contracts see a list.
 #[derive(Debug, Drop)]
 pub struct RowBytes {
-    front: Front,
-    // The bytes behind the front, where both together are known to be a list of records.
-    back: Option<Arc<Vec<u8>, Global>>,
+    held: Held,
 }
 
 impl Model for RowBytes {
-    ghost use Rattle.std.specs.Prelude.{ℕ, List, ◌++◌};
-    ghost use Rattle.std.specs.Option.{IsSome};
-    ghost use Rattle.jv_model.specs.rows.RowBytes.{first_bytes, behind};
-    ghost use Rattle.jv_model.specs.rows.RowGrammar.{list_of};
+    ghost use Rattle.std.specs.Prelude.{ℕ, List};
+    ghost use Rattle.jv_model.specs.rows.RowBytes.{held_bytes, KnowsLists};
 
     ghost Value = { List ℕ };
 
-    ghost view = { λ row. first_bytes row.front ++ behind row.back };
+    ghost view = { λ row. held_bytes row.held };
 
-    ghost invariant = { λ row. IsSome row.back
-        → IsSome (list_of (first_bytes row.front ++ behind row.back)) };
-}
-
-impl Front {
-    /// No bytes. Takes no memory.
-    fn new() -> Front
-        ensures { first_bytes result ≡ [] }
-    {
-        Front::Short(0, [0; MAX_SHORT])
-    }
-
-    /// The bytes of a `Vec`. Many aren't copied.
-    fn from_vec(bytes: Vec<u8>) -> Result<Front, AllocError>
-        ensures { IfOk result (λ front. first_bytes front ≡ bytes.items) }
-    {
-        let count = bytes.len();
-        if count > MAX_SHORT {
-            return Ok(Front::Long(Shared::from_vec(bytes)?));
-        }
-        let mut short = [0; MAX_SHORT];
-        short[..count].copy_from_slice(bytes.as_slice());
-        Ok(Front::Short(count, short))
-    }
-
-    /// The same bytes once more. Many aren't copied.
-    fn shared(&self) -> Result<Front, AllocError>
-        ensures { IfOk result (λ front. first_bytes front ≡ first_bytes self.now) }
-    {
-        match self {
-            Front::Short(count, short) => Ok(Front::Short(*count, *short)),
-            Front::Long(long) => Ok(Front::Long(long.clone()?)),
-        }
-    }
-
-    /// The bytes.
-    fn as_slice(&self) -> &[u8]
-        ensures { result.now ≡ first_bytes self.now }
-    {
-        match self {
-            Front::Short(count, short) => &short[..MAX_SHORT.min(*count)],
-            Front::Long(long) => long.as_slice(),
-        }
-    }
-}
-
-/// The bytes behind a front.
-fn behind(back: &Option<Arc<Vec<u8>, Global>>) -> &[u8]
-    ensures { result.now ≡ behind back.now }
-{
-    match back {
-        Some(back) => back.as_slice(),
-        None => &[],
-    }
+    ghost invariant = { λ row. KnowsLists row.held };
 }
 
 /// Bytes with others behind them.
@@ -117,9 +62,33 @@ fn joined(alloc: Global, front: &[u8], back: &[u8]) -> Result<Vec<u8>, AllocErro
 }
 
 /// Bytes are below 256: a law, which runs no code.
-fn are_bytes(bytes: &[u8])
+pub fn are_bytes(bytes: &[u8])
     ensures { AreBytes bytes.now }
 {}
+
+impl Held {
+    /// The bytes: the first ones, and those behind them.
+    fn parts(&self) -> (&[u8], &[u8])
+        ensures { result.0.now ++ result.1.now ≡ held_bytes self.now }
+    {
+        match self {
+            Held::Short(count, short) => (&short[..MAX_SHORT.min(*count)], &[]),
+            Held::Shared(shared) => (shared.as_slice(), &[]),
+            Held::List(front, back) => (front.as_slice(), back.as_slice()),
+        }
+    }
+
+    /// The bytes without a copy, where they stand in one piece.
+    fn whole(&self) -> Option<&[u8]>
+        ensures { IfSome result (λ bytes. bytes.now ≡ held_bytes self.now) }
+    {
+        match self {
+            Held::Short(count, short) => Some(&short[..MAX_SHORT.min(*count)]),
+            Held::Shared(shared) => Some(shared.as_slice()),
+            Held::List(_, _) => None,
+        }
+    }
+}
 
 impl RowBytes {
     /// No bytes. Takes no memory.
@@ -127,8 +96,7 @@ impl RowBytes {
         ensures { result ≡ [] }
     {
         RowBytes {
-            front: Front::new(),
-            back: None,
+            held: Held::Short(0, [0; MAX_SHORT]),
         }
     }
 
@@ -136,9 +104,16 @@ impl RowBytes {
     pub fn from_bytes(bytes: Bytes) -> Result<RowBytes, AllocError>
         ensures { IfOk result (λ row. row ≡ bytes) }
     {
+        let count = bytes.len();
+        if count > MAX_SHORT {
+            return Ok(RowBytes {
+                held: Held::Shared(Shared::from_vec(bytes.into_vec())?),
+            });
+        }
+        let mut short = [0; MAX_SHORT];
+        short[..count].copy_from_slice(bytes.as_slice());
         Ok(RowBytes {
-            front: Front::from_vec(bytes.into_vec())?,
-            back: None,
+            held: Held::Short(count, short),
         })
     }
 
@@ -146,21 +121,19 @@ impl RowBytes {
     pub fn shared(&self) -> Result<RowBytes, AllocError>
         ensures { IfOk result (λ row. row ≡ self.now) }
     {
-        let back = match &self.back {
-            Some(back) => Some(Arc::try_clone(back)?),
-            None => None,
+        let held = match &self.held {
+            Held::Short(count, short) => Held::Short(*count, *short),
+            Held::Shared(shared) => Held::Shared(shared.clone()?),
+            Held::List(front, back) => Held::List(front.clone()?, Arc::try_clone(back)?),
         };
-        Ok(RowBytes {
-            front: self.front.shared()?,
-            back,
-        })
+        Ok(RowBytes { held })
     }
 
     /// Whether the bytes are known to be a list of records. That some are one may be unknown.
     pub fn is_list(&self) -> bool
         ensures { IsTrue result → IsSome (list_of self.now) }
     {
-        self.back.is_some()
+        matches!(self.held, Held::List(_, _))
     }
 
     /// The bytes with a record's behind them, which together are a list of records. The only error is out of memory.
@@ -168,17 +141,18 @@ impl RowBytes {
         requires { IsSome (list_of (self.now ++ spelled.now)) }
         ensures { IfOk result (λ row. row ≡ self.now ++ spelled.now) }
     {
-        let back = joined(alloc, behind(&self.back), spelled)?;
-        if back.len() <= MAX_BACK {
-            return Ok(RowBytes {
-                front: self.front.shared()?,
-                back: Some(Arc::new(alloc, back)?),
-            });
+        if let Held::List(front, back) = &self.held {
+            if back.len().saturating_add(spelled.len()) <= MAX_BACK {
+                let longer = joined(alloc, back.as_slice(), spelled)?;
+                return Ok(RowBytes {
+                    held: Held::List(front.clone()?, Arc::new(alloc, longer)?),
+                });
+            }
         }
-        let front = joined(alloc, self.front.as_slice(), back.as_slice())?;
+        let mut all = self.copied(alloc)?.into_vec();
+        all.extend_from_slice(spelled)?;
         Ok(RowBytes {
-            front: Front::from_vec(front)?,
-            back: Some(Arc::new(alloc, Vec::new(alloc))?),
+            held: Held::List(Shared::from_vec(all)?, Arc::new(alloc, Vec::new(alloc))?),
         })
     }
 
@@ -186,13 +160,9 @@ impl RowBytes {
     pub fn joined(&self, alloc: Global) -> Result<CowSlice<'_, u8, Global>, AllocError>
         ensures { IfOk result (λ bytes. cow_slice_items bytes ≡ self.now) }
     {
-        match &self.back {
-            Some(back) => Ok(CowSlice::Owned(joined(
-                alloc,
-                self.front.as_slice(),
-                back.as_slice(),
-            )?)),
-            None => Ok(CowSlice::Borrowed(self.front.as_slice())),
+        match self.held.whole() {
+            Some(bytes) => Ok(CowSlice::Borrowed(bytes)),
+            None => Ok(CowSlice::Owned(self.copied(alloc)?.into_vec())),
         }
     }
 
@@ -200,14 +170,16 @@ impl RowBytes {
     pub fn copied(&self, alloc: Global) -> Result<Bytes, AllocError>
         ensures { IfOk result (λ bytes. bytes ≡ self.now) }
     {
-        Ok(Sequence::from_vec(joined(alloc, self.front.as_slice(), behind(&self.back))?))
+        let (front, back) = self.held.parts();
+        Ok(Sequence::from_vec(joined(alloc, front, back)?))
     }
 
     /// Bytes are below 256: a law, which reads nothing.
     pub fn are_bytes(&self)
         ensures { AreBytes self.now }
     {
-        are_bytes(self.front.as_slice());
-        are_bytes(behind(&self.back));
+        let (front, back) = self.held.parts();
+        are_bytes(front);
+        are_bytes(back);
     }
 }

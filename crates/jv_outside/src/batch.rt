@@ -1,6 +1,7 @@
 ghost use Rattle.std.specs.Prelude.{◌≡◌, ◌^◌, ◌<◌, [], ◌∷◌, ◌++◌, length, OnOk, OnErr, IsTrue, ◌↔◌};
 
-use jv_model::{RowBytes, RowKey, Sequence};
+use jv_model::row_bytes::RowBytes;
+use jv_model::{RowKey, Sequence};
 use std::alloc::{AllocError, Global};
 use std::marker::Model;
 

@@ -2,7 +2,8 @@ ghost use Rattle.std.specs.Option.{option_copied};
 ghost use Rattle.jv_outside.specs.Store.{Store, Opens, Finds, Scans, Commits};
 
 use crate::batch::Batch;
-use jv_model::{Down, RowBytes, RowKey, Rows, Text};
+use jv_model::row_bytes::RowBytes;
+use jv_model::{Down, RowKey, Rows, Text};
 
 /// Where the rows of a volume's metadata are kept, each with its bytes at its key (JuiceFS, Architecture: metadata
 /// engine).

@@ -46,4 +46,4 @@ pub use parcel::{Load, Parcel};
 pub use shelf::Shelf;
 pub use sink::{Sink, write_whole};
 pub use source::Source;
-pub use standard::{Reading, Ticking, Writing};
+pub use standard::{Reading, Ticking, Writing, words};

@@ -13,7 +13,8 @@ use crate::batch::Batch;
 use crate::calls::{Calls, Fails};
 use crate::keeper::Keeper;
 use crate::store::RowStore;
-use jv_model::{Down, RowBytes, RowKey, Rows, Text, copied};
+use jv_model::row_bytes::RowBytes;
+use jv_model::{Down, RowKey, Rows, Text, copied};
 use std::alloc::Global;
 use std::marker::Model;
 

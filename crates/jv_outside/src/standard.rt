@@ -1,5 +1,6 @@
 //! Std's readers, writers and clocks as devices. Each error of std is a fault, an interrupted call too, but for that of a
 //! time before 1970; a writer that takes nothing of a piece is one, too. Faults are counted in 64 bits, which saturate.
+//! And std's words of a program.
 ghost use Rattle.std.specs.Prelude.{◌≡◌, ◌/◌, min, None};
 ghost use Rattle.std.specs.Io.{WritesAtMost};
 ghost use Rattle.std.specs.Duration.{as_nanos};
@@ -9,8 +10,9 @@ use crate::clock::Clock;
 use crate::sink::Sink;
 use crate::source::Source;
 use jv_model::{Down, LAST_MOMENT, Moment};
+use std::env;
 use std::io::{self, ErrorKind, Read, Write};
-use std::rt;
+use std::rt::{self, Env};
 use std::time::Duration;
 
 /// A reader as a source. Its bytes left are known if the reader's are.
@@ -112,4 +114,11 @@ fn moment_at(since_1970: Duration) -> Moment
     ensures { result ≡ min (as_nanos since_1970 / 1_000_000_000) LAST_MOMENT }
 {
     Moment(since_1970.as_secs().min(LAST_MOMENT))
+}
+
+/// The words that the program was called with, after its name. Fails if one of them isn't text, or out of memory.
+pub fn words(rt: &(impl Env + AllocGlobal)) -> io::Result<Vec<String>> {
+    let mut all = env::args(rt)?;
+    let _program = all.next();
+    Ok(all.collect(rt.alloc())?)
 }

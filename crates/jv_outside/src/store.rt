@@ -10,7 +10,8 @@ ghost use Rattle.jv_outside.specs.Stored.{stored, IsSettled, scan_start};
 
 use crate::batch::{Batch, Change};
 use crate::lazy_tree::LazyTree;
-use jv_model::{RowBytes, RowKey, Rows, Sequence, push_in_room};
+use jv_model::row_bytes::RowBytes;
+use jv_model::{RowKey, Rows, Sequence, push_in_room};
 use std::alloc::{AllocError, Global};
 use std::collections::VecDeque;
 use std::collections::btree_map::Range;

@@ -1,7 +1,8 @@
 //! Each device in memory: its short reads and writes, and its failing calls. Out of memory a check is false, too.
 ghost use Rattle.std.specs.Prelude.{◌<◌};
 
-use jv_model::{Down, Moment, RowBytes, RowKey, Rows, Sequence, copied};
+use jv_model::row_bytes::RowBytes;
+use jv_model::{Down, Moment, RowKey, Rows, Sequence, copied};
 use jv_outside::{
     Batch, Clock, Keeper, MemClock, MemKeeper, MemSink, MemSource, NeverClock, NeverKeeper,
     NeverSink, NeverSource, Sink, Source, write_whole,

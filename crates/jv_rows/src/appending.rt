@@ -15,8 +15,9 @@ use crate::misread::Misread;
 use crate::parsing::take_record;
 use crate::spelling::put_record;
 use crate::widths::has_record_widths;
+use jv_model::row_bytes::RowBytes;
 use jv_model::tables::RECORD_LENGTH;
-use jv_model::{Down, Rec, RowBytes, RowFault, RowKey};
+use jv_model::{Down, Rec, RowFault, RowKey};
 use jv_outside::{Change, Keeper};
 use std::alloc::{AllocError, Global};
 

@@ -17,10 +17,11 @@ use crate::keys::{
 };
 use crate::misread::Misread;
 use crate::reading::read_row;
+use jv_model::row_bytes::RowBytes;
 use jv_model::tables::TABLE_OF_SLICES;
 use jv_model::{
-    Counters, Dead, Down, Dropped, Edge, List, Name, Node, RowBytes, RowFault, RowKey, Session,
-    Setting, SliceRow,
+    Counters, Dead, Down, Dropped, Edge, List, Name, Node, RowFault, RowKey, Session, Setting,
+    SliceRow,
 };
 use jv_outside::{Batch, Change, Keeper};
 use std::alloc::{AllocError, Global};

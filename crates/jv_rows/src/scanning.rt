@@ -10,11 +10,12 @@ use crate::parsing::{
     parse_counters, parse_dead, parse_dropped, parse_edge, parse_list, parse_node, parse_session,
     parse_setting, parse_slice, parse_sustained,
 };
+use jv_model::row_bytes::RowBytes;
 use jv_model::tables::{
     TABLE_OF_COUNTERS, TABLE_OF_DEAD, TABLE_OF_DROPPED, TABLE_OF_EDGES, TABLE_OF_LISTS,
     TABLE_OF_NODES, TABLE_OF_SESSIONS, TABLE_OF_SETTING, TABLE_OF_SLICES, TABLE_OF_SUSTAINED,
 };
-use jv_model::{Row, RowBytes, RowFault, RowKey, RowList, Rows, Sequence};
+use jv_model::{Row, RowFault, RowKey, RowList, Rows, Sequence};
 use jv_outside::Keeper;
 use std::alloc::Global;
 

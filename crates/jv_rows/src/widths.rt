@@ -3,6 +3,7 @@ ghost use Rattle.std.specs.Prelude.{◌<◌, ◌^◌};
 ghost use Rattle.jv_model.specs.Lists.{AreBytes};
 ghost use Rattle.jv_rows.specs.RoundTrips.{CountersWidths, NodeWidths, EdgeWidths, RecordWidths, ListWidths, SliceWidths, SessionWidths, DroppedWidths, DeadWidths};
 
+use jv_model::row_bytes::are_bytes;
 use jv_model::{Counters, Dead, Dropped, Edge, List, Node, Rec, Session, SliceRow};
 
 pub(crate) fn has_counters_widths(counters: &Counters)
@@ -106,7 +107,3 @@ fn has_target_widths(node: &Node)
 {
     are_bytes(node.target.as_slice());
 }
-
-pub(crate) fn are_bytes(bytes: &[u8])
-    ensures { AreBytes bytes.now }
-{}

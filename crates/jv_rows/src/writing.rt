@@ -12,9 +12,8 @@ use crate::spelling::{
     spell_counters, spell_dead, spell_dropped, spell_edge, spell_list, spell_node, spell_session,
     spell_setting, spell_slice,
 };
-use jv_model::{
-    Counters, Dead, Dropped, Edge, List, Name, Node, RowBytes, Session, Setting, SliceRow,
-};
+use jv_model::row_bytes::RowBytes;
+use jv_model::{Counters, Dead, Dropped, Edge, List, Name, Node, Session, Setting, SliceRow};
 use jv_outside::Batch;
 use std::alloc::{AllocError, Global};
 

@@ -1,4 +1,5 @@
-use jv_model::{Bytes, Down, Edge, Node, ROOT, RowBytes, Sequence, TRASH_ROOT, copied};
+use jv_model::row_bytes::RowBytes;
+use jv_model::{Bytes, Down, Edge, Node, ROOT, Sequence, TRASH_ROOT, copied};
 use jv_outside::{Batch, Keeper, NeverKeeper};
 use jv_rows::{Draft, key_of_edge, key_of_node, spell_edge, spell_node, walk, walk_entry};
 use std::alloc::{AllocError, Global};

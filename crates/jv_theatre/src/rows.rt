@@ -1,6 +1,7 @@
 //! The rows of a keeper, before a run and after it.
+use jv_model::row_bytes::RowBytes;
 use jv_model::tables::{TABLE_OF_COUNTERS, TABLE_OF_DEAD, TABLE_OF_LISTS, TABLE_OF_SLICES};
-use jv_model::{Moment, RowBytes, RowKey, Rows, Sequence, copied};
+use jv_model::{Moment, RowKey, Rows, Sequence, copied};
 use jv_outside::{Change, MemKeeper};
 use jv_rows::{default_setting, fresh_rows};
 use jv_scenes::{Altered, Scene};

@@ -11,10 +11,9 @@ mod script;
 mod writes;
 
 use jv_model::Down;
+use jv_outside::words;
 use std::alloc::Global;
 use std::process::ExitCode;
-use std::rt::Env;
-use std::{env, io};
 use writes::Order;
 
 /// The exit status where the words ask for no measure.
@@ -22,13 +21,6 @@ const WORDS_REFUSED: u8 = 2;
 
 /// The exit status where memory runs out, or the count isn't taken.
 const NOT_MEASURED: u8 = 6;
-
-/// The words after the program's name.
-fn words(rt: &(impl Env + AllocGlobal)) -> io::Result<Vec<String>> {
-    let mut all = env::args(rt)?;
-    let _program = all.next();
-    Ok(all.collect(rt.alloc())?)
-}
 
 /// A measure of rows of one kind, as `row-node-read`, or of a line's data in parts of one kind, as `parts-single-read`,
 /// at a size. None where there is no such measure.

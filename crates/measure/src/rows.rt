@@ -1,6 +1,7 @@
 //! Rows through a keeper in memory.
+use jv_model::row_bytes::RowBytes;
 use jv_model::tables::TABLE_OF_NODES;
-use jv_model::{Down, RowBytes, RowKey, Rows, Sequence, copied};
+use jv_model::{Down, RowKey, Rows, Sequence, copied};
 use jv_outside::{Batch, Fails, Keeper, MemKeeper};
 use std::alloc::{AllocError, Global};
 

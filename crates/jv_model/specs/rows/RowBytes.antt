@@ -1,18 +1,20 @@
--- The bytes of a row: those of its front, and behind them others.
-use Rattle.std.specs.Prelude.{ℕ, List, [], Option, None, Some, ◌*◌, min, take, vec_items}
+-- The bytes of a row, however they are held.
+use Rattle.std.specs.Prelude.{ℕ, ◌*◌, List, ◌++◌, min, take, vec_items}
+use Rattle.std.specs.Option.{IsSome}
 use Rattle.std.specs.Arc.{arc_value}
-use Rattle.std.specs.Global.{Global, Vec}
-use Rattle.std.specs.declared.sync.Arc.{Arc}
 use Rattle.jv_model.specs.declared.tables.TheConstants.{RECORD_LENGTH}
-use Rattle.jv_model.specs.declared.row_bytes.Front.{Front}
-use Rattle.jv_model.specs.declared.row_bytes.Front.TheVariants.{Short, Long}
+use Rattle.jv_model.specs.declared.row_bytes.Held.{Held}
+use Rattle.jv_model.specs.declared.row_bytes.Held.TheVariants as held
+use Rattle.jv_model.specs.rows.RowGrammar.{list_of}
 
--- the bytes in place are the first of an array, at most those of two records
-abbrev pub first_bytes : Front → List ℕ
-first_bytes (Short count short) = take (min (2 * RECORD_LENGTH) count) short
-first_bytes (Long long) = long
+-- those of a short row are the first of an array, at most as many as two records have
+abbrev pub held_bytes : Held → List ℕ
+held_bytes (held.Short count short) = take (min (2 * RECORD_LENGTH) count) short
+held_bytes (held.Shared shared) = shared
+held_bytes (held.List front back) = front ++ vec_items (arc_value back)
 
--- none where the bytes aren't known to be a list of records
-abbrev pub behind : Option (Arc (Vec ℕ) Global) → List ℕ
-behind None = []
-behind (Some back) = vec_items (arc_value back)
+-- bytes that are held as a list of records spell one
+abbrev pub KnowsLists : Held → Type 0
+KnowsLists (held.Short count short) = Unit {0}
+KnowsLists (held.Shared shared) = Unit {0}
+KnowsLists (held.List front back) = IsSome (list_of (front ++ vec_items (arc_value back)))

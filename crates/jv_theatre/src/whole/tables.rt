@@ -1,12 +1,12 @@
 //! The rows of a volume by their tables.
 use crate::whole::stop::{Stop, expect};
+use jv_model::row_bytes::RowBytes;
 use jv_model::tables::{
     TABLE_OF_COUNTERS, TABLE_OF_DEAD, TABLE_OF_EDGES, TABLE_OF_LISTS, TABLE_OF_SETTING,
     TABLE_OF_SUSTAINED,
 };
 use jv_model::{
-    Counters, Dead, Edge, List, MAX_NAME, Name, Node, Row, RowBytes, RowKey, Rows, Setting,
-    SliceRow, copied,
+    Counters, Dead, Edge, List, MAX_NAME, Name, Node, Row, RowKey, Rows, Setting, SliceRow, copied,
 };
 use jv_rows::{parse_counters, parse_row, parse_setting};
 use std::alloc::Global;
