@@ -12,5 +12,5 @@ mod texts;
 mod theatre;
 mod whole;
 
-pub use stage::{Parts, Player, Stores, Streams};
+pub use stage::{MemParts, Parts, Player, Stores, Streams};
 pub use theatre::{Theatre, push_scene};

@@ -12,19 +12,25 @@ use std::alloc::{AllocError, Global};
 
 /// What a run reads and prints.
 #[derive(Drop)]
-pub struct Streams {
-    pub source: MemSource,
-    pub out: MemSink,
-    pub err: MemSink,
+pub struct Streams<S, O, E> {
+    pub source: S,
+    pub out: O,
+    pub err: E,
 }
+
+/// Streams in memory.
+type MemStreams = Streams<MemSource, MemSink, MemSink>;
 
 /// What holds a volume.
 #[derive(Drop)]
-pub struct Stores {
-    pub keeper: MemKeeper,
-    pub depot: MemDepot,
-    pub shelf: MemShelf,
+pub struct Stores<K, D, H> {
+    pub keeper: K,
+    pub depot: D,
+    pub shelf: H,
 }
+
+/// Stores in memory.
+type MemStores = Stores<MemKeeper, MemDepot, MemShelf>;
 
 /// What stores have: rows, objects, and the blocks that are staged.
 #[derive(Drop)]
@@ -45,16 +51,20 @@ impl Stock {
     }
 }
 
-/// What a world is made of for each run.
+/// What a world is made of for each run. It is generic since what takes it apart is proved much faster for any devices
+/// than for those in memory.
 #[derive(Drop)]
-pub struct Parts {
-    pub streams: Streams,
-    pub stores: Stores,
-    pub clock: MemClock,
+pub struct Parts<S, O, E, K, D, H, C> {
+    pub streams: Streams<S, O, E>,
+    pub stores: Stores<K, D, H>,
+    pub clock: C,
     /// The calls of a run's carrier that fail.
     pub carrier: NumberList,
     pub journal: Journal,
 }
+
+/// The parts of a world in memory.
+pub type MemParts = Parts<MemSource, MemSink, MemSink, MemKeeper, MemDepot, MemShelf, MemClock>;
 
 /// Who runs words on a stage.
 pub trait Player {
@@ -64,7 +74,7 @@ pub trait Player {
         &self,
         alloc: Global,
         words: &[String],
-        parts: &mut Option<Parts>,
+        parts: &mut Option<MemParts>,
         carrier: MemCarrier,
     ) -> Result<u8, AllocError>;
 }
@@ -73,7 +83,7 @@ pub trait Player {
 /// them.
 #[derive(Drop)]
 pub struct SceneStage {
-    parts: Option<Parts>,
+    parts: Option<MemParts>,
 }
 
 /// The outcome of a run.
@@ -119,18 +129,47 @@ impl Played {
     }
 }
 
-/// The streams of a variant of a scene.
-fn streams_of(alloc: Global, scene: &Scene, variant: Variant<'_>) -> Result<Streams, AllocError> {
-    let most = scene.most.max(1);
-    let script = scene.source(alloc, variant)?;
-    let source = scene.fails_of(alloc, WorldDevice::Source, variant)?;
-    let out = scene.fails_of(alloc, WorldDevice::Out, variant)?;
-    let err = scene.fails_of(alloc, WorldDevice::Err, variant)?;
-    Ok(Streams {
+/// The calls of the streams that fail.
+#[derive(Drop)]
+struct StreamFails {
+    source: Fails,
+    out: Fails,
+    err: Fails,
+}
+
+/// The calls of the streams that fail in a variant of a scene.
+fn stream_fails(
+    alloc: Global,
+    scene: &Scene,
+    variant: Variant<'_>,
+) -> Result<StreamFails, AllocError> {
+    Ok(StreamFails {
+        source: scene.fails_of(alloc, WorldDevice::Source, variant)?,
+        out: scene.fails_of(alloc, WorldDevice::Out, variant)?,
+        err: scene.fails_of(alloc, WorldDevice::Err, variant)?,
+    })
+}
+
+/// Streams of which these calls fail, and that return and take at most this many bytes a call, or one where that is 0.
+fn new_streams(alloc: Global, script: Bytes, fails: StreamFails, most: usize) -> MemStreams {
+    let most = most.max(1);
+    let StreamFails { source, out, err } = fails;
+    Streams {
         source: MemSource::new(script, source).in_pieces_of(most),
         out: MemSink::new(Sequence::new(alloc), out).in_pieces_of(most),
         err: MemSink::new(Sequence::new(alloc), err).in_pieces_of(most),
-    })
+    }
+}
+
+/// The streams of a variant of a scene.
+fn streams_of(
+    alloc: Global,
+    scene: &Scene,
+    variant: Variant<'_>,
+) -> Result<MemStreams, AllocError> {
+    let fails = stream_fails(alloc, scene, variant)?;
+    let script = scene.source(alloc, variant)?;
+    Ok(new_streams(alloc, script, fails, scene.most))
 }
 
 /// What the stores have that a scene begins with.
@@ -151,26 +190,34 @@ fn altered_stock(alloc: Global, scene: &Scene, altered: &Altered) -> Result<Stoc
     })
 }
 
-/// The stores of a variant of a scene, which have this stock.
-fn stores_with(
+/// The calls of the stores that fail.
+#[derive(Drop)]
+struct StoreFails {
+    keeper: Fails,
+    depot: Fails,
+    shelf: Fails,
+}
+
+/// The calls of the stores that fail in a variant of a scene.
+fn store_fails(
     alloc: Global,
     scene: &Scene,
     variant: Variant<'_>,
-    stock: Stock,
-) -> Result<Stores, AllocError> {
-    let keeper = scene.fails_of(alloc, WorldDevice::Keeper, variant)?;
-    let depot = scene.fails_of(alloc, WorldDevice::Depot, variant)?;
-    let shelf = scene.fails_of(alloc, WorldDevice::Shelf, variant)?;
-    let Stock {
-        rows,
-        objects,
-        staged,
-    } = stock;
-    Ok(Stores {
-        keeper: MemKeeper::new(alloc, rows, keeper),
-        depot: MemDepot::new(alloc, objects, depot),
-        shelf: MemShelf::new(alloc, staged, shelf),
+) -> Result<StoreFails, AllocError> {
+    Ok(StoreFails {
+        keeper: scene.fails_of(alloc, WorldDevice::Keeper, variant)?,
+        depot: scene.fails_of(alloc, WorldDevice::Depot, variant)?,
+        shelf: scene.fails_of(alloc, WorldDevice::Shelf, variant)?,
     })
+}
+
+/// Stores that have this stock, and of which these calls fail.
+fn new_stores(alloc: Global, stock: Stock, fails: StoreFails) -> MemStores {
+    Stores {
+        keeper: MemKeeper::new(alloc, stock.rows, fails.keeper),
+        depot: MemDepot::new(alloc, stock.objects, fails.depot),
+        shelf: MemShelf::new(alloc, stock.staged, fails.shelf),
+    }
 }
 
 /// The parts of a variant of a scene, with these stores.
@@ -178,8 +225,8 @@ fn parts_with(
     alloc: Global,
     scene: &Scene,
     variant: Variant<'_>,
-    stores: Stores,
-) -> Result<Parts, AllocError> {
+    stores: MemStores,
+) -> Result<MemParts, AllocError> {
     let clock = scene.fails_of(alloc, WorldDevice::Clock, variant)?;
     let Fails::At(carrier) = scene.fails_of(alloc, WorldDevice::Carrier, variant)?;
     let streams = streams_of(alloc, scene, variant)?;
@@ -228,7 +275,7 @@ impl SceneStage {
         variant: Variant<'_>,
         stock: Stock,
     ) -> Result<(), AllocError> {
-        let stores = stores_with(alloc, scene, variant, stock)?;
+        let stores = new_stores(alloc, stock, store_fails(alloc, scene, variant)?);
         let parts = parts_with(alloc, scene, variant, stores)?;
         self.parts = Some(parts);
         Ok(())

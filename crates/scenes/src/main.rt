@@ -96,14 +96,12 @@
 #![tactic(auto)]
 
 use jv_cmd::{Finish, World, run};
-use jv_outside::{
-    Carrier, MemCarrier, MemClock, MemDepot, MemKeeper, MemShelf, MemSink, MemSource, NumberList,
-};
+use jv_outside::{Carrier, Clock, Depot, Keeper, MemCarrier, NumberList, Shelf, Sink, Source};
 use jv_scenes::{BadScenes, Scene, read_scenes};
-use jv_theatre::{Parts, Player, Stores, Streams, Theatre, push_scene};
+use jv_theatre::{MemParts, Parts, Player, Stores, Streams, Theatre, push_scene};
 use std::alloc::{AllocError, Global};
-use std::io;
 use std::process::ExitCode;
+use std::{io, mem};
 
 /// The exit status where a line is none of a scene.
 const NO_SCENES: u8 = 2;
@@ -114,9 +112,6 @@ const STREAM_FAILED: u8 = 5;
 /// The exit status if the process is out of memory.
 const OUT_OF_MEMORY: u8 = 6;
 
-/// A world of devices in memory.
-type MemWorld = World<MemSource, MemSink, MemSink, MemKeeper, MemDepot, MemShelf, MemClock>;
-
 /// Runs words as the program does.
 #[derive(Clone, Copy)]
 struct Program;
@@ -126,24 +121,48 @@ impl Player for Program {
         &self,
         alloc: Global,
         words: &[String],
-        parts: &mut Option<Parts>,
+        parts: &mut Option<MemParts>,
         carrier: MemCarrier,
     ) -> Result<u8, AllocError> {
         let carrier = Box::new(alloc, carrier)?;
-        Ok(match parts.take() {
-            Some(taken) => {
-                let (status, left) = run_on(alloc, words, taken, carrier);
-                *parts = Some(left);
-                status
-            }
-            None => 0,
-        })
+        Ok(run_in(alloc, words, parts, carrier))
+    }
+}
+
+/// Runs words over the parts of a world, if they are there, with this carrier, and puts back what is left of them.
+/// Returns the status.
+fn run_in<
+    S: Source + Drop,
+    O: Sink + Drop,
+    E: Sink + Drop,
+    K: Keeper + Drop,
+    D: Depot + Drop,
+    H: Shelf + Drop,
+    C: Clock + Drop,
+>(
+    alloc: Global,
+    words: &[String],
+    parts: &mut Option<Parts<S, O, E, K, D, H, C>>,
+    carrier: Box<dyn Carrier>,
+) -> u8 {
+    match parts.take() {
+        Some(taken) => {
+            let (status, left) = run_on(alloc, words, taken, carrier);
+            *parts = Some(left);
+            status
+        }
+        None => 0,
     }
 }
 
 /// Runs words over what a world is made of, with this carrier. Returns the status, and what is left but for the
 /// carrier.
-fn run_on(alloc: Global, words: &[String], parts: Parts, sends: Box<dyn Carrier>) -> (u8, Parts) {
+fn run_on<S: Source, O: Sink, E: Sink, K: Keeper, D: Depot, H: Shelf, C: Clock>(
+    alloc: Global,
+    words: &[String],
+    parts: Parts<S, O, E, K, D, H, C>,
+    sends: Box<dyn Carrier>,
+) -> (u8, Parts<S, O, E, K, D, H, C>) {
     let Parts {
         streams: Streams { source, out, err },
         stores: Stores {
@@ -171,7 +190,10 @@ fn run_on(alloc: Global, words: &[String], parts: Parts, sends: Box<dyn Carrier>
 }
 
 /// What a run left, but for its carrier.
-fn parts_of(world: MemWorld, carrier: NumberList) -> Parts {
+fn parts_of<S, O, E, K, D, H, C>(
+    world: World<S, O, E, K, D, H, C>,
+    carrier: NumberList,
+) -> Parts<S, O, E, K, D, H, C> {
     let World {
         source,
         out,
@@ -222,7 +244,10 @@ fn run_scenes(rt: &HostRuntime) -> Result<(), Stop> {
     };
     let scenes = read_scenes(alloc, text.as_str()).map_err(Stop::Scenes)?;
     let mut theatre = Theatre::new(Program);
-    run_all(rt, scenes.as_slice(), &mut theatre)
+    let ran = run_all(rt, scenes.as_slice(), &mut theatre);
+    // The process ends, which frees what the stages hold.
+    mem::forget(theatre);
+    ran
 }
 
 /// Runs scenes one after the other, and prints the outcome of each.
