@@ -11,9 +11,9 @@ use Rattle.jv_model.specs.declared.profile.Does.TheVariants as does
 use Rattle.jv_model.specs.client.Pending.{Segment}
 use Rattle.jv_model.specs.client.Profile.{handle_of}
 use Rattle.jv_model.specs.client.ModelClient.{file_of}
-use Rattle.jv_handles.specs.declared.handle.Handle.{Handle}
-use Rattle.jv_handles.specs.Handles.{unseen}
-use Rattle.jv_handles.proofs.UnseenLaws.{file_of-unseen, some-unseen, unseen-open, unseen-own}
+use Rattle.jv_client_handles.specs.declared.handle.Handle.{Handle}
+use Rattle.jv_client_handles.specs.Handles.{unseen}
+use Rattle.jv_client_handles.proofs.UnseenLaws.{file_of-unseen, some-unseen, unseen-open, unseen-own}
 use Rattle.jv_client.specs.declared.doing.Doing.{Doing}
 use Rattle.jv_client.specs.declared.doing.Flush.TheVariants as flush
 use Rattle.jv_client.specs.declared.doing.Progress.TheVariants as progress

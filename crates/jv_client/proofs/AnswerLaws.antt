@@ -23,12 +23,12 @@ use Rattle.jv_model.specs.journal.State.{State}
 use Rattle.jv_model.specs.journal.Steps.{is_failure, must_answer}
 use Rattle.jv_outside.specs.Causes.{RoseIf}
 use Rattle.jv_yard.specs.YardValue.{YardValue}
-use Rattle.jv_shared.specs.Keeping.{HoldsSame}
-use Rattle.jv_shared.specs.Shared.{HasStore, Known, Shared}
-use Rattle.jv_shared.proofs.SameLaws.{same-none, same-stays}
-use Rattle.jv_steps.proofs.RefusalStepLaws.{goes-reading, goes-working}
-use Rattle.jv_requests.specs.Request.{Request}
-use Rattle.jv_requests.proofs.StillLaws.{failure-request}
+use Rattle.jv_client_shared.specs.Keeping.{HoldsSame}
+use Rattle.jv_client_shared.specs.Shared.{HasStore, Known, Shared}
+use Rattle.jv_client_shared.proofs.SameLaws.{same-none, same-stays}
+use Rattle.jv_model_steps.proofs.RefusalStepLaws.{goes-reading, goes-working}
+use Rattle.jv_client_requests.specs.Request.{Request}
+use Rattle.jv_client_requests.proofs.StillLaws.{failure-request}
 use Rattle.jv_client.specs.declared.doing.Doing.{Doing}
 use Rattle.jv_client.specs.declared.doing.Progress.{Progress}
 use Rattle.jv_client.specs.declared.doing.Progress.TheVariants.{Reading, Working}

@@ -18,18 +18,18 @@ use Rattle.jv_outside.specs.Store.{Store}
 use Rattle.jv_cache.specs.Cached.{Cached}
 use Rattle.jv_data.specs.declared.looking.View.{View as Looked}
 use Rattle.jv_data.specs.Records.{LooksAt}
-use Rattle.jv_handles.specs.declared.handle.Handle.{Handle}
-use Rattle.jv_handles.specs.declared.views.View.{View}
-use Rattle.jv_handles.proofs.TableLaws.{the_some}
-use Rattle.jv_handles.specs.Handles.{inode_here, inode_of_handle, seen_by, unseen_by}
-use Rattle.jv_shared.specs.Shared.{Shared}
+use Rattle.jv_client_handles.specs.declared.handle.Handle.{Handle}
+use Rattle.jv_client_handles.specs.declared.views.View.{View}
+use Rattle.jv_client_handles.proofs.TableLaws.{the_some}
+use Rattle.jv_client_handles.specs.Handles.{inode_here, inode_of_handle, seen_by, unseen_by}
+use Rattle.jv_client_shared.specs.Shared.{Shared}
 use Rattle.jv_yard.specs.BlockCalls.{GetsBlock}
 use Rattle.jv_yard.specs.YardValue.{YardValue}
-use Rattle.jv_fetching.specs.declared.need.Need.{Need}
-use Rattle.jv_fetching.specs.declared.need.Need.TheVariants.{Block as NeedsBlock, Look as NeedsLook}
-use Rattle.jv_fetching.specs.Calls.{Wants}
-use Rattle.jv_fetching.specs.Fetching.{Fetching}
-use Rattle.jv_fetching.specs.Going.{CanFetch}
+use Rattle.jv_client_reads.specs.declared.need.Need.{Need}
+use Rattle.jv_client_reads.specs.declared.need.Need.TheVariants.{Block as NeedsBlock, Look as NeedsLook}
+use Rattle.jv_client_reads.specs.Calls.{Wants}
+use Rattle.jv_client_reads.specs.Fetching.{Fetching}
+use Rattle.jv_client_reads.specs.Going.{CanFetch}
 use Rattle.jv_client.specs.declared.doing.Doing.{Doing}
 use Rattle.jv_client.specs.declared.doing.Progress.{Progress}
 use Rattle.jv_client.specs.declared.doing.Progress.TheVariants.{Reading, Working}

@@ -20,15 +20,15 @@ use Rattle.jv_model.specs.client.ModelClient.{ModelClient, Working as AtWork, in
 use Rattle.jv_model.specs.journal.State.{State, after_told}
 use Rattle.jv_model.specs.journal.Steps.{Start, asked_of}
 use Rattle.jv_model.specs.client.OpForms.{is_read, is_umount}
-use Rattle.jv_steps.specs.IsStep.{IsStep}
-use Rattle.jv_steps.proofs.AnswerStepLaws.{closed-at_once, flushed-at_once, read-at_once, stats-answered}
-use Rattle.jv_shared.specs.Shared.{HasStore, Known, Shared}
-use Rattle.jv_shared.proofs.KeepingLaws.{stays-none}
-use Rattle.jv_shared.proofs.SameLaws.{same-none}
-use Rattle.jv_requests.specs.Request.{Request}
-use Rattle.jv_requests.proofs.StillLaws.{still-request}
-use Rattle.jv_fetching.specs.Ahead.{blocks_ahead}
-use Rattle.jv_fetching.specs.Fetching.{Fetching, begins}
+use Rattle.jv_model_steps.specs.IsStep.{IsStep}
+use Rattle.jv_model_steps.proofs.AnswerStepLaws.{closed-at_once, flushed-at_once, read-at_once, stats-answered}
+use Rattle.jv_client_shared.specs.Shared.{HasStore, Known, Shared}
+use Rattle.jv_client_shared.proofs.KeepingLaws.{stays-none}
+use Rattle.jv_client_shared.proofs.SameLaws.{same-none}
+use Rattle.jv_client_requests.specs.Request.{Request}
+use Rattle.jv_client_requests.proofs.StillLaws.{still-request}
+use Rattle.jv_client_reads.specs.Ahead.{blocks_ahead}
+use Rattle.jv_client_reads.specs.Fetching.{Fetching, begins}
 use Rattle.jv_client.specs.declared.doing.Doing.{Doing}
 use Rattle.jv_client.specs.declared.doing.Progress.{Progress}
 use Rattle.jv_client.specs.declared.doing.Progress.TheVariants.{Working, Reading}

@@ -17,9 +17,9 @@ use Rattle.jv_model.specs.client.OpForms.{changes_bytes}
 use Rattle.jv_model.specs.tree.Trash.{due_after}
 use Rattle.jv_outside.specs.Store.{Store}
 use Rattle.jv_data.specs.Changing.{AnyBytes, Changes, IsCrowded, Never, count_in}
-use Rattle.jv_shared.specs.Shared.{Shared}
-use Rattle.jv_handles.specs.Handles.{inode_here}
-use Rattle.jv_handles.proofs.TableLaws.{the_some}
+use Rattle.jv_client_shared.specs.Shared.{Shared}
+use Rattle.jv_client_handles.specs.Handles.{inode_here}
+use Rattle.jv_client_handles.proofs.TableLaws.{the_some}
 use Rattle.jv_client.specs.declared.changes.Changed.{Changed}
 use Rattle.jv_client.specs.declared.doing.Doing.{Doing}
 use Rattle.jv_client.specs.declared.made.Made.{Made}
@@ -27,7 +27,7 @@ use Rattle.jv_client.specs.declared.made.Made.TheVariants.{Both}
 use Rattle.jv_client.specs.ClientValue.{ClientValue, session_here}
 use Rattle.jv_client.specs.Changing.{TriesChange, TriesCopy, TriesTruncate, copied_to, cut_to}
 use Rattle.jv_client.specs.Ending.{ended, told_here}
-use Rattle.jv_steps.specs.Stages.{changes_files}
+use Rattle.jv_model_steps.specs.Stages.{changes_files}
 use Rattle.jv_client.specs.UnderWay.{ClosesOpen, IsReady, left}
 use Rattle.jv_client.specs.Makes.{Makes}
 use Rattle.jv_client.specs.Transacting.{EndsUnmade}

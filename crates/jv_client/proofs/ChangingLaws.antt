@@ -31,15 +31,15 @@ use Rattle.jv_outside.specs.Store.{Store}
 use Rattle.jv_rows.specs.Transactions.{IsFor}
 use Rattle.jv_data.specs.Changing.{AnyBytes, Changes, IsCrowded, Never, count_in}
 use Rattle.jv_volume.specs.Holding.{Stays}
-use Rattle.jv_shared.specs.Keeping.{KeepsShared}
-use Rattle.jv_shared.specs.Shared.{HasStore, Known, Shared, depot_in}
-use Rattle.jv_handles.specs.Handles.{inode_here, unseen}
-use Rattle.jv_handles.proofs.HandleLaws.{handles-forgotten}
-use Rattle.jv_handles.proofs.SeenLaws.{views-left}
-use Rattle.jv_steps.specs.Stages.{changes_files}
-use Rattle.jv_requests.specs.Request.{Request}
-use Rattle.jv_requests.proofs.ChangeLaws.{change-never_bad, change-never_moved, copy-not_made, copy-not_made_calm}
-use Rattle.jv_requests.proofs.ChangeLaws.{copy-request, truncate-not_made, truncate-not_made_calm, truncate-request}
+use Rattle.jv_client_shared.specs.Keeping.{KeepsShared}
+use Rattle.jv_client_shared.specs.Shared.{HasStore, Known, Shared, depot_in}
+use Rattle.jv_client_handles.specs.Handles.{inode_here, unseen}
+use Rattle.jv_client_handles.proofs.HandleLaws.{handles-forgotten}
+use Rattle.jv_client_handles.proofs.SeenLaws.{views-left}
+use Rattle.jv_model_steps.specs.Stages.{changes_files}
+use Rattle.jv_client_requests.specs.Request.{Request}
+use Rattle.jv_client_requests.proofs.ChangeLaws.{change-never_bad, change-never_moved, copy-not_made, copy-not_made_calm}
+use Rattle.jv_client_requests.proofs.ChangeLaws.{copy-request, truncate-not_made, truncate-not_made_calm, truncate-request}
 use Rattle.jv_client.specs.declared.doing.Doing.{Doing}
 use Rattle.jv_client.specs.declared.made.Made.{Made}
 use Rattle.jv_client.specs.declared.made.Made.TheVariants.{Both}

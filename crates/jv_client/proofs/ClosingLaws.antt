@@ -6,9 +6,9 @@ use Rattle.jv_model.specs.declared.op.Op.{Op}
 use Rattle.jv_model.specs.declared.op.Op.TheVariants as op
 use Rattle.jv_model.specs.client.ModelClient.{file_in, file_of, free_handle, with_file}
 use Rattle.jv_model.specs.journal.State.{Gift, NewSession, NewHandle, Nothing}
-use Rattle.jv_handles.specs.declared.handle.Handle.{Handle}
-use Rattle.jv_handles.specs.Handles.{new_handle, unseen}
-use Rattle.jv_handles.proofs.UnseenLaws.{some-unseen}
+use Rattle.jv_client_handles.specs.declared.handle.Handle.{Handle}
+use Rattle.jv_client_handles.specs.Handles.{new_handle, unseen}
+use Rattle.jv_client_handles.proofs.UnseenLaws.{some-unseen}
 use Rattle.jv_client.specs.UnderWay.{ClosesOpen}
 use Rattle.jv_client.specs.Transacting.{handles_given}
 

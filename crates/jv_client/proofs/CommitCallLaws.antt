@@ -13,7 +13,7 @@ use Rattle.jv_pending.specs.declared.segment.SegmentAt.{SegmentAt}
 use Rattle.jv_pending.specs.At.{segment_at}
 use Rattle.jv_yard.specs.YardValue.{YardValue}
 use Rattle.jv_data.specs.Records.{CommitsRecord}
-use Rattle.jv_shared.specs.Shared.{Shared}
+use Rattle.jv_client_shared.specs.Shared.{Shared}
 use Rattle.jv_client.specs.declared.doing.Doing.{Doing}
 use Rattle.jv_client.specs.declared.doing.Progress.{Progress}
 use Rattle.jv_client.specs.declared.doing.Progress.TheVariants as progress

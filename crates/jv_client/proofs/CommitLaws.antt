@@ -20,17 +20,17 @@ use Rattle.jv_model.specs.journal.Steps.{told_of}
 use Rattle.jv_outside.specs.Store.{Store}
 use Rattle.jv_pending.specs.declared.segment.SegmentAt.{SegmentAt}
 use Rattle.jv_pending.specs.At.{segment_at}
-use Rattle.jv_contents.specs.Flights.{EachPut, Flight, IsComplete}
+use Rattle.jv_volume_bytes.specs.Flights.{EachPut, Flight, IsComplete}
 use Rattle.jv_data.specs.Records.{CommitsRecord}
 use Rattle.jv_slices.proofs.BlockLaws.{index_below}
-use Rattle.jv_shared.specs.Direct.{HasPut}
-use Rattle.jv_shared.specs.Flying.{Flies}
-use Rattle.jv_shared.specs.Shared.{HasStore, InStore, Known, Shared, depot_in}
-use Rattle.jv_shared.proofs.DirectLaws.{has_put-stored}
-use Rattle.jv_shared.proofs.StoreLaws.{block_some}
-use Rattle.jv_steps.specs.IsStep.{at_stage}
-use Rattle.jv_requests.specs.Request.{Request}
-use Rattle.jv_requests.proofs.CommitLaws.{committed-answered, committed-left, committed-then}
+use Rattle.jv_client_shared.specs.Direct.{HasPut}
+use Rattle.jv_client_shared.specs.Flying.{Flies}
+use Rattle.jv_client_shared.specs.Shared.{HasStore, InStore, Known, Shared, depot_in}
+use Rattle.jv_client_shared.proofs.DirectLaws.{has_put-stored}
+use Rattle.jv_client_shared.proofs.StoreLaws.{block_some}
+use Rattle.jv_model_steps.specs.IsStep.{at_stage}
+use Rattle.jv_client_requests.specs.Request.{Request}
+use Rattle.jv_client_requests.proofs.CommitLaws.{committed-answered, committed-left, committed-then}
 use Rattle.jv_client.specs.declared.doing.Doing.{Doing}
 use Rattle.jv_client.specs.declared.doing.Flush.{Flush}
 use Rattle.jv_client.specs.declared.doing.Progress.TheVariants as progress

@@ -27,11 +27,11 @@ use Rattle.jv_outside.specs.Store.{Store}
 use Rattle.jv_volume.proofs.HoldingLaws.{stays-committed}
 use Rattle.jv_pending.specs.declared.segment.SegmentAt.{SegmentAt}
 use Rattle.jv_data.specs.Records.{CommitsRecord}
-use Rattle.jv_handles.specs.Handles.{inode_here}
-use Rattle.jv_shared.specs.Shared.{HasStore, Known, Shared}
-use Rattle.jv_shared.proofs.KeepingLaws.{stays-none}
-use Rattle.jv_steps.specs.IsStep.{at_stage}
-use Rattle.jv_requests.specs.Request.{Request}
+use Rattle.jv_client_handles.specs.Handles.{inode_here}
+use Rattle.jv_client_shared.specs.Shared.{HasStore, Known, Shared}
+use Rattle.jv_client_shared.proofs.KeepingLaws.{stays-none}
+use Rattle.jv_model_steps.specs.IsStep.{at_stage}
+use Rattle.jv_client_requests.specs.Request.{Request}
 use Rattle.jv_client.specs.declared.doing.Doing.{Doing}
 use Rattle.jv_client.specs.declared.doing.Progress.TheVariants as progress
 use Rattle.jv_client.specs.declared.made.Made.{Made}

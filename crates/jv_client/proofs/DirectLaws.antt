@@ -7,17 +7,17 @@ use Rattle.std.specs.List.{AllByRecursion}
 use Rattle.std.proofs.lemmas.Bool.{cases_eq}
 use Rattle.jv_model.specs.declared.setting.Setting.{Setting}
 use Rattle.jv_model.specs.client.ModelClient.{file_in, file_of, with_file}
-use Rattle.jv_contents.specs.Blocks.{Blocks, Grows}
-use Rattle.jv_contents.specs.Flights.{Flight}
-use Rattle.jv_shared.specs.Direct.{HasNamed, HasPut}
-use Rattle.jv_shared.specs.Shared.{Shared, depot_in}
-use Rattle.jv_shared.proofs.DirectLaws.{has_named-grows, has_put-stays}
-use Rattle.jv_handles.specs.declared.handle.Handle.{Handle}
-use Rattle.jv_handles.specs.declared.views.View.{View}
-use Rattle.jv_handles.specs.Handles.{new_handle, seen_by, unseen}
-use Rattle.jv_handles.specs.Views.{no_views, view_at, with_view}
-use Rattle.jv_handles.proofs.SeenLaws.{view_at-other, view_at-own}
-use Rattle.jv_handles.proofs.TableLaws.{open_at}
+use Rattle.jv_volume_bytes.specs.Blocks.{Blocks, Grows}
+use Rattle.jv_volume_bytes.specs.Flights.{Flight}
+use Rattle.jv_client_shared.specs.Direct.{HasNamed, HasPut}
+use Rattle.jv_client_shared.specs.Shared.{Shared, depot_in}
+use Rattle.jv_client_shared.proofs.DirectLaws.{has_named-grows, has_put-stays}
+use Rattle.jv_client_handles.specs.declared.handle.Handle.{Handle}
+use Rattle.jv_client_handles.specs.declared.views.View.{View}
+use Rattle.jv_client_handles.specs.Handles.{new_handle, seen_by, unseen}
+use Rattle.jv_client_handles.specs.Views.{no_views, view_at, with_view}
+use Rattle.jv_client_handles.proofs.SeenLaws.{view_at-other, view_at-own}
+use Rattle.jv_client_handles.proofs.TableLaws.{open_at}
 use Rattle.jv_client.specs.Direct.{GoesDirect, HasSeen}
 
 -- ---- what views of handles name

@@ -15,15 +15,15 @@ use Rattle.jv_model.specs.client.Profile.{handle_of}
 use Rattle.jv_model.specs.client.Submission.{is_flushed}
 use Rattle.jv_model.specs.journal.Steps.{transacts}
 use Rattle.jv_model.specs.client.OpForms.{is_tried, is_metadata, is_transaction}
-use Rattle.jv_steps.proofs.GiftLaws.{IsDirect}
-use Rattle.jv_shared.specs.Shared.{Known, Shared}
-use Rattle.jv_handles.specs.declared.handle.Handle.{Handle}
+use Rattle.jv_model_steps.proofs.GiftLaws.{IsDirect}
+use Rattle.jv_client_shared.specs.Shared.{Known, Shared}
+use Rattle.jv_client_handles.specs.declared.handle.Handle.{Handle}
 use Rattle.jv_client.specs.declared.doing.Doing.{Doing}
 use Rattle.jv_client.specs.declared.doing.Progress.{Progress}
 use Rattle.jv_client.specs.declared.doing.Progress.TheVariants as progress
 use Rattle.jv_client.specs.ClientValue.{ClientValue}
 use Rattle.jv_client.specs.Held.{IsClient, flush_of_code, is_last_here, stage_of}
-use Rattle.jv_steps.specs.Stages.{changes_files}
+use Rattle.jv_model_steps.specs.Stages.{changes_files}
 use Rattle.jv_client.specs.UnderWay.{FlushesFor, Closes, Syncs, Describes, ReadsNothing, Reads, Truncates, IsForm}
 use Rattle.jv_client.specs.UnderWay.{Mounts, Transacts, Leaves, Writes, Flushes, Copies, SaysStats, IsAt}
 use Rattle.jv_client.specs.UnderWay.{IsReady, asks_more, has_segment, left}

@@ -18,9 +18,9 @@ use Rattle.jv_model.specs.journal.State.{after_told, finished, refused_as}
 use Rattle.jv_model.specs.Lists.{is_among}
 use Rattle.jv_model.specs.client.OpForms.{is_write}
 use Rattle.jv_volume.specs.Holding.{IsHoldable}
-use Rattle.jv_shared.specs.Shared.{Known, Shared, depot_in}
-use Rattle.jv_handles.specs.Handles.{inode_here}
-use Rattle.jv_handles.proofs.HandleLaws.{handles-close}
+use Rattle.jv_client_shared.specs.Shared.{Known, Shared, depot_in}
+use Rattle.jv_client_handles.specs.Handles.{inode_here}
+use Rattle.jv_client_handles.proofs.HandleLaws.{handles-close}
 use Rattle.jv_client.specs.ClientValue.{ClientValue, crashed}
 use Rattle.jv_client.specs.Held.{IsHeld, Holds, is_last_here}
 use Rattle.jv_client.specs.Ending.{closed, ended, finished_here, refused_here, told_here, without}

@@ -15,7 +15,7 @@ use Rattle.jv_model.specs.client.ModelClient.{ModelClient, file_of, is_last_of_r
 use Rattle.jv_model.specs.journal.State.{answer_then}
 use Rattle.jv_model.specs.journal.Steps.{told_of}
 use Rattle.jv_model.specs.client.OpForms.{is_write, is_transaction}
-use Rattle.jv_handles.specs.declared.handle.Handle.{Handle}
+use Rattle.jv_client_handles.specs.declared.handle.Handle.{Handle}
 use Rattle.jv_model.proofs.PendingLaws.{no_first_segment}
 use Rattle.jv_client.specs.declared.doing.Doing.{Doing}
 use Rattle.jv_client.specs.declared.doing.Flush.TheVariants as flush

@@ -17,15 +17,15 @@ use Rattle.jv_model.specs.client.Submission.{next_segment}
 use Rattle.jv_model.specs.client.ModelClient.{ModelClient, Working as InModel, session_of}
 use Rattle.jv_model.specs.journal.State.{State, after_told}
 use Rattle.jv_outside.specs.Store.{Store}
-use Rattle.jv_contents.specs.Flights.{Flight}
+use Rattle.jv_volume_bytes.specs.Flights.{Flight}
 use Rattle.jv_data.specs.Records.{TakesNumber}
-use Rattle.jv_shared.specs.Direct.{HasPut}
-use Rattle.jv_shared.specs.Flying.{Flies}
-use Rattle.jv_shared.specs.Shared.{HasStore, Known, Shared, depot_in, with_size}
-use Rattle.jv_steps.specs.IsStep.{at_stage}
-use Rattle.jv_requests.specs.Request.{Request}
-use Rattle.jv_requests.proofs.NumberLaws.{number-calm, number-never_bad, number-never_moved, number-refused, number-taken}
-use Rattle.jv_requests.proofs.NumberLaws.{number-taken_flies}
+use Rattle.jv_client_shared.specs.Direct.{HasPut}
+use Rattle.jv_client_shared.specs.Flying.{Flies}
+use Rattle.jv_client_shared.specs.Shared.{HasStore, Known, Shared, depot_in, with_size}
+use Rattle.jv_model_steps.specs.IsStep.{at_stage}
+use Rattle.jv_client_requests.specs.Request.{Request}
+use Rattle.jv_client_requests.proofs.NumberLaws.{number-calm, number-never_bad, number-never_moved, number-refused, number-taken}
+use Rattle.jv_client_requests.proofs.NumberLaws.{number-taken_flies}
 use Rattle.jv_client.specs.declared.doing.Doing.{Doing}
 use Rattle.jv_client.specs.declared.doing.Progress.{Progress}
 use Rattle.jv_client.specs.declared.doing.Progress.TheVariants.{Working}
@@ -41,7 +41,7 @@ use Rattle.jv_client.specs.UnderWay.{covered, steps_in}
 use Rattle.jv_client.specs.Makes.{Makes, UsesDevices}
 use Rattle.jv_client.specs.YardUse.{YardUse}
 use Rattle.jv_client.specs.Transacting.{EndsUnmade}
-use Rattle.jv_handles.proofs.TableLaws.{the_some}
+use Rattle.jv_client_handles.proofs.TableLaws.{the_some}
 use Rattle.jv_client.proofs.HeldLaws.{client-doing, doing_of, holds-doing}
 use Rattle.jv_client.proofs.KeptLaws.{client-asks}
 use Rattle.jv_client.proofs.GoesOnLaws.{goes-on, in_progress}

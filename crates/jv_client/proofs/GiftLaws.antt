@@ -11,12 +11,12 @@ use Rattle.jv_model.specs.journal.State.{Gift, NewSession, NewHandle, Nothing, g
 use Rattle.jv_model.specs.Lists.{is_among}
 use Rattle.jv_volume.specs.Holding.{IsHoldable}
 use Rattle.jv_links.specs.Removals.{is_inode}
-use Rattle.jv_shared.specs.Shared.{Known, Shared, depot_in}
-use Rattle.jv_handles.specs.Handles.{new_handle}
-use Rattle.jv_handles.specs.Held.{AreHandles}
-use Rattle.jv_handles.proofs.HandleLaws.{handles-later, handles-opened}
-use Rattle.jv_handles.proofs.SeenLaws.{views-later}
-use Rattle.jv_steps.proofs.GiftLaws.{IsDirect, direct-given}
+use Rattle.jv_client_shared.specs.Shared.{Known, Shared, depot_in}
+use Rattle.jv_client_handles.specs.Handles.{new_handle}
+use Rattle.jv_client_handles.specs.Held.{AreHandles}
+use Rattle.jv_client_handles.proofs.HandleLaws.{handles-later, handles-opened}
+use Rattle.jv_client_handles.proofs.SeenLaws.{views-later}
+use Rattle.jv_model_steps.proofs.GiftLaws.{IsDirect, direct-given}
 use Rattle.jv_client.specs.ClientValue.{ClientValue}
 use Rattle.jv_client.specs.Held.{IsHeld, Holds}
 use Rattle.jv_client.specs.Transacting.{handles_given, session_given, sustained_with}

@@ -9,8 +9,8 @@ use Rattle.jv_model.specs.declared.op.Step.TheVariants.{More}
 use Rattle.jv_model.specs.client.ModelClient.{file_of}
 use Rattle.jv_model.specs.journal.State.{State}
 use Rattle.jv_model.specs.journal.Stepping.{is_answer}
-use Rattle.jv_handles.specs.declared.handle.Handle.{Handle}
-use Rattle.jv_shared.specs.Shared.{HasStore, Known, Shared}
+use Rattle.jv_client_handles.specs.declared.handle.Handle.{Handle}
+use Rattle.jv_client_shared.specs.Shared.{HasStore, Known, Shared}
 use Rattle.jv_client.specs.declared.doing.Doing.{Doing}
 use Rattle.jv_client.specs.declared.doing.Flush.{Flush}
 use Rattle.jv_client.specs.declared.doing.Flush.TheVariants as flush

@@ -11,21 +11,21 @@ use Rattle.jv_model.specs.journal.Reading.{Asked, asked_parts, reading}
 use Rattle.jv_model.specs.journal.State.{after_told}
 use Rattle.jv_model.specs.journal.Steps.{asked_of}
 use Rattle.jv_cache.specs.Cached.{Cached}
-use Rattle.jv_contents.specs.Blocks.{Blocks, known_by}
-use Rattle.jv_shared.specs.Shared.{Known, Shared}
-use Rattle.jv_handles.specs.declared.handle.Handle.{Handle}
-use Rattle.jv_handles.specs.Held.{IsHandle}
-use Rattle.jv_handles.proofs.HandleLaws.{handles-later}
-use Rattle.jv_handles.proofs.SeenLaws.{views-later}
-use Rattle.jv_fetching.specs.declared.need.Need.{Need}
-use Rattle.jv_fetching.specs.declared.need.Need.TheVariants.{Nothing}
-use Rattle.jv_fetching.specs.Calls.{HasCached, IsCacheOf, Wants}
-use Rattle.jv_fetching.specs.Fetching.{Fetching, fetch_left}
-use Rattle.jv_fetching.specs.Going.{CanFetch, IsFetching}
-use Rattle.jv_fetching.specs.Shows.{IsReadBy}
-use Rattle.jv_fetching.proofs.CacheLaws.{LooksUp, cache_of-has, cache_of-looks}
-use Rattle.jv_fetching.proofs.SameLaws.{fetches_show}
-use Rattle.jv_steps.specs.IsStep.{at_stage}
+use Rattle.jv_volume_bytes.specs.Blocks.{Blocks, known_by}
+use Rattle.jv_client_shared.specs.Shared.{Known, Shared}
+use Rattle.jv_client_handles.specs.declared.handle.Handle.{Handle}
+use Rattle.jv_client_handles.specs.Held.{IsHandle}
+use Rattle.jv_client_handles.proofs.HandleLaws.{handles-later}
+use Rattle.jv_client_handles.proofs.SeenLaws.{views-later}
+use Rattle.jv_client_reads.specs.declared.need.Need.{Need}
+use Rattle.jv_client_reads.specs.declared.need.Need.TheVariants.{Nothing}
+use Rattle.jv_client_reads.specs.Calls.{HasCached, IsCacheOf, Wants}
+use Rattle.jv_client_reads.specs.Fetching.{Fetching, fetch_left}
+use Rattle.jv_client_reads.specs.Going.{CanFetch, IsFetching}
+use Rattle.jv_client_reads.specs.Shows.{IsReadBy}
+use Rattle.jv_client_reads.proofs.CacheLaws.{LooksUp, cache_of-has, cache_of-looks}
+use Rattle.jv_client_reads.proofs.SameLaws.{fetches_show}
+use Rattle.jv_model_steps.specs.IsStep.{at_stage}
 use Rattle.jv_client.specs.declared.doing.Doing.{Doing}
 use Rattle.jv_client.specs.declared.doing.Flush.TheVariants as flush
 use Rattle.jv_client.specs.declared.doing.Progress.TheVariants.{Reading}

@@ -24,36 +24,36 @@ use Rattle.jv_model.specs.blocks.BlockNames.{name_in}
 use Rattle.jv_model.specs.client.OpForms.{is_read, is_umount}
 use Rattle.jv_outside.specs.Causes.{RoseIf}
 use Rattle.jv_cache.specs.Cached.{Cached}
-use Rattle.jv_contents.specs.Blocks.{Blocks, known_by}
+use Rattle.jv_volume_bytes.specs.Blocks.{Blocks, known_by}
 use Rattle.jv_yard.specs.declared.faults.YardFault.{YardFault}
 use Rattle.jv_yard.specs.declared.faults.YardFault.TheVariants.{Depot, Shelf, Memory}
 use Rattle.jv_yard.specs.BlockCalls.{GetsBlock}
 use Rattle.jv_yard.specs.Refusals.{Refuses}
 use Rattle.jv_yard.specs.YardValue.{YardValue}
-use Rattle.jv_shared.specs.Direct.{HasNamed}
-use Rattle.jv_shared.specs.Keeping.{KeepsShared}
-use Rattle.jv_shared.specs.Shared.{HasStore, Known, Shared, depot_in}
-use Rattle.jv_shared.proofs.SameLaws.{same-gets, same-stays}
-use Rattle.jv_handles.specs.declared.handle.Handle.{Handle}
-use Rattle.jv_handles.specs.Held.{IsHandle, IsSeen, SamePlace}
-use Rattle.jv_handles.specs.Views.{view_at}
-use Rattle.jv_handles.proofs.TableLaws.{some-same, there_in}
-use Rattle.jv_handles.proofs.HandleLaws.{handle-stays}
-use Rattle.jv_reading.specs.Parts.{IsNamed}
-use Rattle.jv_fetching.specs.declared.need.Need.{Need}
-use Rattle.jv_fetching.specs.declared.need.Need.TheVariants.{Block as NeedsBlock, Nothing}
-use Rattle.jv_fetching.specs.Ahead.{blocks_ahead}
-use Rattle.jv_fetching.specs.Calls.{Asks, HasCached, IsCacheOf, Keeps, Wants, first_seen}
-use Rattle.jv_fetching.specs.Fetching.{Fetching}
-use Rattle.jv_fetching.specs.Going.{IsFetching}
-use Rattle.jv_fetching.specs.Laws.{IsOfView}
-use Rattle.jv_fetching.specs.Shows.{IsReadBy}
-use Rattle.jv_fetching.proofs.CacheLaws.{LooksUp, cache_of-keeps, cache_of-looks}
-use Rattle.jv_fetching.proofs.SameLaws.{fetches_show}
-use Rattle.jv_steps.specs.IsStep.{at_stage}
-use Rattle.jv_steps.proofs.LookStepLaws.{sees_first-is}
-use Rattle.jv_requests.specs.Request.{Request}
-use Rattle.jv_requests.proofs.GetLaws.{GotBlock, MayGet, get-answered, get-request, got-block, fails-yard}
+use Rattle.jv_client_shared.specs.Direct.{HasNamed}
+use Rattle.jv_client_shared.specs.Keeping.{KeepsShared}
+use Rattle.jv_client_shared.specs.Shared.{HasStore, Known, Shared, depot_in}
+use Rattle.jv_client_shared.proofs.SameLaws.{same-gets, same-stays}
+use Rattle.jv_client_handles.specs.declared.handle.Handle.{Handle}
+use Rattle.jv_client_handles.specs.Held.{IsHandle, IsSeen, SamePlace}
+use Rattle.jv_client_handles.specs.Views.{view_at}
+use Rattle.jv_client_handles.proofs.TableLaws.{some-same, there_in}
+use Rattle.jv_client_handles.proofs.HandleLaws.{handle-stays}
+use Rattle.jv_slices_reading.specs.Parts.{IsNamed}
+use Rattle.jv_client_reads.specs.declared.need.Need.{Need}
+use Rattle.jv_client_reads.specs.declared.need.Need.TheVariants.{Block as NeedsBlock, Nothing}
+use Rattle.jv_client_reads.specs.Ahead.{blocks_ahead}
+use Rattle.jv_client_reads.specs.Calls.{Asks, HasCached, IsCacheOf, Keeps, Wants, first_seen}
+use Rattle.jv_client_reads.specs.Fetching.{Fetching}
+use Rattle.jv_client_reads.specs.Going.{IsFetching}
+use Rattle.jv_client_reads.specs.Laws.{IsOfView}
+use Rattle.jv_client_reads.specs.Shows.{IsReadBy}
+use Rattle.jv_client_reads.proofs.CacheLaws.{LooksUp, cache_of-keeps, cache_of-looks}
+use Rattle.jv_client_reads.proofs.SameLaws.{fetches_show}
+use Rattle.jv_model_steps.specs.IsStep.{at_stage}
+use Rattle.jv_model_steps.proofs.LookStepLaws.{sees_first-is}
+use Rattle.jv_client_requests.specs.Request.{Request}
+use Rattle.jv_client_requests.proofs.GetLaws.{GotBlock, MayGet, get-answered, get-request, got-block, fails-yard}
 use Rattle.jv_client.specs.declared.doing.Doing.{Doing}
 use Rattle.jv_client.specs.declared.made.Made.{Made}
 use Rattle.jv_client.specs.declared.made.Made.TheVariants as made

@@ -6,11 +6,11 @@ use Rattle.jv_model.specs.tree.Tree.{Tree}
 use Rattle.jv_model.specs.client.Pending.{PendingByte}
 use Rattle.jv_model.specs.client.ModelClient.{ModelClient, Doing as ModelDoing, unmounted}
 use Rattle.jv_volume.specs.Holding.{IsHoldable, Stays}
-use Rattle.jv_shared.specs.Shared.{Known, Shared}
+use Rattle.jv_client_shared.specs.Shared.{Known, Shared}
 use Rattle.jv_client.specs.declared.doing.Doing.{Doing}
 use Rattle.jv_client.specs.ClientValue.{ClientValue}
 use Rattle.jv_client.specs.Held.{Holds, IsClient, IsDoing, IsHeld, flush_of_code, stage_of}
-use Rattle.jv_handles.proofs.TableLaws.{there_in}
+use Rattle.jv_client_handles.proofs.TableLaws.{there_in}
 
 -- ---- what the model's client is doing
 

@@ -19,21 +19,21 @@ use Rattle.jv_model.specs.journal.Steps.{asked_of}
 use Rattle.jv_volume.specs.TypedRows.{Rows}
 use Rattle.jv_volume.specs.Slices.{next_slice}
 use Rattle.jv_cache.specs.Cached.{Cached}
-use Rattle.jv_contents.specs.Flights.{Flight}
-use Rattle.jv_shared.specs.Direct.{HasPut}
-use Rattle.jv_shared.specs.Keeping.{KeepsShared}
-use Rattle.jv_shared.specs.Shared.{HasStore, Known, Shared, depot_in}
-use Rattle.jv_shared.proofs.KeepingLaws.{flies-stay}
-use Rattle.jv_shared.proofs.StoreLaws.{rows_are}
-use Rattle.jv_handles.specs.declared.handle.Handle.{Handle}
-use Rattle.jv_handles.specs.Held.{SamePlace}
-use Rattle.jv_handles.proofs.HandleLaws.{handles-stay}
-use Rattle.jv_handles.proofs.SeenLaws.{views-later}
-use Rattle.jv_fetching.specs.Calls.{IsCacheOf}
-use Rattle.jv_fetching.specs.Going.{IsFetching}
-use Rattle.jv_fetching.proofs.CacheLaws.{cache_of-later}
-use Rattle.jv_fetching.proofs.FetchLaws.{come}
-use Rattle.jv_steps.specs.IsStep.{at_stage}
+use Rattle.jv_volume_bytes.specs.Flights.{Flight}
+use Rattle.jv_client_shared.specs.Direct.{HasPut}
+use Rattle.jv_client_shared.specs.Keeping.{KeepsShared}
+use Rattle.jv_client_shared.specs.Shared.{HasStore, Known, Shared, depot_in}
+use Rattle.jv_client_shared.proofs.KeepingLaws.{flies-stay}
+use Rattle.jv_client_shared.proofs.StoreLaws.{rows_are}
+use Rattle.jv_client_handles.specs.declared.handle.Handle.{Handle}
+use Rattle.jv_client_handles.specs.Held.{SamePlace}
+use Rattle.jv_client_handles.proofs.HandleLaws.{handles-stay}
+use Rattle.jv_client_handles.proofs.SeenLaws.{views-later}
+use Rattle.jv_client_reads.specs.Calls.{IsCacheOf}
+use Rattle.jv_client_reads.specs.Going.{IsFetching}
+use Rattle.jv_client_reads.proofs.CacheLaws.{cache_of-later}
+use Rattle.jv_client_reads.proofs.FetchLaws.{come}
+use Rattle.jv_model_steps.specs.IsStep.{at_stage}
 use Rattle.jv_client.specs.declared.doing.Doing.{Doing}
 use Rattle.jv_client.specs.declared.doing.Progress.{Progress}
 use Rattle.jv_client.specs.declared.doing.Progress.TheVariants.{Reading, Working}

@@ -2,9 +2,9 @@
 use Rattle.std.proofs.Common.{◌≡◌, ℕ, ◌&&◌, not, None, ap, ◌∙◌}
 use Rattle.jv_model.specs.client.ModelClient.{ModelClient, held_inodes, inode_at, is_last_of_removed, with_file}
 use Rattle.jv_model.specs.Lists.{is_among}
-use Rattle.jv_shared.specs.Shared.{Known, Shared}
-use Rattle.jv_handles.specs.Handles.{inode_here}
-use Rattle.jv_handles.proofs.HandleLaws.{handles-elsewhere, handles-inode}
+use Rattle.jv_client_shared.specs.Shared.{Known, Shared}
+use Rattle.jv_client_handles.specs.Handles.{inode_here}
+use Rattle.jv_client_handles.proofs.HandleLaws.{handles-elsewhere, handles-inode}
 use Rattle.jv_client.specs.ClientValue.{ClientValue}
 use Rattle.jv_client.specs.Held.{IsHeld, is_last_here}
 

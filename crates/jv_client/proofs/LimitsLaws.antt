@@ -6,9 +6,9 @@ use Rattle.jv_model.specs.declared.slice.BlockId.{BlockId}
 use Rattle.jv_cache.specs.declared.key.BlockKey.{BlockKey}
 use Rattle.jv_cache.specs.Cached.{Cached, found_in, noted_in}
 use Rattle.jv_pending.specs.Held.{PendingValue}
-use Rattle.jv_handles.specs.Views.{SeenViews}
-use Rattle.jv_fetching.specs.Calls.{cache_key}
-use Rattle.jv_fetching.specs.Fetching.{Fetching}
+use Rattle.jv_client_handles.specs.Views.{SeenViews}
+use Rattle.jv_client_reads.specs.Calls.{cache_key}
+use Rattle.jv_client_reads.specs.Fetching.{Fetching}
 use Rattle.jv_client.specs.declared.reading.Ahead.{Ahead}
 use Rattle.jv_client.specs.Reading.{LooksOn}
 use Rattle.jv_client.proofs.LooksLaws.{looks-on}

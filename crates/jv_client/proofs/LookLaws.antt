@@ -20,35 +20,35 @@ use Rattle.jv_model.specs.client.OpForms.{is_read, is_umount}
 use Rattle.jv_outside.specs.Causes.{RoseIf}
 use Rattle.jv_outside.specs.Store.{Store}
 use Rattle.jv_cache.specs.Cached.{Cached}
-use Rattle.jv_contents.specs.Blocks.{Blocks, known_by}
+use Rattle.jv_volume_bytes.specs.Blocks.{Blocks, known_by}
 use Rattle.jv_data.specs.declared.looking.View.{View as Looked}
 use Rattle.jv_data.specs.Records.{LooksAt}
-use Rattle.jv_shared.specs.Direct.{HasNamed}
-use Rattle.jv_shared.specs.Keeping.{HoldsSame, KeepsShared}
-use Rattle.jv_shared.specs.Seen.{IsView}
-use Rattle.jv_shared.specs.Shared.{HasStore, Known, Shared, depot_in}
-use Rattle.jv_shared.proofs.SameLaws.{same-stays}
-use Rattle.jv_handles.specs.declared.handle.Handle.{Handle}
-use Rattle.jv_handles.specs.declared.views.View.{View}
-use Rattle.jv_handles.specs.Handles.{seen_by}
-use Rattle.jv_handles.specs.Held.{IsHandle}
-use Rattle.jv_handles.specs.Views.{SeenViews, view_at, with_view}
-use Rattle.jv_handles.proofs.TableLaws.{file_of-with_file}
-use Rattle.jv_handles.proofs.HandleLaws.{handle-looked, handle-stays, handles-looked}
-use Rattle.jv_handles.proofs.SeenLaws.{view_at-own, views-later}
-use Rattle.jv_fetching.specs.declared.need.Need.{Need}
-use Rattle.jv_fetching.specs.declared.need.Need.TheVariants.{Look as NeedsLook, Nothing}
-use Rattle.jv_fetching.specs.Ahead.{blocks_ahead}
-use Rattle.jv_fetching.specs.Calls.{Asks, HasCached, IsCacheOf, Wants, first_seen, first_unseen}
-use Rattle.jv_fetching.specs.Fetching.{Fetching, fetch_left}
-use Rattle.jv_fetching.specs.Going.{CanFetch, IsFetching}
-use Rattle.jv_fetching.specs.Shows.{IsReadBy}
-use Rattle.jv_fetching.proofs.FetchLaws.{fetches_go_on}
-use Rattle.jv_fetching.proofs.SameLaws.{fetches_show}
-use Rattle.jv_steps.specs.IsStep.{at_stage}
-use Rattle.jv_steps.proofs.LookStepLaws.{window-needed}
-use Rattle.jv_requests.specs.Request.{Request}
-use Rattle.jv_requests.proofs.LookLaws.{look-answered, look-named, look-request, look-shows, looked-content, looked-still}
+use Rattle.jv_client_shared.specs.Direct.{HasNamed}
+use Rattle.jv_client_shared.specs.Keeping.{HoldsSame, KeepsShared}
+use Rattle.jv_client_shared.specs.Seen.{IsView}
+use Rattle.jv_client_shared.specs.Shared.{HasStore, Known, Shared, depot_in}
+use Rattle.jv_client_shared.proofs.SameLaws.{same-stays}
+use Rattle.jv_client_handles.specs.declared.handle.Handle.{Handle}
+use Rattle.jv_client_handles.specs.declared.views.View.{View}
+use Rattle.jv_client_handles.specs.Handles.{seen_by}
+use Rattle.jv_client_handles.specs.Held.{IsHandle}
+use Rattle.jv_client_handles.specs.Views.{SeenViews, view_at, with_view}
+use Rattle.jv_client_handles.proofs.TableLaws.{file_of-with_file}
+use Rattle.jv_client_handles.proofs.HandleLaws.{handle-looked, handle-stays, handles-looked}
+use Rattle.jv_client_handles.proofs.SeenLaws.{view_at-own, views-later}
+use Rattle.jv_client_reads.specs.declared.need.Need.{Need}
+use Rattle.jv_client_reads.specs.declared.need.Need.TheVariants.{Look as NeedsLook, Nothing}
+use Rattle.jv_client_reads.specs.Ahead.{blocks_ahead}
+use Rattle.jv_client_reads.specs.Calls.{Asks, HasCached, IsCacheOf, Wants, first_seen, first_unseen}
+use Rattle.jv_client_reads.specs.Fetching.{Fetching, fetch_left}
+use Rattle.jv_client_reads.specs.Going.{CanFetch, IsFetching}
+use Rattle.jv_client_reads.specs.Shows.{IsReadBy}
+use Rattle.jv_client_reads.proofs.FetchLaws.{fetches_go_on}
+use Rattle.jv_client_reads.proofs.SameLaws.{fetches_show}
+use Rattle.jv_model_steps.specs.IsStep.{at_stage}
+use Rattle.jv_model_steps.proofs.LookStepLaws.{window-needed}
+use Rattle.jv_client_requests.specs.Request.{Request}
+use Rattle.jv_client_requests.proofs.LookLaws.{look-answered, look-named, look-request, look-shows, looked-content, looked-still}
 use Rattle.jv_client.specs.declared.doing.Doing.{Doing}
 use Rattle.jv_client.specs.declared.made.Made.{Made}
 use Rattle.jv_client.specs.declared.made.Made.TheVariants as made
@@ -62,7 +62,7 @@ use Rattle.jv_client.specs.Reading.{GoesAhead, NeedsNext, read_of, told_read, vi
 use Rattle.jv_client.specs.UnderWay.{LacksNeed}
 use Rattle.jv_client.proofs.CacheUseLaws.{cache-read}
 use Rattle.jv_client.proofs.ReadingLaws.{lacks-later}
-use Rattle.jv_fetching.proofs.CacheLaws.{LooksUp, for_looks}
+use Rattle.jv_client_reads.proofs.CacheLaws.{LooksUp, for_looks}
 use Rattle.jv_client.proofs.AnswerLaws.{same-yard}
 use Rattle.jv_client.proofs.DirectLaws.{direct-looked}
 use Rattle.jv_client.proofs.EndingLaws.{holds-told}

@@ -8,15 +8,15 @@ use Rattle.jv_model.specs.client.Profile.{handle_of}
 use Rattle.jv_model.specs.journal.Reading.{Asked, asked_parts}
 use Rattle.jv_model.specs.journal.Steps.{asked_of}
 use Rattle.jv_cache.specs.Cached.{Cached}
-use Rattle.jv_handles.specs.declared.handle.Handle.{Handle}
-use Rattle.jv_handles.specs.Views.{SeenViews, no_views}
-use Rattle.jv_fetching.specs.declared.begun.Begun.{Begun}
-use Rattle.jv_fetching.specs.declared.need.Need.{Need}
-use Rattle.jv_fetching.specs.declared.need.Need.TheVariants.{Nothing}
-use Rattle.jv_fetching.specs.Ahead.{ahead_of, blocks_ahead, parts_blocks}
-use Rattle.jv_fetching.specs.Calls.{AsksSome, Wants}
-use Rattle.jv_fetching.specs.Fetching.{Fetching, begins}
-use Rattle.jv_fetching.proofs.CacheLaws.{LooksUp, for_looks}
+use Rattle.jv_client_handles.specs.declared.handle.Handle.{Handle}
+use Rattle.jv_client_handles.specs.Views.{SeenViews, no_views}
+use Rattle.jv_client_reads.specs.declared.begun.Begun.{Begun}
+use Rattle.jv_client_reads.specs.declared.need.Need.{Need}
+use Rattle.jv_client_reads.specs.declared.need.Need.TheVariants.{Nothing}
+use Rattle.jv_client_reads.specs.Ahead.{ahead_of, blocks_ahead, parts_blocks}
+use Rattle.jv_client_reads.specs.Calls.{AsksSome, Wants}
+use Rattle.jv_client_reads.specs.Fetching.{Fetching, begins}
+use Rattle.jv_client_reads.proofs.CacheLaws.{LooksUp, for_looks}
 use Rattle.jv_client.specs.declared.doing.Doing.{Doing}
 use Rattle.jv_client.specs.declared.doing.Progress.{Progress}
 use Rattle.jv_client.specs.declared.doing.Progress.TheVariants.{Working, Reading}

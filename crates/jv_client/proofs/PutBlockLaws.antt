@@ -22,23 +22,23 @@ use Rattle.jv_model.specs.journal.State.{State}
 use Rattle.jv_outside.specs.Carriage.{Carriage}
 use Rattle.jv_outside.specs.Causes.{RoseIf}
 use Rattle.jv_slices.proofs.BlockLaws.{block_begins}
-use Rattle.jv_contents.specs.Flights.{Flight, flight_block, flight_bytes}
+use Rattle.jv_volume_bytes.specs.Flights.{Flight, flight_block, flight_bytes}
 use Rattle.jv_yard.specs.declared.note.What.TheVariants.{Put}
 use Rattle.jv_yard.specs.BlockCalls.{note_of}
 use Rattle.jv_yard.specs.YardValue.{YardValue}
-use Rattle.jv_shared.specs.Direct.{HasPut}
-use Rattle.jv_shared.specs.Flying.{Flies}
-use Rattle.jv_shared.specs.Lengths.{IsLength}
-use Rattle.jv_shared.proofs.FlyingLaws.{slice_block-is}
-use Rattle.jv_shared.specs.Shared.{HasStore, Known, Shared, depot_in, with_block}
-use Rattle.jv_steps.specs.IsStep.{at_stage}
-use Rattle.jv_flushing.specs.declared.putting.PutFault.{PutFault}
-use Rattle.jv_flushing.specs.declared.putting.PutFault.TheVariants.{Carrier, Depot, Memory}
-use Rattle.jv_flushing.specs.Putting.{PutsFlight, fault_of}
-use Rattle.jv_flushing.proofs.PutStepLaws.{put-step_flies, put-step_has, unput-same}
-use Rattle.jv_flushing.proofs.UsedLaws.{PutUses, put-uses, put_fails}
-use Rattle.jv_requests.specs.Request.{Request}
-use Rattle.jv_requests.proofs.PutLaws.{put-fails, put-request}
+use Rattle.jv_client_shared.specs.Direct.{HasPut}
+use Rattle.jv_client_shared.specs.Flying.{Flies}
+use Rattle.jv_client_shared.specs.Lengths.{IsLength}
+use Rattle.jv_client_shared.proofs.FlyingLaws.{slice_block-is}
+use Rattle.jv_client_shared.specs.Shared.{HasStore, Known, Shared, depot_in, with_block}
+use Rattle.jv_model_steps.specs.IsStep.{at_stage}
+use Rattle.jv_client_puts.specs.declared.putting.PutFault.{PutFault}
+use Rattle.jv_client_puts.specs.declared.putting.PutFault.TheVariants.{Carrier, Depot, Memory}
+use Rattle.jv_client_puts.specs.Putting.{PutsFlight, fault_of}
+use Rattle.jv_client_puts.proofs.PutStepLaws.{put-step_flies, put-step_has, unput-same}
+use Rattle.jv_client_puts.proofs.UsedLaws.{PutUses, put-uses, put_fails}
+use Rattle.jv_client_requests.specs.Request.{Request}
+use Rattle.jv_client_requests.proofs.PutLaws.{put-fails, put-request}
 use Rattle.jv_client.specs.declared.doing.Doing.{Doing}
 use Rattle.jv_client.specs.declared.doing.Progress.TheVariants.{Working}
 use Rattle.jv_client.specs.declared.made.Made.{Made}

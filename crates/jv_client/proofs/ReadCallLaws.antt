@@ -14,14 +14,14 @@ use Rattle.jv_outside.specs.Store.{Store}
 use Rattle.jv_cache.specs.Cached.{Cached}
 use Rattle.jv_data.specs.declared.looking.View.{View as Looked}
 use Rattle.jv_data.specs.Records.{LooksAt}
-use Rattle.jv_handles.specs.declared.handle.Handle.{Handle}
-use Rattle.jv_handles.specs.Handles.{unseen_by}
-use Rattle.jv_handles.proofs.UnseenLaws.{unseen_by-seen_by}
-use Rattle.jv_shared.specs.Shared.{Shared}
+use Rattle.jv_client_handles.specs.declared.handle.Handle.{Handle}
+use Rattle.jv_client_handles.specs.Handles.{unseen_by}
+use Rattle.jv_client_handles.proofs.UnseenLaws.{unseen_by-seen_by}
+use Rattle.jv_client_shared.specs.Shared.{Shared}
 use Rattle.jv_yard.specs.BlockCalls.{GetsBlock}
 use Rattle.jv_yard.specs.YardValue.{YardValue}
-use Rattle.jv_fetching.specs.declared.need.Need.TheVariants.{Block as NeedsBlock, Look as NeedsLook, Nothing}
-use Rattle.jv_fetching.specs.Fetching.{Fetching}
+use Rattle.jv_client_reads.specs.declared.need.Need.TheVariants.{Block as NeedsBlock, Look as NeedsLook, Nothing}
+use Rattle.jv_client_reads.specs.Fetching.{Fetching}
 use Rattle.jv_client.specs.declared.doing.Doing.{Doing}
 use Rattle.jv_client.specs.declared.doing.Progress.TheVariants.{Reading, Working}
 use Rattle.jv_client.specs.declared.made.Made.{Made}
@@ -41,7 +41,7 @@ use Rattle.jv_client.proofs.LookLaws.{look-on, look-over, looked-on, not_seen, s
 use Rattle.jv_client.proofs.LookLaws.{view_of}
 use Rattle.jv_client.proofs.UnlookedLaws.{look-out}
 use Rattle.jv_client.proofs.GotLaws.{get-on, get-out, get-over}
-use Rattle.jv_fetching.proofs.CacheLaws.{cache_of-looks, for_looks}
+use Rattle.jv_client_reads.proofs.CacheLaws.{cache_of-looks, for_looks}
 
 -- the client whose reading was taken out, with these handles and this cache
 abbrev pub taken_out : List (Option Handle) → Cached → Doing → ClientValue → ClientValue

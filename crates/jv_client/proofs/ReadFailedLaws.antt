@@ -11,15 +11,15 @@ use Rattle.jv_model.specs.journal.State.{State}
 use Rattle.jv_model.specs.journal.Steps.{is_failure}
 use Rattle.jv_model.specs.client.OpForms.{is_read}
 use Rattle.jv_cache.specs.Cached.{Cached}
-use Rattle.jv_fetching.specs.declared.need.Need.{Need}
-use Rattle.jv_fetching.specs.Calls.{IsCacheOf}
-use Rattle.jv_fetching.specs.Fetching.{Fetching}
-use Rattle.jv_shared.specs.Keeping.{HoldsSame}
-use Rattle.jv_shared.specs.Shared.{HasStore, Known, Shared}
-use Rattle.jv_shared.proofs.SameLaws.{same-stays}
-use Rattle.jv_requests.specs.Request.{Request}
-use Rattle.jv_requests.proofs.LookLaws.{goes-look}
-use Rattle.jv_requests.proofs.StillLaws.{failure-request}
+use Rattle.jv_client_reads.specs.declared.need.Need.{Need}
+use Rattle.jv_client_reads.specs.Calls.{IsCacheOf}
+use Rattle.jv_client_reads.specs.Fetching.{Fetching}
+use Rattle.jv_client_shared.specs.Keeping.{HoldsSame}
+use Rattle.jv_client_shared.specs.Shared.{HasStore, Known, Shared}
+use Rattle.jv_client_shared.proofs.SameLaws.{same-stays}
+use Rattle.jv_client_requests.specs.Request.{Request}
+use Rattle.jv_client_requests.proofs.LookLaws.{goes-look}
+use Rattle.jv_client_requests.proofs.StillLaws.{failure-request}
 use Rattle.jv_client.specs.declared.doing.Doing.{Doing}
 use Rattle.jv_client.specs.declared.made.Made.TheVariants as made
 use Rattle.jv_client.specs.ClientValue.{ClientValue}

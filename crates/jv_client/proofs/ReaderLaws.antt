@@ -13,17 +13,17 @@ use Rattle.jv_model.specs.journal.State.{State, sees_first}
 use Rattle.jv_model.specs.journal.Steps.{asked_of, file_in_use}
 use Rattle.jv_model.specs.client.Pending.{PendingByte}
 use Rattle.jv_cache.specs.Cached.{Cached}
-use Rattle.jv_fetching.specs.declared.need.Need.{Need}
-use Rattle.jv_fetching.specs.Calls.{IsCacheOf, Wants}
-use Rattle.jv_fetching.specs.Fetching.{Fetching, fetch_left}
-use Rattle.jv_fetching.specs.Going.{CanFetch, IsFetching}
-use Rattle.jv_handles.specs.declared.handle.Handle.{Handle}
-use Rattle.jv_handles.specs.Held.{IsHandle}
-use Rattle.jv_handles.proofs.HandleLaws.{handles-there}
-use Rattle.jv_shared.specs.Shared.{HasStore, Known, Shared}
-use Rattle.jv_steps.specs.Stages.{MayRead, Begins, GoesOn}
-use Rattle.jv_requests.proofs.GetLaws.{MayGet, First, Later}
-use Rattle.jv_handles.proofs.TableLaws.{the_some}
+use Rattle.jv_client_reads.specs.declared.need.Need.{Need}
+use Rattle.jv_client_reads.specs.Calls.{IsCacheOf, Wants}
+use Rattle.jv_client_reads.specs.Fetching.{Fetching, fetch_left}
+use Rattle.jv_client_reads.specs.Going.{CanFetch, IsFetching}
+use Rattle.jv_client_handles.specs.declared.handle.Handle.{Handle}
+use Rattle.jv_client_handles.specs.Held.{IsHandle}
+use Rattle.jv_client_handles.proofs.HandleLaws.{handles-there}
+use Rattle.jv_client_shared.specs.Shared.{HasStore, Known, Shared}
+use Rattle.jv_model_steps.specs.Stages.{MayRead, Begins, GoesOn}
+use Rattle.jv_client_requests.proofs.GetLaws.{MayGet, First, Later}
+use Rattle.jv_client_handles.proofs.TableLaws.{the_some}
 use Rattle.jv_client.specs.declared.doing.Doing.{Doing}
 use Rattle.jv_client.specs.declared.doing.Flush.TheVariants as flush
 use Rattle.jv_client.specs.declared.doing.Progress.{Progress}

@@ -14,24 +14,24 @@ use Rattle.jv_model.specs.client.Submission.{is_flushed}
 use Rattle.jv_model.specs.journal.Reading.{Asked, asked_parts, reading}
 use Rattle.jv_model.specs.journal.Steps.{asked_of}
 use Rattle.jv_cache.specs.Cached.{Cached}
-use Rattle.jv_contents.specs.Blocks.{Blocks, known_by}
-use Rattle.jv_contents.specs.Bytes.{KnownBytes}
-use Rattle.jv_shared.specs.Shared.{Known, Shared}
-use Rattle.jv_handles.specs.declared.handle.Handle.{Handle}
-use Rattle.jv_handles.specs.Held.{IsHandle}
-use Rattle.jv_handles.specs.Views.{SeenViews, view_at}
-use Rattle.jv_handles.proofs.HandleLaws.{handles-there}
-use Rattle.jv_fetching.specs.declared.need.Need.{Need}
-use Rattle.jv_fetching.specs.declared.need.Need.TheVariants.{Block as NeedsBlock, Look as NeedsLook, Nothing}
-use Rattle.jv_fetching.specs.Fetching.{Fetching, begins, fetched_of}
-use Rattle.jv_fetching.specs.Going.{CanFetch, IsFetching}
-use Rattle.jv_fetching.specs.Ahead.{blocks_ahead}
-use Rattle.jv_fetching.specs.Calls.{AreSizedBy, Asks, AsksSome, HasCached, IsCacheOf, Wants, cache_key}
-use Rattle.jv_fetching.specs.Calls.{first_seen}
-use Rattle.jv_fetching.specs.Shows.{IsReadBy, One, Two}
-use Rattle.jv_fetching.proofs.CacheLaws.{LooksUp, cache_of-empty, cache_of-has, cache_of-looks, looks_keep}
-use Rattle.jv_fetching.proofs.FetchLaws.{by_parts, fetches_go_on}
-use Rattle.jv_fetching.proofs.SameLaws.{fetches_show}
+use Rattle.jv_volume_bytes.specs.Blocks.{Blocks, known_by}
+use Rattle.jv_volume_bytes.specs.Bytes.{KnownBytes}
+use Rattle.jv_client_shared.specs.Shared.{Known, Shared}
+use Rattle.jv_client_handles.specs.declared.handle.Handle.{Handle}
+use Rattle.jv_client_handles.specs.Held.{IsHandle}
+use Rattle.jv_client_handles.specs.Views.{SeenViews, view_at}
+use Rattle.jv_client_handles.proofs.HandleLaws.{handles-there}
+use Rattle.jv_client_reads.specs.declared.need.Need.{Need}
+use Rattle.jv_client_reads.specs.declared.need.Need.TheVariants.{Block as NeedsBlock, Look as NeedsLook, Nothing}
+use Rattle.jv_client_reads.specs.Fetching.{Fetching, begins, fetched_of}
+use Rattle.jv_client_reads.specs.Going.{CanFetch, IsFetching}
+use Rattle.jv_client_reads.specs.Ahead.{blocks_ahead}
+use Rattle.jv_client_reads.specs.Calls.{AreSizedBy, Asks, AsksSome, HasCached, IsCacheOf, Wants, cache_key}
+use Rattle.jv_client_reads.specs.Calls.{first_seen}
+use Rattle.jv_client_reads.specs.Shows.{IsReadBy, One, Two}
+use Rattle.jv_client_reads.proofs.CacheLaws.{LooksUp, cache_of-empty, cache_of-has, cache_of-looks, looks_keep}
+use Rattle.jv_client_reads.proofs.FetchLaws.{by_parts, fetches_go_on}
+use Rattle.jv_client_reads.proofs.SameLaws.{fetches_show}
 use Rattle.jv_client.specs.declared.doing.Doing.{Doing}
 use Rattle.jv_client.specs.declared.doing.Flush.TheVariants as flush
 use Rattle.jv_client.specs.declared.doing.Progress.{Progress}

@@ -16,9 +16,9 @@ use Rattle.jv_model.specs.client.Pending.{Segment}
 use Rattle.jv_model.specs.client.Profile.{profile}
 use Rattle.jv_model.specs.client.ModelClient.{file_of, open_count}
 use Rattle.jv_model.specs.client.Submission.{first_refusal, is_closed, is_mount, submission_of, names_closed, by_limits}
-use Rattle.jv_handles.specs.declared.handle.Handle.{Handle}
-use Rattle.jv_handles.specs.Handles.{inode_here, inode_of_handle}
-use Rattle.jv_handles.proofs.TableLaws.{the_some}
+use Rattle.jv_client_handles.specs.declared.handle.Handle.{Handle}
+use Rattle.jv_client_handles.specs.Handles.{inode_here, inode_of_handle}
+use Rattle.jv_client_handles.proofs.TableLaws.{the_some}
 use Rattle.jv_client.specs.Built.{is_built_op}
 use Rattle.jv_client.specs.declared.doing.Doing.{Doing}
 use Rattle.jv_client.specs.declared.doing.Flush.{Flush}

@@ -16,9 +16,9 @@ use Rattle.jv_outside.specs.Store.{Store}
 use Rattle.jv_pending.specs.declared.segment.SegmentAt.{SegmentAt}
 use Rattle.jv_volume.specs.Holding.{IsHoldable}
 use Rattle.jv_data.specs.Records.{CommitsRecord}
-use Rattle.jv_shared.specs.Shared.{HasStore, Known, Shared}
-use Rattle.jv_requests.specs.Request.{Request}
-use Rattle.jv_requests.proofs.CommitLaws.{commit-calm, commit-never_bad, commit-never_moved, commit-unmade, whole_record}
+use Rattle.jv_client_shared.specs.Shared.{HasStore, Known, Shared}
+use Rattle.jv_client_requests.specs.Request.{Request}
+use Rattle.jv_client_requests.proofs.CommitLaws.{commit-calm, commit-never_bad, commit-never_moved, commit-unmade, whole_record}
 use Rattle.jv_client.specs.declared.doing.Doing.{Doing}
 use Rattle.jv_client.specs.declared.made.Made.{Made}
 use Rattle.jv_client.specs.ClientValue.{ClientValue, session_here}

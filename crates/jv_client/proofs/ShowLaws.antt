@@ -20,19 +20,19 @@ use Rattle.jv_model.specs.journal.Reading.{asked_parts}
 use Rattle.jv_model.specs.journal.State.{State}
 use Rattle.jv_model.specs.client.OpForms.{is_read, is_umount}
 use Rattle.jv_cache.specs.Cached.{Cached}
-use Rattle.jv_contents.specs.Blocks.{Blocks, known_by}
-use Rattle.jv_shared.specs.Shared.{HasStore, Known, Shared}
-use Rattle.jv_shared.proofs.SameLaws.{same-none, same-stays}
-use Rattle.jv_handles.specs.declared.handle.Handle.{Handle}
-use Rattle.jv_handles.specs.Views.{SeenViews}
-use Rattle.jv_fetching.specs.Ahead.{blocks_ahead}
-use Rattle.jv_fetching.specs.Calls.{IsCacheOf}
-use Rattle.jv_fetching.specs.Fetching.{begins}
-use Rattle.jv_fetching.specs.Shows.{IsReadBy}
-use Rattle.jv_steps.specs.IsStep.{IsStep}
-use Rattle.jv_steps.proofs.ReadStepLaws.{read-answered_alone, told-read}
-use Rattle.jv_requests.specs.Request.{Request}
-use Rattle.jv_requests.proofs.StillLaws.{failure-request, still-request}
+use Rattle.jv_volume_bytes.specs.Blocks.{Blocks, known_by}
+use Rattle.jv_client_shared.specs.Shared.{HasStore, Known, Shared}
+use Rattle.jv_client_shared.proofs.SameLaws.{same-none, same-stays}
+use Rattle.jv_client_handles.specs.declared.handle.Handle.{Handle}
+use Rattle.jv_client_handles.specs.Views.{SeenViews}
+use Rattle.jv_client_reads.specs.Ahead.{blocks_ahead}
+use Rattle.jv_client_reads.specs.Calls.{IsCacheOf}
+use Rattle.jv_client_reads.specs.Fetching.{begins}
+use Rattle.jv_client_reads.specs.Shows.{IsReadBy}
+use Rattle.jv_model_steps.specs.IsStep.{IsStep}
+use Rattle.jv_model_steps.proofs.ReadStepLaws.{read-answered_alone, told-read}
+use Rattle.jv_client_requests.specs.Request.{Request}
+use Rattle.jv_client_requests.proofs.StillLaws.{failure-request, still-request}
 use Rattle.jv_client.specs.declared.doing.Doing.{Doing}
 use Rattle.jv_client.specs.declared.doing.Progress.{Progress}
 use Rattle.jv_client.specs.declared.doing.Progress.TheVariants.{Working, Reading}

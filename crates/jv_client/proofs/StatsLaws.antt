@@ -3,7 +3,7 @@ use Rattle.std.proofs.Common.{◌≡◌, ℕ, false, Option, None, Some, sym, ap
 use Rattle.std.specs.Prelude.{IfSome, IsTrue}
 use Rattle.jv_model.specs.declared.profile.Does.{Does}
 use Rattle.jv_model.specs.client.Pending.{Segment}
-use Rattle.jv_fetching.specs.declared.need.Need.{Need}
+use Rattle.jv_client_reads.specs.declared.need.Need.{Need}
 use Rattle.jv_client.specs.declared.doing.Doing.{Doing}
 use Rattle.jv_client.specs.declared.doing.Progress.{Progress}
 use Rattle.jv_client.specs.declared.doing.Progress.TheVariants.{Reading, Working}

@@ -3,7 +3,7 @@ use Rattle.std.proofs.Common.{◌≡◌, ℕ, ◌+◌, List, ◌++◌, length, s
 use Rattle.jv_model.specs.declared.act.Act.{Act}
 use Rattle.jv_model.specs.declared.op.Step.{Step}
 use Rattle.jv_model.specs.journal.State.{State}
-use Rattle.jv_shared.specs.Shared.{Shared, Known, HasStore}
+use Rattle.jv_client_shared.specs.Shared.{Shared, Known, HasStore}
 use Rattle.jv_client.specs.declared.made.Made.{Made}
 use Rattle.jv_client.specs.ClientValue.{ClientValue}
 use Rattle.jv_client.specs.Held.{Holds, IsClient}

@@ -16,11 +16,11 @@ use Rattle.jv_model.specs.client.Pending.{PendingByte}
 use Rattle.jv_model.specs.client.ModelClient.{ModelClient, OpenFile, OfFiles, OfAll, open_count, inode_at}
 use Rattle.jv_model.specs.client.Profile.{profile, handle_list}
 use Rattle.jv_model.specs.client.Submission.{first_refusal, is_mount, submission, submission_of, submitted, names_closed, is_closed, flush_of, by_limits}
-use Rattle.jv_shared.specs.Shared.{Known, Shared}
-use Rattle.jv_handles.specs.declared.handle.Handle.{Handle}
-use Rattle.jv_handles.specs.Handles.{inode_here}
-use Rattle.jv_handles.specs.Held.{IsHandle, SameTable}
-use Rattle.jv_handles.proofs.TableLaws.{some-same, count-same, file-same}
+use Rattle.jv_client_shared.specs.Shared.{Known, Shared}
+use Rattle.jv_client_handles.specs.declared.handle.Handle.{Handle}
+use Rattle.jv_client_handles.specs.Handles.{inode_here}
+use Rattle.jv_client_handles.specs.Held.{IsHandle, SameTable}
+use Rattle.jv_client_handles.proofs.TableLaws.{some-same, count-same, file-same}
 use Rattle.jv_client.specs.declared.doing.Flush.TheVariants as flush
 use Rattle.jv_client.specs.ClientValue.{ClientValue}
 use Rattle.jv_client.specs.Held.{IsDoing, IsHeld, IsClient, files_here, flush_here, begun, flush_of_code}

@@ -28,20 +28,20 @@ use Rattle.jv_outside.specs.Store.{Store}
 use Rattle.jv_volume.proofs.HoldingLaws.{sustains_none, sustains_held}
 use Rattle.jv_volume.proofs.OpeningLaws.{opened_file}
 use Rattle.jv_links.specs.Removals.{HoldsFiles, is_inode}
-use Rattle.jv_metadata.specs.declared.answers.Answer.{Answer}
-use Rattle.jv_metadata.specs.Attempts.{KeepsOne, SaysKept, attempt}
-use Rattle.jv_shared.specs.Keeping.{KeepsShared}
-use Rattle.jv_shared.specs.Shared.{HasStore, Known, Shared}
-use Rattle.jv_handles.specs.Handles.{held_here, inode_here}
-use Rattle.jv_handles.proofs.HandleLaws.{handles-free, handles-held, handles-inode}
-use Rattle.jv_steps.specs.Stages.{handed}
-use Rattle.jv_steps.proofs.GiftLaws.{among-sustained}
-use Rattle.jv_steps.proofs.TransactionStepLaws.{asks-by_gift}
-use Rattle.jv_requests.specs.Request.{Request}
-use Rattle.jv_requests.proofs.LandedLaws.{acted-stays, store-shape}
-use Rattle.jv_requests.proofs.MetadataLaws.{keeps-told, transaction-never_bad}
-use Rattle.jv_requests.proofs.MetadataLaws.{transaction-never_moved, transaction-not_made, transaction-not_made_calm}
-use Rattle.jv_requests.proofs.MetadataLaws.{transaction-request}
+use Rattle.jv_client_metadata.specs.declared.answers.Answer.{Answer}
+use Rattle.jv_client_metadata.specs.Attempts.{KeepsOne, SaysKept, attempt}
+use Rattle.jv_client_shared.specs.Keeping.{KeepsShared}
+use Rattle.jv_client_shared.specs.Shared.{HasStore, Known, Shared}
+use Rattle.jv_client_handles.specs.Handles.{held_here, inode_here}
+use Rattle.jv_client_handles.proofs.HandleLaws.{handles-free, handles-held, handles-inode}
+use Rattle.jv_model_steps.specs.Stages.{handed}
+use Rattle.jv_model_steps.proofs.GiftLaws.{among-sustained}
+use Rattle.jv_model_steps.proofs.TransactionStepLaws.{asks-by_gift}
+use Rattle.jv_client_requests.specs.Request.{Request}
+use Rattle.jv_client_requests.proofs.LandedLaws.{acted-stays, store-shape}
+use Rattle.jv_client_requests.proofs.MetadataLaws.{keeps-told, transaction-never_bad}
+use Rattle.jv_client_requests.proofs.MetadataLaws.{transaction-never_moved, transaction-not_made, transaction-not_made_calm}
+use Rattle.jv_client_requests.proofs.MetadataLaws.{transaction-request}
 use Rattle.jv_client.specs.declared.doing.Doing.{Doing}
 use Rattle.jv_client.specs.declared.made.Made.{Made}
 use Rattle.jv_client.specs.declared.made.Made.TheVariants.{Both}

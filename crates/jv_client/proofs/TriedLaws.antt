@@ -12,11 +12,11 @@ use Rattle.jv_model.specs.client.Profile.{handle_of}
 use Rattle.jv_outside.specs.Store.{Store}
 use Rattle.jv_rows.specs.Transactions.{IsFor, Transacts, Always}
 use Rattle.jv_links.specs.Removals.{HoldsFiles}
-use Rattle.jv_metadata.specs.declared.answers.Answer.{Answer}
-use Rattle.jv_metadata.specs.Attempts.{AnswersPlainly, Asks, SaysKept, attempt, plain}
-use Rattle.jv_metadata.proofs.AttemptLaws.{answers-mapped, transacts-always}
+use Rattle.jv_client_metadata.specs.declared.answers.Answer.{Answer}
+use Rattle.jv_client_metadata.specs.Attempts.{AnswersPlainly, Asks, SaysKept, attempt, plain}
+use Rattle.jv_client_metadata.proofs.AttemptLaws.{answers-mapped, transacts-always}
 use Rattle.jv_client.specs.ClientValue.{ClientValue, session_here}
-use Rattle.jv_handles.specs.Handles.{held_here, inode_here}
+use Rattle.jv_client_handles.specs.Handles.{held_here, inode_here}
 use Rattle.jv_client.specs.Transacting.{IsCaller, Attempts}
 use Rattle.jv_model.specs.Optional.{mapped}
 

@@ -29,19 +29,19 @@ use Rattle.jv_outside.specs.Store.{Store}
 use Rattle.jv_volume.specs.Holding.{IsHoldable}
 use Rattle.jv_cache.specs.Cached.{Cached}
 use Rattle.jv_data.specs.Records.{LooksAt}
-use Rattle.jv_shared.specs.Keeping.{KeepsShared}
-use Rattle.jv_shared.specs.Shared.{HasStore, Known, Shared}
-use Rattle.jv_shared.proofs.SameLaws.{same-rows, same-stays}
-use Rattle.jv_handles.specs.declared.handle.Handle.{Handle}
-use Rattle.jv_fetching.specs.declared.need.Need.TheVariants.{Look as NeedsLook}
-use Rattle.jv_fetching.specs.Calls.{IsCacheOf}
-use Rattle.jv_fetching.specs.Fetching.{Fetching}
-use Rattle.jv_fetching.proofs.SameLaws.{fetches_show}
-use Rattle.jv_steps.proofs.LookStepLaws.{window-needed}
-use Rattle.jv_requests.specs.Request.{Request}
-use Rattle.jv_requests.proofs.LookLaws.{SeesNone, NoSession, NoFile, look-never_bad, look-never_moved, look-refused}
-use Rattle.jv_requests.proofs.LookLaws.{sees_none}
-use Rattle.jv_requests.proofs.StillLaws.{found-in}
+use Rattle.jv_client_shared.specs.Keeping.{KeepsShared}
+use Rattle.jv_client_shared.specs.Shared.{HasStore, Known, Shared}
+use Rattle.jv_client_shared.proofs.SameLaws.{same-rows, same-stays}
+use Rattle.jv_client_handles.specs.declared.handle.Handle.{Handle}
+use Rattle.jv_client_reads.specs.declared.need.Need.TheVariants.{Look as NeedsLook}
+use Rattle.jv_client_reads.specs.Calls.{IsCacheOf}
+use Rattle.jv_client_reads.specs.Fetching.{Fetching}
+use Rattle.jv_client_reads.proofs.SameLaws.{fetches_show}
+use Rattle.jv_model_steps.proofs.LookStepLaws.{window-needed}
+use Rattle.jv_client_requests.specs.Request.{Request}
+use Rattle.jv_client_requests.proofs.LookLaws.{SeesNone, NoSession, NoFile, look-never_bad, look-never_moved, look-refused}
+use Rattle.jv_client_requests.proofs.LookLaws.{sees_none}
+use Rattle.jv_client_requests.proofs.StillLaws.{found-in}
 use Rattle.jv_client.specs.declared.doing.Doing.{Doing}
 use Rattle.jv_client.specs.declared.doing.Progress.TheVariants.{Reading}
 use Rattle.jv_client.specs.declared.made.Made.{Made}

@@ -6,9 +6,9 @@ use Rattle.jv_model.specs.declared.op.Op.{Op}
 use Rattle.jv_model.specs.declared.op.Op.TheVariants as op
 use Rattle.jv_model.specs.client.Pending.{Segment, written}
 use Rattle.jv_pending.specs.Held.{PendingValue}
-use Rattle.jv_handles.specs.declared.handle.Handle.{Handle}
-use Rattle.jv_handles.specs.Handles.{inode_here}
-use Rattle.jv_handles.proofs.UnseenLaws.{inode_here-unseen}
+use Rattle.jv_client_handles.specs.declared.handle.Handle.{Handle}
+use Rattle.jv_client_handles.specs.Handles.{inode_here}
+use Rattle.jv_client_handles.proofs.UnseenLaws.{inode_here-unseen}
 use Rattle.jv_client.specs.declared.doing.Doing.{Doing}
 use Rattle.jv_client.specs.ClientValue.{ClientValue}
 use Rattle.jv_client.specs.Flushing.{IsWrittenAlone, Other, Write, NextOf, Last, NotLast, without_segment}

@@ -8,11 +8,11 @@ use Rattle.jv_model.specs.client.Pending.{PendingByte, Segment, is_in_range, wit
 use Rattle.jv_model.specs.client.ModelClient.{ModelClient, views_without}
 use Rattle.jv_model.specs.journal.State.{without_committed}
 use Rattle.jv_volume.specs.Holding.{IsHoldable, Stays}
-use Rattle.jv_shared.specs.Keeping.{KeepsShared}
-use Rattle.jv_shared.specs.Shared.{HasStore, Known, Shared, depot_in}
-use Rattle.jv_handles.specs.Handles.{unseen}
-use Rattle.jv_handles.proofs.HandleLaws.{handles-forgotten, handles-stay}
-use Rattle.jv_handles.proofs.SeenLaws.{views-later, views-left}
+use Rattle.jv_client_shared.specs.Keeping.{KeepsShared}
+use Rattle.jv_client_shared.specs.Shared.{HasStore, Known, Shared, depot_in}
+use Rattle.jv_client_handles.specs.Handles.{unseen}
+use Rattle.jv_client_handles.proofs.HandleLaws.{handles-forgotten, handles-stay}
+use Rattle.jv_client_handles.proofs.SeenLaws.{views-later, views-left}
 use Rattle.jv_client.specs.ClientValue.{ClientValue}
 use Rattle.jv_client.specs.Held.{IsHeld, Holds}
 use Rattle.jv_client.specs.Flushing.{bytes_of, without_segment}

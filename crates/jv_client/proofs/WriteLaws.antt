@@ -14,11 +14,11 @@ use Rattle.jv_model.specs.client.ModelClient.{file_of}
 use Rattle.jv_model.proofs.PendingLaws.{no_first_segment}
 use Rattle.jv_model.specs.client.OpForms.{is_read, is_umount}
 use Rattle.jv_pending.specs.Held.{PendingValue}
-use Rattle.jv_steps.proofs.AnswerStepLaws.{written-at_once}
-use Rattle.jv_handles.specs.declared.handle.Handle.{Handle}
-use Rattle.jv_handles.specs.Handles.{inode_here}
-use Rattle.jv_shared.specs.Shared.{Shared}
-use Rattle.jv_shared.proofs.KeepingLaws.{stays-none}
+use Rattle.jv_model_steps.proofs.AnswerStepLaws.{written-at_once}
+use Rattle.jv_client_handles.specs.declared.handle.Handle.{Handle}
+use Rattle.jv_client_handles.specs.Handles.{inode_here}
+use Rattle.jv_client_shared.specs.Shared.{Shared}
+use Rattle.jv_client_shared.proofs.KeepingLaws.{stays-none}
 use Rattle.jv_client.specs.declared.doing.Doing.{Doing}
 use Rattle.jv_client.specs.declared.made.Made.TheVariants as made
 use Rattle.jv_client.specs.ClientValue.{ClientValue}

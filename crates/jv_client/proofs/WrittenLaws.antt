@@ -8,11 +8,11 @@ use Rattle.jv_model.specs.client.Pending.{PendingByte, byte_set, comes_before, s
 use Rattle.jv_model.specs.client.ModelClient.{ModelClient, OpenFile, file_in, file_of, held_inodes, inode_at, inode_in}
 use Rattle.jv_model.specs.Lists.{is_among}
 use Rattle.jv_volume.specs.Holding.{IsHoldable}
-use Rattle.jv_shared.specs.Shared.{Known, Shared}
-use Rattle.jv_handles.specs.declared.handle.Handle.{Handle}
-use Rattle.jv_handles.specs.Handles.{inode_here}
-use Rattle.jv_handles.proofs.HandleLaws.{handles-there}
-use Rattle.jv_handles.proofs.TableLaws.{open_at}
+use Rattle.jv_client_shared.specs.Shared.{Known, Shared}
+use Rattle.jv_client_handles.specs.declared.handle.Handle.{Handle}
+use Rattle.jv_client_handles.specs.Handles.{inode_here}
+use Rattle.jv_client_handles.proofs.HandleLaws.{handles-there}
+use Rattle.jv_client_handles.proofs.TableLaws.{open_at}
 use Rattle.jv_client.specs.ClientValue.{ClientValue}
 use Rattle.jv_client.specs.Held.{Holds, IsClient, IsHeld}
 use Rattle.jv_client.proofs.KeptLaws.{IsCached, client-idle}

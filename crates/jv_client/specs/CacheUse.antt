@@ -14,16 +14,16 @@ use Rattle.jv_model.specs.blocks.BlockNames.{name_in}
 use Rattle.jv_model.specs.blocks.Slices.{block_count}
 use Rattle.jv_model.specs.client.OpForms.{is_read, is_umount}
 use Rattle.jv_cache.specs.Cached.{Cached}
-use Rattle.jv_contents.specs.Flights.{Flight}
+use Rattle.jv_volume_bytes.specs.Flights.{Flight}
 use Rattle.jv_yard.specs.BlockCalls.{GetsBlock}
 use Rattle.jv_yard.specs.YardValue.{YardValue}
-use Rattle.jv_handles.specs.declared.views.View.{View}
-use Rattle.jv_handles.specs.Views.{SeenViews, with_view}
-use Rattle.jv_fetching.specs.declared.need.Need.{Need}
-use Rattle.jv_fetching.specs.declared.need.Need.TheVariants.{Look, Block, Nothing}
-use Rattle.jv_fetching.specs.Ahead.{blocks_ahead}
-use Rattle.jv_fetching.specs.Calls.{Asks, IsMissing, Keeps}
-use Rattle.jv_fetching.specs.Fetching.{Fetching, block_needed}
+use Rattle.jv_client_handles.specs.declared.views.View.{View}
+use Rattle.jv_client_handles.specs.Views.{SeenViews, with_view}
+use Rattle.jv_client_reads.specs.declared.need.Need.{Need}
+use Rattle.jv_client_reads.specs.declared.need.Need.TheVariants.{Look, Block, Nothing}
+use Rattle.jv_client_reads.specs.Ahead.{blocks_ahead}
+use Rattle.jv_client_reads.specs.Calls.{Asks, IsMissing, Keeps}
+use Rattle.jv_client_reads.specs.Fetching.{Fetching, block_needed}
 use Rattle.jv_client.specs.declared.doing.Doing.{Doing}
 use Rattle.jv_client.specs.declared.made.Made.{Made}
 use Rattle.jv_client.specs.declared.made.Made.TheVariants as made

@@ -13,8 +13,8 @@ use Rattle.jv_model.specs.tree.Trash.{due_after}
 use Rattle.jv_outside.specs.Store.{Store}
 use Rattle.jv_rows.specs.Transactions.{IsFor}
 use Rattle.jv_data.specs.Changing.{Changes, AnyBytes, IsCrowded, Never, count_in}
-use Rattle.jv_handles.specs.declared.handle.Handle.{Handle}
-use Rattle.jv_handles.specs.Handles.{inode_here}
+use Rattle.jv_client_handles.specs.declared.handle.Handle.{Handle}
+use Rattle.jv_client_handles.specs.Handles.{inode_here}
 use Rattle.jv_client.specs.declared.changes.Changed.{Changed}
 use Rattle.jv_model.specs.Optional.{mapped}
 

@@ -4,7 +4,7 @@ use Rattle.jv_model.specs.declared.basics.Limits.{Limits}
 use Rattle.jv_model.specs.client.Pending.{PendingByte}
 use Rattle.jv_pending.specs.Held.{PendingValue}
 use Rattle.jv_cache.specs.Cached.{Cached}
-use Rattle.jv_handles.specs.declared.handle.Handle.{Handle}
+use Rattle.jv_client_handles.specs.declared.handle.Handle.{Handle}
 use Rattle.jv_client.specs.declared.doing.Doing.{Doing}
 
 pub record ClientValue : Type 0 where

@@ -2,11 +2,11 @@
 -- removed.
 use Rattle.std.specs.Prelude.{◌≡◌, ℕ, Bool, false, IfSome, List, Option}
 use Rattle.std.specs.List.{AllByRecursion}
-use Rattle.jv_contents.specs.Blocks.{Blocks}
-use Rattle.jv_shared.specs.Direct.{HasNamed}
-use Rattle.jv_shared.specs.Shared.{Shared}
-use Rattle.jv_handles.specs.declared.handle.Handle.{Handle}
-use Rattle.jv_handles.specs.Views.{view_at}
+use Rattle.jv_volume_bytes.specs.Blocks.{Blocks}
+use Rattle.jv_client_shared.specs.Direct.{HasNamed}
+use Rattle.jv_client_shared.specs.Shared.{Shared}
+use Rattle.jv_client_handles.specs.declared.handle.Handle.{Handle}
+use Rattle.jv_client_handles.specs.Views.{view_at}
 
 -- the depot has each block that the views of a handle name
 abbrev pub HasSeen : ℕ → Blocks → Handle → Type 0

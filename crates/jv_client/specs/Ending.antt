@@ -10,7 +10,7 @@ use Rattle.jv_model.specs.declared.op.Op.TheVariants as op
 use Rattle.jv_model.specs.client.Pending.{pending_of_others}
 use Rattle.jv_model.specs.client.ModelClient.{with_file}
 use Rattle.jv_client.specs.ClientValue.{ClientValue, crashed}
-use Rattle.jv_handles.specs.Handles.{inode_here}
+use Rattle.jv_client_handles.specs.Handles.{inode_here}
 use Rattle.jv_client.specs.Held.{is_last_here}
 
 -- without an operation

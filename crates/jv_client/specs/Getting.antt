@@ -11,13 +11,13 @@ use Rattle.jv_model.specs.client.Profile.{handle_of}
 use Rattle.jv_model.specs.journal.Reading.{Asked}
 use Rattle.jv_model.specs.blocks.BlockNames.{name_in}
 use Rattle.jv_cache.specs.Cached.{Cached}
-use Rattle.jv_contents.specs.Blocks.{Blocks}
-use Rattle.jv_handles.specs.Handles.{inode_here}
-use Rattle.jv_handles.specs.Views.{SeenViews}
-use Rattle.jv_fetching.specs.Ahead.{blocks_ahead}
-use Rattle.jv_fetching.specs.Calls.{Keeps, LacksBlock}
-use Rattle.jv_fetching.specs.Fetching.{Fetching, fetch_left, first_window}
-use Rattle.jv_fetching.specs.Going.{CanFetch, IsFetching}
+use Rattle.jv_volume_bytes.specs.Blocks.{Blocks}
+use Rattle.jv_client_handles.specs.Handles.{inode_here}
+use Rattle.jv_client_handles.specs.Views.{SeenViews}
+use Rattle.jv_client_reads.specs.Ahead.{blocks_ahead}
+use Rattle.jv_client_reads.specs.Calls.{Keeps, LacksBlock}
+use Rattle.jv_client_reads.specs.Fetching.{Fetching, fetch_left, first_window}
+use Rattle.jv_client_reads.specs.Going.{CanFetch, IsFetching}
 use Rattle.jv_yard.specs.declared.faults.YardFault.{YardFault}
 use Rattle.jv_yard.specs.BlockCalls.{GetsBlock}
 use Rattle.jv_yard.specs.Refusals.{yard_fault}

@@ -17,15 +17,15 @@ use Rattle.jv_model.specs.client.Submission.{next_segment}
 use Rattle.jv_model.specs.journal.Steps.{asked_of}
 use Rattle.jv_model.specs.Lists.{is_among}
 use Rattle.jv_volume.specs.Holding.{IsHoldable}
-use Rattle.jv_contents.specs.Flights.{Flight}
-use Rattle.jv_fetching.specs.Going.{IsFetching}
-use Rattle.jv_fetching.specs.Calls.{IsCacheOf}
-use Rattle.jv_handles.specs.declared.handle.Handle.{Handle}
-use Rattle.jv_handles.specs.Handles.{held_here, inode_here}
-use Rattle.jv_handles.specs.Held.{AreHandles, SamePlace}
-use Rattle.jv_shared.specs.Direct.{HasPut}
-use Rattle.jv_shared.specs.Flying.{Flies}
-use Rattle.jv_shared.specs.Shared.{Known, Shared, depot_in}
+use Rattle.jv_volume_bytes.specs.Flights.{Flight}
+use Rattle.jv_client_reads.specs.Going.{IsFetching}
+use Rattle.jv_client_reads.specs.Calls.{IsCacheOf}
+use Rattle.jv_client_handles.specs.declared.handle.Handle.{Handle}
+use Rattle.jv_client_handles.specs.Handles.{held_here, inode_here}
+use Rattle.jv_client_handles.specs.Held.{AreHandles, SamePlace}
+use Rattle.jv_client_shared.specs.Direct.{HasPut}
+use Rattle.jv_client_shared.specs.Flying.{Flies}
+use Rattle.jv_client_shared.specs.Shared.{Known, Shared, depot_in}
 use Rattle.jv_client.specs.declared.doing.Doing.{Doing}
 use Rattle.jv_client.specs.declared.doing.Flush.{Flush}
 use Rattle.jv_client.specs.declared.doing.Flush.TheVariants as flush

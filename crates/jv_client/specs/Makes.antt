@@ -16,8 +16,8 @@ use Rattle.jv_model.specs.journal.Stepping.{entry_of, is_answer}
 use Rattle.jv_outside.specs.Causes.{RoseIf}
 use Rattle.jv_rows.specs.Transactions.{IsBad}
 use Rattle.jv_volume.specs.TypedRows.{typed}
-use Rattle.jv_shared.specs.Shared.{HasStore, Known, Shared}
-use Rattle.jv_requests.specs.Request.{Request}
+use Rattle.jv_client_shared.specs.Shared.{HasStore, Known, Shared}
+use Rattle.jv_client_requests.specs.Request.{Request}
 use Rattle.jv_client.specs.declared.doing.Progress.{Progress}
 use Rattle.jv_client.specs.declared.made.Made.{Made}
 use Rattle.jv_client.specs.declared.made.Made.TheVariants as made

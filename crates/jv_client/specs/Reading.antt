@@ -14,17 +14,17 @@ use Rattle.jv_model.specs.declared.slice.BlockId.{BlockId}
 use Rattle.jv_model.specs.journal.Reading.{Asked, asked_parts}
 use Rattle.jv_model.specs.journal.Steps.{asked_of}
 use Rattle.jv_cache.specs.Cached.{Cached}
-use Rattle.jv_contents.specs.Blocks.{Blocks, known_by}
-use Rattle.jv_shared.specs.Shared.{Known, Shared}
-use Rattle.jv_handles.specs.declared.handle.Handle.{Handle}
-use Rattle.jv_handles.specs.Views.{SeenViews, no_views}
-use Rattle.jv_fetching.specs.declared.need.Need.{Need}
-use Rattle.jv_fetching.specs.declared.need.Need.TheVariants.{Nothing}
-use Rattle.jv_fetching.specs.Fetching.{Fetching, begins, fetch_left}
-use Rattle.jv_fetching.specs.Going.{CanFetch, IsFetching}
-use Rattle.jv_fetching.specs.Ahead.{blocks_ahead}
-use Rattle.jv_fetching.specs.Calls.{AreSizedBy, Asks, AsksSome, HasCached, IsCacheOf, Wants, first_seen}
-use Rattle.jv_fetching.specs.Shows.{IsReadBy}
+use Rattle.jv_volume_bytes.specs.Blocks.{Blocks, known_by}
+use Rattle.jv_client_shared.specs.Shared.{Known, Shared}
+use Rattle.jv_client_handles.specs.declared.handle.Handle.{Handle}
+use Rattle.jv_client_handles.specs.Views.{SeenViews, no_views}
+use Rattle.jv_client_reads.specs.declared.need.Need.{Need}
+use Rattle.jv_client_reads.specs.declared.need.Need.TheVariants.{Nothing}
+use Rattle.jv_client_reads.specs.Fetching.{Fetching, begins, fetch_left}
+use Rattle.jv_client_reads.specs.Going.{CanFetch, IsFetching}
+use Rattle.jv_client_reads.specs.Ahead.{blocks_ahead}
+use Rattle.jv_client_reads.specs.Calls.{AreSizedBy, Asks, AsksSome, HasCached, IsCacheOf, Wants, first_seen}
+use Rattle.jv_client_reads.specs.Shows.{IsReadBy}
 use Rattle.jv_client.specs.declared.doing.Doing.{Doing}
 use Rattle.jv_client.specs.declared.doing.Progress.{Progress}
 use Rattle.jv_client.specs.declared.doing.Progress.TheVariants.{Working, Reading}

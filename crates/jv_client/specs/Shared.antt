@@ -2,7 +2,7 @@
 use Rattle.jv_outside.specs.Carriage.{Carriage}
 use Rattle.jv_outside.specs.Store.{Store}
 use Rattle.jv_yard.specs.YardValue.{YardValue}
-use Rattle.jv_shared.specs.Shared.{Shared}
+use Rattle.jv_client_shared.specs.Shared.{Shared}
 
 abbrev pub shared : Store → YardValue → Carriage → Shared
 shared keeper yard carrier = record { keeper = keeper; yard = yard; carrier = carrier }

@@ -21,10 +21,10 @@ use Rattle.jv_outside.specs.Store.{Store}
 use Rattle.jv_rows.specs.Transactions.{Transacts, FaultCause, BadFault}
 use Rattle.jv_volume.specs.TypedRows.{typed}
 use Rattle.jv_links.specs.Removals.{HoldsFiles}
-use Rattle.jv_metadata.specs.declared.answers.Answer.{Answer}
-use Rattle.jv_metadata.specs.Attempts.{AnswersPlainly, attempt, SaysKept}
-use Rattle.jv_handles.specs.declared.handle.Handle.{Handle}
-use Rattle.jv_handles.specs.Handles.{held_here, inode_here, new_handle}
+use Rattle.jv_client_metadata.specs.declared.answers.Answer.{Answer}
+use Rattle.jv_client_metadata.specs.Attempts.{AnswersPlainly, attempt, SaysKept}
+use Rattle.jv_client_handles.specs.declared.handle.Handle.{Handle}
+use Rattle.jv_client_handles.specs.Handles.{held_here, inode_here, new_handle}
 use Rattle.jv_client.specs.declared.made.Made.{Made}
 use Rattle.jv_client.specs.declared.made.Made.TheVariants as made
 use Rattle.jv_client.specs.ClientValue.{ClientValue, session_here}

@@ -18,14 +18,14 @@ use Rattle.jv_model.specs.client.ModelClient.{Flush as ModelFlush, OfFiles, OfAl
 use Rattle.jv_model.specs.client.OpForms.{closed_by, is_transaction}
 use Rattle.jv_model.specs.Lists.{is_among}
 use Rattle.jv_cache.specs.Cached.{Cached}
-use Rattle.jv_fetching.specs.declared.need.Need.{Need}
-use Rattle.jv_fetching.specs.declared.need.Need.TheVariants as need
-use Rattle.jv_fetching.specs.Fetching.{Fetching, fetch_left}
-use Rattle.jv_fetching.specs.Going.{CanFetch}
-use Rattle.jv_fetching.specs.Calls.{IsMissing, Wants}
-use Rattle.jv_handles.specs.declared.handle.Handle.{Handle}
-use Rattle.jv_handles.specs.Handles.{inode_here}
-use Rattle.jv_handles.specs.Views.{view_at}
+use Rattle.jv_client_reads.specs.declared.need.Need.{Need}
+use Rattle.jv_client_reads.specs.declared.need.Need.TheVariants as need
+use Rattle.jv_client_reads.specs.Fetching.{Fetching, fetch_left}
+use Rattle.jv_client_reads.specs.Going.{CanFetch}
+use Rattle.jv_client_reads.specs.Calls.{IsMissing, Wants}
+use Rattle.jv_client_handles.specs.declared.handle.Handle.{Handle}
+use Rattle.jv_client_handles.specs.Handles.{inode_here}
+use Rattle.jv_client_handles.specs.Views.{view_at}
 use Rattle.jv_client.specs.declared.doing.Doing.{Doing}
 use Rattle.jv_client.specs.declared.doing.Flush.{Flush}
 use Rattle.jv_client.specs.declared.doing.Flush.TheVariants as flush

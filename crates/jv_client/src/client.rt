@@ -5,7 +5,7 @@ ghost use Rattle.jv_client.specs.ClientValue.{fresh_client, crashed, session_her
 
 use crate::doing::Doing;
 use jv_cache::BlockCache;
-use jv_handles::Handle;
+use jv_client_handles::Handle;
 use jv_model::{ClientId, DEFAULT_BUFFER, Limits};
 use jv_pending::Pending;
 use std::alloc::Global;

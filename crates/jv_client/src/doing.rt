@@ -1,5 +1,5 @@
 //! An operation in progress.
-use jv_fetching::{Fetch, Need};
+use jv_client_reads::{Fetch, Need};
 use jv_model::{Does, Moment, Op};
 
 /// What an operation commits before it goes on.

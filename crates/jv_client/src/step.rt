@@ -1,7 +1,7 @@
 //! One step of an operation: at most one transaction or one request.
 ghost use Rattle.std.specs.Prelude.{◌≡◌, ◌+◌, ◌≤◌, IsSome};
 ghost use Rattle.std.specs.Option.{option_map};
-ghost use Rattle.jv_shared.specs.Lengths.{IsLength};
+ghost use Rattle.jv_client_shared.specs.Lengths.{IsLength};
 ghost use Rattle.jv_client.specs.Shared.{shared};
 ghost use Rattle.jv_client.specs.UnderWay.{IsReady, moved_to};
 ghost use Rattle.jv_client.specs.Makes.{Makes, Steps};

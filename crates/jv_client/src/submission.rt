@@ -6,14 +6,14 @@ ghost use Rattle.jv_model.specs.client.ModelClient.{ModelClient, open_count};
 ghost use Rattle.jv_model.specs.client.Profile.{profile};
 ghost use Rattle.jv_model.specs.client.Submission.{submission, submission_of, submitted, names_closed, is_closed, is_mount, by_limits};
 ghost use Rattle.jv_client.specs.Built.{is_built_op};
-ghost use Rattle.jv_shared.specs.Shared.{Known, Shared};
+ghost use Rattle.jv_client_shared.specs.Shared.{Known, Shared};
 ghost use Rattle.jv_client.specs.Makes.{IsCalm};
 ghost use Rattle.jv_client.specs.UnderWay.{IsReady, most_steps, steps_left};
 ghost use Rattle.jv_client.specs.Held.{IsClient, begun, flush_here, full_flush, files_here, in_flight, refused_with};
 
 use crate::client::Client;
 use crate::doing::{Doing, Flush, Progress};
-use jv_handles::{Handle, inode_at, named, open_count};
+use jv_client_handles::{Handle, inode_at, named, open_count};
 use jv_model::{Does, FILE_END, Fault, Flushes, Handles, Limits, MAX_HANDLES, Op, Profile};
 
 impl Client {

@@ -4,12 +4,12 @@ ghost use Rattle.jv_model.specs.Optional.{mapped};
 ghost use Rattle.jv_model.specs.client.ModelClient.{free_handle, with_file};
 ghost use Rattle.jv_model.specs.journal.State.{gift_of};
 ghost use Rattle.jv_model.specs.journal.Steps.{entry_of_gift, told_of};
-ghost use Rattle.jv_metadata.specs.Attempts.{plain};
+ghost use Rattle.jv_client_metadata.specs.Attempts.{plain};
 ghost use Rattle.jv_outside.specs.Carriage.{Carriage};
 ghost use Rattle.jv_yard.specs.YardValue.{YardValue};
 ghost use Rattle.jv_client.specs.ClientValue.{ClientValue};
 ghost use Rattle.jv_client.specs.Shared.{shared};
-ghost use Rattle.jv_handles.specs.Handles.{new_handle};
+ghost use Rattle.jv_client_handles.specs.Handles.{new_handle};
 ghost use Rattle.jv_client.specs.Held.{is_last_here};
 ghost use Rattle.jv_client.specs.UnderWay.{IsReady, asks_more, does_of, left, makes_transaction};
 ghost use Rattle.jv_client.specs.Makes.{Makes};
@@ -21,9 +21,9 @@ ghost use Rattle.jv_model.specs.client.OpForms.{is_tried};
 use crate::answers::looks;
 use crate::client::Client;
 use crate::made::Made;
-use jv_handles::{Handle, Views, free_handle, held, inode_at, is_open_elsewhere, set};
+use jv_client_handles::{Handle, Views, free_handle, held, inode_at, is_open_elsewhere, set};
+use jv_client_metadata::{Answer, transact};
 use jv_live::mount;
-use jv_metadata::{Answer, transact};
 use jv_model::{
     ActKind, Busy, ClientId, Device, Fault, Moment, Op, Reply, RowFault, Told, TxFault, Who,
     push_in_room,

@@ -6,7 +6,7 @@ use Rattle.std.proofs.lemmas.List.Elements.{filter-append}
 use Rattle.jv_model.specs.declared.act.Act.{Act}
 use Rattle.jv_model.specs.journal.Legal.{Allowed, AllAllowed, OfLine, OfWorker}
 use Rattle.jv_model.specs.journal.Past.{Past, NoMore, is_workers, begun_to, advance, past}
-use Rattle.jv_laws.proofs.JournalGrowthLaws.{line_of_advance, begun_to-begun}
+use Rattle.jv_model_laws.proofs.JournalGrowthLaws.{line_of_advance, begun_to-begun}
 use Rattle.jv_cmd.specs.Run.{up_to}
 use Rattle.jv_cmd.specs.Steps.{AreBetween}
 use Rattle.jv_cmd.proofs.StepLaws.{low}

@@ -8,11 +8,11 @@ use Rattle.jv_model.specs.declared.limits.TheConstants.{MAX_LINE, MAX_LINES}
 use Rattle.jv_model.specs.declared.op.Line.{Line}
 use Rattle.jv_model.specs.declared.setting.Setting.{Setting}
 use Rattle.jv_model.specs.journal.Past.{at_start}
-use Rattle.jv_laws.proofs.JournalGrowthLaws.{begun_to-begun}
+use Rattle.jv_model_laws.proofs.JournalGrowthLaws.{begun_to-begun}
 use Rattle.jv_outside.proofs.StreamLaws.{Gains-nil}
 use Rattle.jv_outside.proofs.TicksLaws.{Passes-trans, Passes-zero}
-use Rattle.jv_contents.proofs.BlockLaws.{grows-then}
-use Rattle.jv_shared.specs.Shared.{depot_in}
+use Rattle.jv_volume_bytes.proofs.BlockLaws.{grows-then}
+use Rattle.jv_client_shared.specs.Shared.{depot_in}
 use Rattle.jv_client.specs.Makes.{faults_of}
 use Rattle.jv_session.specs.Direct.{BlocksStay}
 use Rattle.jv_session.specs.Lines.{LineUses, device_failures}

@@ -8,9 +8,9 @@ use Rattle.jv_model.specs.declared.limits.TheConstants.{MAX_LINES}
 use Rattle.jv_model.specs.declared.op.Op.{Op}
 use Rattle.jv_model.specs.declared.op.Line.{Line}
 use Rattle.jv_model.specs.script.Grammar.{line_of}
-use Rattle.jv_generator.specs.declared.accesses.TheConstants.{ACCESSES, FILES}
-use Rattle.jv_generator.specs.Script.{on_client, operations, script}
-use Rattle.jv_generator.proofs.ScriptLaws.{script_length}
+use Rattle.jv_script_drawn.specs.declared.accesses.TheConstants.{ACCESSES, FILES}
+use Rattle.jv_script_drawn.specs.Script.{on_client, operations, script}
+use Rattle.jv_script_drawn.proofs.ScriptLaws.{script_length}
 use Rattle.jv_outside.specs.Stream.{Stream}
 use Rattle.jv_client.specs.Built.{is_built_line}
 use Rattle.jv_cmd.specs.declared.ended.Ended.{Ended}

@@ -3,10 +3,10 @@ use Rattle.std.proofs.Common.{◌≡◌, ℕ, zero, suc, ◌+◌, ◌-◌, ◌<�
 use Rattle.std.specs.List.{flat_map, position}
 use Rattle.std.proofs.lemmas.List.{append_assoc, append-nil, length-drop, take_all, drop_all}
 use Rattle.jv_model.specs.declared.op.Line.{Line}
-use Rattle.jv_generator.specs.declared.accesses.TheConstants.{LINES}
-use Rattle.jv_generator.specs.Script.{Drawn, script}
-use Rattle.jv_generator.specs.Summary.{TotalsValue, with_reply}
-use Rattle.jv_generator.proofs.ScriptLaws.{script_length}
+use Rattle.jv_script_drawn.specs.declared.accesses.TheConstants.{LINES}
+use Rattle.jv_script_drawn.specs.Script.{Drawn, script}
+use Rattle.jv_script_drawn.specs.Summary.{TotalsValue, with_reply}
+use Rattle.jv_script_drawn.proofs.ScriptLaws.{script_length}
 use Rattle.jv_cmd.specs.Generating.{line_text, replies_said, reply_said, script_text}
 use Rattle.jv_cmd.specs.Texts.{is_feed, texts_of}
 use Rattle.jv_cmd.proofs.TextLaws.{around_feed, no_feed, texts_of-feed, texts_of-last}

@@ -11,10 +11,10 @@ use Rattle.jv_model.specs.script.Spelling.{client_of, length_of, mode_of, words}
 use Rattle.jv_model.specs.script.Printed.{hex_digit, hex_pair, number_word}
 use Rattle.jv_model.specs.script.ReplyText.{mode_digits}
 use Rattle.jv_model.specs.script.Grammar.{client_line_of, command_of, line_of, operation_of, operation_of_none, operation_of_one, operation_of_two, operation_of_three, path_and_mode_of, read_of, write_of}
-use Rattle.jv_generator.specs.declared.accesses.TheConstants.{MAX_LENGTH, MODE, POSITIONS, READ_EVERY}
-use Rattle.jv_generator.specs.Script.{access, create, on_client}
-use Rattle.jv_generator.specs.Laws.{IsAccess}
-use Rattle.jv_generator.proofs.ScriptLaws.{accesses_fit}
+use Rattle.jv_script_drawn.specs.declared.accesses.TheConstants.{MAX_LENGTH, MODE, POSITIONS, READ_EVERY}
+use Rattle.jv_script_drawn.specs.Script.{access, create, on_client}
+use Rattle.jv_script_drawn.specs.Laws.{IsAccess}
+use Rattle.jv_script_drawn.proofs.ScriptLaws.{accesses_fit}
 use Rattle.jv_client.specs.Built.{is_built_op}
 use Rattle.jv_cmd.specs.Generating.{operation_text, repeated_text}
 use Rattle.jv_cmd.specs.Texts.{has_feed}

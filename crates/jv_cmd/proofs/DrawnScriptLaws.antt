@@ -10,9 +10,9 @@ use Rattle.jv_model.specs.declared.op.Op.{Op}
 use Rattle.jv_model.specs.declared.op.Op.TheVariants.{Mount, Flush}
 use Rattle.jv_model.specs.declared.op.Line.{Line}
 use Rattle.jv_model.specs.script.Grammar.{line_of}
-use Rattle.jv_generator.specs.declared.accesses.TheConstants.{ACCESSES, FILES}
-use Rattle.jv_generator.specs.Script.{access, create, on_client, operations, script, state}
-use Rattle.jv_generator.proofs.ScriptLaws.{script_length}
+use Rattle.jv_script_drawn.specs.declared.accesses.TheConstants.{ACCESSES, FILES}
+use Rattle.jv_script_drawn.specs.Script.{access, create, on_client, operations, script, state}
+use Rattle.jv_script_drawn.proofs.ScriptLaws.{script_length}
 use Rattle.jv_cmd.specs.DrawnScript.{DrawnScriptsAreReadBack}
 use Rattle.jv_cmd.specs.Generating.{line_text, script_text}
 use Rattle.jv_cmd.specs.Run.{IsBuilt}

@@ -9,8 +9,8 @@ use Rattle.jv_model.specs.journal.Legal.{may_be_cut}
 use Rattle.jv_model.specs.journal.Past.{Past, at_end, text_of}
 use Rattle.jv_outside.specs.Causes.{RoseTimes}
 use Rattle.jv_outside.specs.Stream.{Gains}
-use Rattle.jv_contents.proofs.BlockLaws.{grows-then}
-use Rattle.jv_shared.specs.Shared.{Shared, depot_in}
+use Rattle.jv_volume_bytes.proofs.BlockLaws.{grows-then}
+use Rattle.jv_client_shared.specs.Shared.{Shared, depot_in}
 use Rattle.jv_client.specs.Built.{is_built_line}
 use Rattle.jv_client.specs.Makes.{faults_of}
 use Rattle.jv_session.specs.Direct.{BlocksStay}

@@ -6,7 +6,7 @@ use Rattle.jv_model.specs.declared.op.Line.{Line}
 use Rattle.jv_model.specs.journal.Legal.{AllAllowed}
 use Rattle.jv_model.specs.journal.Past.{Past, Setup, NoMore, begun_to, past, reached}
 use Rattle.jv_outside.specs.Ticks.{Passes}
-use Rattle.jv_shared.specs.Shared.{Shared}
+use Rattle.jv_client_shared.specs.Shared.{Shared}
 use Rattle.jv_session.specs.Lines.{AnswersSo, AreFailures, Cut, FromThere}
 use Rattle.jv_session.specs.Stands.{ClockFor, ScheduleValue, Stands}
 use Rattle.jv_session.proofs.UsesLaws.{both_failures, failures_both}

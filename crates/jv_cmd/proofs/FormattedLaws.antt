@@ -33,8 +33,8 @@ use Rattle.jv_yard.specs.Later.{IsCopy, contents_of}
 use Rattle.jv_yard.specs.Staging.{staged_since}
 use Rattle.jv_yard.specs.Starting.{IsStarted}
 use Rattle.jv_yard.proofs.CallLaws.{IsKept-started}
-use Rattle.jv_shared.specs.Fresh.{IsFresh}
-use Rattle.jv_shared.specs.Shared.{Shared, staged_in}
+use Rattle.jv_client_shared.specs.Fresh.{IsFresh}
+use Rattle.jv_client_shared.specs.Shared.{Shared, staged_in}
 
 -- the rows that `format` puts, over none
 abbrev pub formatted : Setting → ℕ → RowMap

@@ -9,16 +9,16 @@ use Rattle.jv_model.specs.journal.State.{state_at_start}
 use Rattle.jv_model.specs.tree.Tree.{Tree}
 use Rattle.jv_outside.specs.Objects.{ObjectMap}
 use Rattle.jv_volume.specs.TypedRows.{typed}
-use Rattle.jv_contents.specs.Blocks.{known_by}
-use Rattle.jv_contents.specs.Bytes.{tree_with}
-use Rattle.jv_contents.proofs.BlockLaws.{tree-grows}
+use Rattle.jv_volume_bytes.specs.Blocks.{known_by}
+use Rattle.jv_volume_bytes.specs.Bytes.{tree_with}
+use Rattle.jv_volume_bytes.proofs.BlockLaws.{tree-grows}
 use Rattle.jv_yard.specs.Contents.{blocks_in}
-use Rattle.jv_shared.specs.Fresh.{IsFresh}
-use Rattle.jv_shared.specs.Shared.{HasStore, Known, Shared, rows_in, typed_in}
-use Rattle.jv_shared.proofs.FreshLaws.{fresh_store}
-use Rattle.jv_shared.proofs.RowStepLaws.{setting_stored}
-use Rattle.jv_shared.proofs.SettingLaws.{setting_length}
-use Rattle.jv_requests.specs.Request.{IsWithin}
+use Rattle.jv_client_shared.specs.Fresh.{IsFresh}
+use Rattle.jv_client_shared.specs.Shared.{HasStore, Known, Shared, rows_in, typed_in}
+use Rattle.jv_client_shared.proofs.FreshLaws.{fresh_store}
+use Rattle.jv_client_shared.proofs.RowStepLaws.{setting_stored}
+use Rattle.jv_client_shared.proofs.SettingLaws.{setting_length}
+use Rattle.jv_client_requests.specs.Request.{IsWithin}
 use Rattle.jv_client.specs.ClientValue.{ClientValue, fresh_client}
 use Rattle.jv_client.specs.Held.{in_flight}
 use Rattle.jv_session.specs.Stands.{AreApart, IsClientAt, Stands, fresh_schedule}

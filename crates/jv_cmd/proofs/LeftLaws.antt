@@ -15,7 +15,7 @@ use Rattle.jv_outside.specs.Holding.{Holding}
 use Rattle.jv_outside.specs.Objects.{ObjectMap, bytes_at}
 use Rattle.jv_volume.specs.TypedRows.{typed}
 use Rattle.jv_volume.specs.Slices.{next_slice}
-use Rattle.jv_contents.specs.Blocks.{AreBelow, HasBlocks}
+use Rattle.jv_volume_bytes.specs.Blocks.{AreBelow, HasBlocks}
 use Rattle.jv_yard.specs.Contents.{blocks_in, is_block}
 use Rattle.jv_yard.specs.Later.{AreAlike, Contents, IsCopy, IsStagedWith, contents_of}
 use Rattle.jv_yard.specs.Staging.{ClientStaging, Staging, staged_since}
@@ -23,8 +23,8 @@ use Rattle.jv_yard.specs.Starting.{IsFound, IsStarted}
 use Rattle.jv_yard.specs.YardValue.{NamesBlock}
 use Rattle.jv_yard.proofs.CallLaws.{IsKept-started}
 use Rattle.jv_yard.proofs.ContentsLaws.{is_block-passes, is_block-says}
-use Rattle.jv_shared.specs.Fresh.{IsFresh}
-use Rattle.jv_shared.specs.Shared.{HasStore, Known, Shared, staged_in}
+use Rattle.jv_client_shared.specs.Fresh.{IsFresh}
+use Rattle.jv_client_shared.specs.Shared.{HasStore, Known, Shared, staged_in}
 use Rattle.jv_session.specs.Lines.{StaysPut}
 use Rattle.jv_cmd.specs.Run.{Leaves}
 use Rattle.std.proofs.lemmas.Option.{same_Some}

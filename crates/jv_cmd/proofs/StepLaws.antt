@@ -7,8 +7,8 @@ use Rattle.jv_model.specs.declared.op.Line.{Line}
 use Rattle.jv_model.specs.declared.op.Line.TheVariants.{Empty}
 use Rattle.jv_model.specs.journal.Legal.{Legal, AllAllowed, may_be_cut, may_stop}
 use Rattle.jv_model.specs.journal.Past.{Past, Setup, NoMore, is_over, at_start, begun, after_line, begin_from, begin_next, begun_by, begun_to, past, reached, at_end, text_of}
-use Rattle.jv_laws.proofs.JournalGrowthLaws.{begun_to-twice, begun_to-next, past-append, AllAllowed-append, past-begun_to, AllAllowed-begun_to}
-use Rattle.jv_shared.specs.Shared.{Shared}
+use Rattle.jv_model_laws.proofs.JournalGrowthLaws.{begun_to-twice, begun_to-next, past-append, AllAllowed-append, past-begun_to, AllAllowed-begun_to}
+use Rattle.jv_client_shared.specs.Shared.{Shared}
 use Rattle.jv_outside.specs.Ticks.{Ticks}
 use Rattle.jv_outside.proofs.StreamLaws.{Gains-nil}
 use Rattle.jv_session.specs.Lines.{LineState, LeavesAll, SaysLine, Cut}

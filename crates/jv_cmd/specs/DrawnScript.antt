@@ -1,7 +1,7 @@
 -- What is known of every script that is drawn from a seed.
 use Rattle.std.specs.Prelude.{◌≡◌, ℕ, false, All, Some}
 use Rattle.jv_model.specs.declared.basics.Limits.{Limits}
-use Rattle.jv_generator.specs.Script.{script}
+use Rattle.jv_script_drawn.specs.Script.{script}
 use Rattle.jv_cmd.specs.Generating.{script_text}
 use Rattle.jv_cmd.specs.Run.{AreLines, IsBuilt}
 use Rattle.jv_cmd.specs.Texts.{texts_of}

@@ -17,8 +17,8 @@ use Rattle.jv_model.specs.client.OpForms.{is_read}
 use Rattle.jv_outside.specs.Causes.{RoseTimes}
 use Rattle.jv_outside.specs.Stream.{Stream, HasAll, IsCut}
 use Rattle.jv_client.specs.Makes.{faults_of}
-use Rattle.jv_generator.specs.Script.{script}
-use Rattle.jv_generator.specs.Summary.{summary_line, totals_of}
+use Rattle.jv_script_drawn.specs.Script.{script}
+use Rattle.jv_script_drawn.specs.Summary.{summary_line, totals_of}
 use Rattle.jv_session.specs.Lines.{StaysPut}
 use Rattle.jv_cmd.specs.declared.ended.Ended.{Ended}
 use Rattle.jv_cmd.specs.declared.ended.Ended.TheVariants.{Succeeded, OutFailed, OutOfMemory}

@@ -18,12 +18,12 @@ use Rattle.jv_outside.specs.Ticks.{Ticks}
 use Rattle.jv_rows.specs.Transactions.{IsBad}
 use Rattle.jv_volume.specs.Slices.{next_slice}
 use Rattle.jv_volume.specs.TypedRows.{typed}
-use Rattle.jv_contents.specs.Blocks.{known_by}
-use Rattle.jv_contents.specs.Bytes.{tree_with}
-use Rattle.jv_contents.specs.Counts.{record_count}
+use Rattle.jv_volume_bytes.specs.Blocks.{known_by}
+use Rattle.jv_volume_bytes.specs.Bytes.{tree_with}
+use Rattle.jv_volume_bytes.specs.Counts.{record_count}
 use Rattle.jv_yard.specs.Contents.{blocks_in}
-use Rattle.jv_shared.specs.Fresh.{IsFresh}
-use Rattle.jv_shared.specs.Shared.{HasStore, Known, Shared}
+use Rattle.jv_client_shared.specs.Fresh.{IsFresh}
+use Rattle.jv_client_shared.specs.Shared.{HasStore, Known, Shared}
 use Rattle.jv_client.specs.Built.{is_built_line}
 use Rattle.jv_session.specs.Direct.{BlocksStay}
 use Rattle.jv_session.specs.Lines.{AreFailures}

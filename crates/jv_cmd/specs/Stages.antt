@@ -10,8 +10,8 @@ use Rattle.jv_outside.specs.Stream.{Stream}
 use Rattle.jv_outside.specs.Ticks.{Ticks}
 use Rattle.jv_volume.specs.TreeOf.{no_setting}
 use Rattle.jv_yard.specs.YardValue.{YardValue, yard_value}
-use Rattle.jv_shared.specs.Lengths.{IsLength}
-use Rattle.jv_shared.specs.Shared.{Shared}
+use Rattle.jv_client_shared.specs.Lengths.{IsLength}
+use Rattle.jv_client_shared.specs.Shared.{Shared}
 use Rattle.jv_client.specs.Shared.{shared}
 use Rattle.jv_cmd.specs.Worlds.{WorldValue, block_devices, world_value}
 

@@ -11,7 +11,7 @@ use Rattle.jv_model.specs.journal.Past.{Past, Setup, at_start, begun_to, past, r
 use Rattle.jv_outside.specs.Causes.{Rose, RoseTimes}
 use Rattle.jv_outside.specs.Stream.{Gains, HasAll, IsCut}
 use Rattle.jv_outside.specs.Ticks.{Passes}
-use Rattle.jv_shared.specs.Shared.{Shared}
+use Rattle.jv_client_shared.specs.Shared.{Shared}
 use Rattle.jv_client.specs.Makes.{faults_of}
 use Rattle.jv_session.specs.Direct.{BlocksStay}
 use Rattle.jv_session.specs.Lines.{AreFailures, BreaksAt, CutsLine, FromThere, LineState, LineUses, StaysPut, line_state}

@@ -1,6 +1,6 @@
 ghost use Rattle.std.specs.Prelude.{◌≡◌, ◌≤◌, [], map, string_bytes, IsSome, IsSomeAnd};
 ghost use Rattle.jv_model.specs.declared.limits.TheConstants.{MAX_DATA};
-ghost use Rattle.jv_shared.specs.Lengths.{IsLength};
+ghost use Rattle.jv_client_shared.specs.Lengths.{IsLength};
 ghost use Rattle.jv_cmd.specs.Bounds.{AreAllowed};
 ghost use Rattle.jv_cmd.specs.Commands.{Runs, RunsAttached, RunsCommand, RunsSession, RunsVolume};
 ghost use Rattle.jv_cmd.specs.Faults.{CountsFaults, in_world};

@@ -3,8 +3,8 @@
 ghost use Rattle.std.specs.Prelude.{◌≡◌, ◌≤◌, ◌++◌, ◌∷◌, [], codes, drop, IfOk, IsSome, IsSomeAnd, MatchOption, OnOk, Some};
 ghost use Rattle.jv_model.specs.declared.limits.TheConstants.{MAX_DATA};
 ghost use Rattle.jv_model.specs.script.Printed.{number_word};
-ghost use Rattle.jv_generator.specs.Summary.{totals_of, with_reply};
-ghost use Rattle.jv_generator.specs.Script.{script};
+ghost use Rattle.jv_script_drawn.specs.Summary.{totals_of, with_reply};
+ghost use Rattle.jv_script_drawn.specs.Script.{script};
 ghost use Rattle.jv_cmd.specs.Generating.{EndsScript, PrintsSummary, SumsUp, words_of_create, is_read_line, line_text, operation_text, words_of_read, repeated_text, replies_said, reply_said, script_text, spelled_bytes, summary_of, words_of_write};
 ghost use Rattle.jv_cmd.specs.Stages.{IsFirst};
 ghost use Rattle.jv_cmd.specs.Texts.{texts_of};
@@ -14,10 +14,10 @@ use crate::lines::{discard, run_script};
 use crate::reader::feed_in;
 use crate::stage::{ObservedStage, RunStage};
 use itoa::Buffer;
-use jv_generator::{Generator, Totals};
 use jv_model::{Bytes, Fault, Line, Op, Reply, Setting};
 use jv_outside::{Clock, Depot, Keeper, NeverSink, NeverSource, Shelf, Sink, Source, write_whole};
 use jv_script::{BadLine, hex_pair, mode_digits, push_number, read_data};
+use jv_script_drawn::{Generator, Totals};
 use jv_yard::{Alone, YardDoor};
 use std::alloc::{AllocError, Global};
 

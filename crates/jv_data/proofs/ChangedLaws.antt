@@ -11,7 +11,7 @@ use Rattle.jv_volume.specs.TypedRows.{Rows}
 use Rattle.jv_volume.specs.Views.{lists_of, node_row_at, counters_at}
 use Rattle.jv_volume.specs.Slices.{place_in}
 use Rattle.jv_volume.specs.Whole.{Whole}
-use Rattle.jv_contents.specs.Bytes.{KnownBytes, spot_byte, bytes_of, tree_with}
+use Rattle.jv_volume_bytes.specs.Bytes.{KnownBytes, spot_byte, bytes_of, tree_with}
 use Rattle.jv_data.proofs.BesideLaws.{Beside}
 use Rattle.jv_data.proofs.SizedLaws.{sized_rows, tree-content}
 

@@ -20,15 +20,15 @@ use Rattle.jv_volume.specs.Views.{row_in, records_in, node_row_at, counters_at, 
 use Rattle.jv_volume.specs.Slices.{records_naming, place_in, next_slice, WholeSlices}
 use Rattle.jv_volume.specs.Whole.{Quiet, Whole, is_of_slices}
 use Rattle.jv_volume.proofs.QuietLaws.{quiet-slices, lists_of-stay, slice_row-stay}
-use Rattle.jv_contents.specs.Bytes.{KnownBytes, bytes_of, tree_with}
-use Rattle.jv_contents.specs.Counts.{HadSize, KeepsOthers, record_count}
-use Rattle.jv_contents.specs.Places.{put_over}
-use Rattle.jv_contents.proofs.BlockLaws.{place_has_row}
-use Rattle.jv_contents.proofs.ByteLaws.{past-put_over}
-use Rattle.jv_contents.proofs.CountLaws.{ListsMove, move-none, others-adjusted, go-adjusted, lives-added, full-many}
-use Rattle.jv_contents.proofs.KeepLaws.{record_count-stay}
-use Rattle.jv_contents.proofs.PlaceLaws.{place_in-same}
-use Rattle.jv_contents.proofs.WholeLaws.{SlicesGo}
+use Rattle.jv_volume_bytes.specs.Bytes.{KnownBytes, bytes_of, tree_with}
+use Rattle.jv_volume_bytes.specs.Counts.{HadSize, KeepsOthers, record_count}
+use Rattle.jv_volume_bytes.specs.Places.{put_over}
+use Rattle.jv_volume_bytes.proofs.BlockLaws.{place_has_row}
+use Rattle.jv_volume_bytes.proofs.ByteLaws.{past-put_over}
+use Rattle.jv_volume_bytes.proofs.CountLaws.{ListsMove, move-none, others-adjusted, go-adjusted, lives-added, full-many}
+use Rattle.jv_volume_bytes.proofs.KeepLaws.{record_count-stay}
+use Rattle.jv_volume_bytes.proofs.PlaceLaws.{place_in-same}
+use Rattle.jv_volume_bytes.proofs.WholeLaws.{SlicesGo}
 use Rattle.jv_data.specs.declared.copying.CopyCourse.{CopyCourse}
 use Rattle.jv_data.specs.Changing.{may_change}
 use Rattle.jv_data.specs.Copying.{rows_copied, Copying, GetsPieces}

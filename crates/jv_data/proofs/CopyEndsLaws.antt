@@ -40,8 +40,8 @@ use Rattle.jv_volume.specs.TypedRows.{Rows, typed}
 use Rattle.jv_volume.specs.Views.{row_in, node_in, node_row_at, lists_of}
 use Rattle.jv_volume.specs.Slices.{records_naming}
 use Rattle.jv_volume.specs.Whole.{Whole}
-use Rattle.jv_contents.specs.Bytes.{KnownBytes, bytes_of, tree_with}
-use Rattle.jv_contents.proofs.KeepLaws.{keeps-stay}
+use Rattle.jv_volume_bytes.specs.Bytes.{KnownBytes, bytes_of, tree_with}
+use Rattle.jv_volume_bytes.proofs.KeepLaws.{keeps-stay}
 use Rattle.jv_data.specs.declared.copying.CopyCourse.{CopyCourse}
 use Rattle.jv_data.specs.Changing.{Makes, AnyBytes, IsCrowded, IsFull, Changed, LandsChanged, Changes, count_in, may_change, KeepsRest}
 use Rattle.jv_data.specs.Committing.{HasFile}

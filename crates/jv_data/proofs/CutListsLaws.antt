@@ -19,12 +19,12 @@ use Rattle.jv_volume.specs.TypedRows.{Rows}
 use Rattle.jv_volume.specs.Views.{row_in, records_in, lists_of}
 use Rattle.jv_volume.specs.Slices.{listed, records_naming}
 use Rattle.jv_volume.proofs.MapLaws.{get-alter-apart}
-use Rattle.jv_contents.specs.Counts.{HadSize}
-use Rattle.jv_contents.specs.Places.{Lists, with_list, zero_record, cut_list}
-use Rattle.jv_contents.proofs.BehindLaws.{naming-append, behind-as}
-use Rattle.jv_contents.proofs.CountLaws.{ListsMove, move-list}
-use Rattle.jv_contents.proofs.CutLaws.{zero-is, all-push, cut_list-inside}
-use Rattle.jv_contents.proofs.PlaceLaws.{cut_list-below, cut_list-past}
+use Rattle.jv_volume_bytes.specs.Counts.{HadSize}
+use Rattle.jv_volume_bytes.specs.Places.{Lists, with_list, zero_record, cut_list}
+use Rattle.jv_volume_bytes.proofs.BehindLaws.{naming-append, behind-as}
+use Rattle.jv_volume_bytes.proofs.CountLaws.{ListsMove, move-list}
+use Rattle.jv_volume_bytes.proofs.CutLaws.{zero-is, all-push, cut_list-inside}
+use Rattle.jv_volume_bytes.proofs.PlaceLaws.{cut_list-below, cut_list-past}
 use Rattle.jv_data.specs.Truncating.{rows_ended}
 use Rattle.jv_data.proofs.BesideLaws.{Beside, beside-none, beside-alter, list_is_row}
 use Rattle.jv_data.proofs.ListRowLaws.{get-other, list_is, lists_of-list}

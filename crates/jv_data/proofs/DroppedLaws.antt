@@ -14,7 +14,7 @@ use Rattle.jv_volume.specs.TypedRows.{Rows}
 use Rattle.jv_volume.specs.Views.{row_in, records_in, lists_of}
 use Rattle.jv_volume.specs.Slices.{listed}
 use Rattle.jv_volume.proofs.MapLaws.{get-alter-apart}
-use Rattle.jv_contents.proofs.CountLaws.{ListsMove, move-list}
+use Rattle.jv_volume_bytes.proofs.CountLaws.{ListsMove, move-list}
 use Rattle.jv_data.specs.Truncating.{rows_without, records_of, latest, Follow}
 use Rattle.jv_data.proofs.BesideLaws.{Beside, beside-none, beside-then, beside-alter}
 use Rattle.jv_data.proofs.ListRowLaws.{get-other, list_is, lists_of-list}

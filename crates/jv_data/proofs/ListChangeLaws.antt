@@ -20,12 +20,12 @@ use Rattle.jv_volume.specs.TreeOf.{counters_of, or_no_counters}
 use Rattle.jv_volume.specs.Slices.{next_slice, place_in, WholeSlices}
 use Rattle.jv_volume.specs.Whole.{Quiet, Whole, is_of_slices}
 use Rattle.jv_volume.proofs.QuietLaws.{quiet-slices}
-use Rattle.jv_contents.specs.Places.{put_over, cut_at}
-use Rattle.jv_contents.specs.Bytes.{KnownBytes, spot_byte, bytes_of, tree_with}
-use Rattle.jv_contents.specs.Counts.{KeepsOthers}
-use Rattle.jv_contents.proofs.ByteLaws.{byte-cut, byte-copied}
-use Rattle.jv_contents.proofs.KeepLaws.{keeps-stay_then}
-use Rattle.jv_contents.proofs.WholeLaws.{SlicesGo, keeps-go, slices-go, FileGoes, files-go}
+use Rattle.jv_volume_bytes.specs.Places.{put_over, cut_at}
+use Rattle.jv_volume_bytes.specs.Bytes.{KnownBytes, spot_byte, bytes_of, tree_with}
+use Rattle.jv_volume_bytes.specs.Counts.{KeepsOthers}
+use Rattle.jv_volume_bytes.proofs.ByteLaws.{byte-cut, byte-copied}
+use Rattle.jv_volume_bytes.proofs.KeepLaws.{keeps-stay_then}
+use Rattle.jv_volume_bytes.proofs.WholeLaws.{SlicesGo, keeps-go, slices-go, FileGoes, files-go}
 use Rattle.jv_data.proofs.BesideLaws.{Beside, formed-beside, whole-formed}
 use Rattle.jv_data.proofs.ChangedLaws.{tree-changed}
 use Rattle.jv_data.proofs.SizedLaws.{sized_rows, sized, formed-sized, quiet-sized, node-sized, kept-sized, counters-sized, content_was}

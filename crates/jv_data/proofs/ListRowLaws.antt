@@ -17,8 +17,8 @@ use Rattle.jv_volume.specs.Views.{row_in, records_in, lists_of}
 use Rattle.jv_volume.specs.Slices.{listed, records_naming, named_by, ListsHave}
 use Rattle.jv_volume.proofs.MapLaws.{get-alter-here, get-alter-apart}
 use Rattle.jv_volume.proofs.ShapeMapLaws.{same_or_apart}
-use Rattle.jv_contents.specs.Places.{with_list}
-use Rattle.jv_contents.specs.Counts.{record_count}
+use Rattle.jv_volume_bytes.specs.Places.{with_list}
+use Rattle.jv_volume_bytes.specs.Counts.{record_count}
 use Rattle.jv_volume.proofs.ListSumLaws.{not_list, sum-list}
 
 -- a row of another table

@@ -24,13 +24,13 @@ use Rattle.jv_volume.specs.TreeOf.{or_no_counters, counters_of}
 use Rattle.jv_volume.specs.Slices.{listed, records_naming, named_by, count_in, slice_count, next_slice, place_in, ListsHave, IsUnknown, WholeSlices, HasLists, OfFile, OfDropped, WholeFiles}
 use Rattle.jv_volume.proofs.MapLaws.{get-alter-here, get-alter-apart}
 use Rattle.jv_volume.proofs.ShapeMapLaws.{same_or_apart}
-use Rattle.jv_contents.specs.Places.{with_list, put_over}
-use Rattle.jv_contents.specs.Counts.{record_count, KeepsOthers}
-use Rattle.jv_contents.proofs.BehindLaws.{naming-append}
-use Rattle.jv_contents.proofs.CutLaws.{all-append}
-use Rattle.jv_contents.proofs.WholeLaws.{all-mapped}
-use Rattle.jv_contents.proofs.PlaceLaws.{place_in-push, place_in-same}
-use Rattle.jv_contents.proofs.ByteLaws.{past-put_over}
+use Rattle.jv_volume_bytes.specs.Places.{with_list, put_over}
+use Rattle.jv_volume_bytes.specs.Counts.{record_count, KeepsOthers}
+use Rattle.jv_volume_bytes.proofs.BehindLaws.{naming-append}
+use Rattle.jv_volume_bytes.proofs.CutLaws.{all-append}
+use Rattle.jv_volume_bytes.proofs.WholeLaws.{all-mapped}
+use Rattle.jv_volume_bytes.proofs.PlaceLaws.{place_in-push, place_in-same}
+use Rattle.jv_volume_bytes.proofs.ByteLaws.{past-put_over}
 use Rattle.jv_data.proofs.ListRowLaws.{get-other, named_by-other, record_count-other, lists_of-other, listed-other, named_by-list, record_count-list, lists_of-list, lists_of-beside, listed-list, lists-have}
 use Rattle.jv_volume.proofs.ListSumLaws.{share-sum}
 

@@ -39,7 +39,7 @@ use Rattle.jv_volume.proofs.StoredLaws.{HasCounters, of_counters, found_counters
 use Rattle.jv_volume.proofs.StoredStepLaws.{stored-put_counters}
 use Rattle.jv_volume.proofs.TreeOfLaws.{tree_of-put_counters}
 use Rattle.jv_volume.proofs.SeenLaws.{row-put, rows-alter}
-use Rattle.jv_contents.proofs.PlaceLaws.{place_in-same}
+use Rattle.jv_volume_bytes.proofs.PlaceLaws.{place_in-same}
 use Rattle.jv_data.proofs.ListRowLaws.{get-other, named_by-other, lists_of-other, listed-other}
 use Rattle.jv_data.specs.Records.{TakesNumber, LandsNumber, Numbered, number_given}
 

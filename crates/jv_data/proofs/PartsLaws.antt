@@ -19,14 +19,14 @@ use Rattle.jv_volume.specs.TypedRows.{Cell, Rows}
 use Rattle.jv_volume.specs.Views.{row_in, records_in, lists_of}
 use Rattle.jv_volume.specs.Slices.{listed, place_in, records_naming}
 use Rattle.jv_volume.proofs.MapLaws.{get-alter-apart}
-use Rattle.jv_contents.specs.Counts.{HadSize}
-use Rattle.jv_contents.specs.Places.{with_list, put_over}
-use Rattle.jv_contents.proofs.BehindLaws.{naming-append, behind-as}
-use Rattle.jv_contents.proofs.CopyLaws.{copy-step}
-use Rattle.jv_contents.proofs.CountLaws.{ListsMove, move-list}
-use Rattle.jv_contents.proofs.CutLaws.{all-append}
-use Rattle.jv_contents.proofs.FillLaws.{over-none, fills-are, fills-few, fills-name}
-use Rattle.jv_contents.proofs.PlaceLaws.{place_in-same}
+use Rattle.jv_volume_bytes.specs.Counts.{HadSize}
+use Rattle.jv_volume_bytes.specs.Places.{with_list, put_over}
+use Rattle.jv_volume_bytes.proofs.BehindLaws.{naming-append, behind-as}
+use Rattle.jv_volume_bytes.proofs.CopyLaws.{copy-step}
+use Rattle.jv_volume_bytes.proofs.CountLaws.{ListsMove, move-list}
+use Rattle.jv_volume_bytes.proofs.CutLaws.{all-append}
+use Rattle.jv_volume_bytes.proofs.FillLaws.{over-none, fills-are, fills-few, fills-name}
+use Rattle.jv_volume_bytes.proofs.PlaceLaws.{place_in-same}
 use Rattle.jv_data.specs.declared.copying.CopyCourse.{CopyCourse}
 use Rattle.jv_data.specs.Copying.{ArePieces, part_len, window_at, AreParts, rows_copied, bytes_before, bytes_in, GetsPieces}
 use Rattle.jv_data.specs.Truncating.{HaveSlices, records_of}

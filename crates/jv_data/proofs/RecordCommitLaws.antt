@@ -37,8 +37,8 @@ use Rattle.jv_volume.specs.TypedRows.{Rows, typed}
 use Rattle.jv_volume.specs.Views.{row_in, node_in, node_row_at, slice_row_at, lists_of}
 use Rattle.jv_volume.specs.Whole.{Whole, is_of_slices}
 use Rattle.jv_volume.proofs.QuietLaws.{lists_of-stay}
-use Rattle.jv_contents.specs.Bytes.{KnownBytes, bytes_of, tree_with}
-use Rattle.jv_contents.specs.Counts.{KeepsOthers}
+use Rattle.jv_volume_bytes.specs.Bytes.{KnownBytes, bytes_of, tree_with}
+use Rattle.jv_volume_bytes.specs.Counts.{KeepsOthers}
 use Rattle.jv_data.specs.Changing.{Makes, Never, Changed, LandsChanged, may_change, KeepsRest}
 use Rattle.jv_data.specs.Committing.{BeginsCommit, Begun}
 use Rattle.jv_data.specs.Records.{HasRecords, IsNew, CommitsRecord, AppendsRecord, committing}

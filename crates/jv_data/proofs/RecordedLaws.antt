@@ -23,12 +23,12 @@ use Rattle.jv_volume.specs.Slices.{IsUnknown, next_slice, place_in}
 use Rattle.jv_volume.specs.Whole.{IsRowAt, Quiet, Whole}
 use Rattle.jv_volume.proofs.QuietLaws.{lists_of-stay, slice_row-stay}
 use Rattle.jv_volume.proofs.SeenLaws.{row-put}
-use Rattle.jv_contents.specs.Places.{put_over}
-use Rattle.jv_contents.specs.Bytes.{KnownBytes, spot_byte, bytes_of, tree_with}
-use Rattle.jv_contents.specs.Counts.{KeepsOthers}
-use Rattle.jv_contents.proofs.ByteLaws.{byte-committed, past-put_over}
-use Rattle.jv_contents.proofs.KeepLaws.{unknown-stay, keeps-stay_then}
-use Rattle.jv_contents.proofs.PlaceLaws.{place_in-same}
+use Rattle.jv_volume_bytes.specs.Places.{put_over}
+use Rattle.jv_volume_bytes.specs.Bytes.{KnownBytes, spot_byte, bytes_of, tree_with}
+use Rattle.jv_volume_bytes.specs.Counts.{KeepsOthers}
+use Rattle.jv_volume_bytes.proofs.ByteLaws.{byte-committed, past-put_over}
+use Rattle.jv_volume_bytes.proofs.KeepLaws.{unknown-stay, keeps-stay_then}
+use Rattle.jv_volume_bytes.proofs.PlaceLaws.{place_in-same}
 use Rattle.jv_data.specs.Changing.{may_change}
 use Rattle.jv_data.proofs.BesideLaws.{Beside, beside-alter, beside-then, formed-beside, list_is_row, whole-formed}
 use Rattle.jv_data.proofs.ChangedLaws.{tree-changed}

@@ -11,7 +11,7 @@ use Rattle.jv_model.specs.tree.Tree.{Tree}
 use Rattle.jv_outside.specs.Store.{Store}
 use Rattle.jv_rows.specs.Transactions.{Agrees, Looks}
 use Rattle.jv_volume.specs.TypedRows.{Rows, typed}
-use Rattle.jv_contents.specs.Bytes.{KnownBytes, bytes_of, tree_with}
+use Rattle.jv_volume_bytes.specs.Bytes.{KnownBytes, bytes_of, tree_with}
 use Rattle.jv_data.specs.Changing.{Makes, AnyBytes, LandsChanged, Changes}
 
 module _ {A : Type 0} (makes : Makes) (crowded : Rows → Type 0) (reply : A → Reply) (before after : Store) (act : Tree → Result Outcome Fault) where

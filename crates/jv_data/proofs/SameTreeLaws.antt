@@ -22,7 +22,7 @@ use Rattle.jv_volume.specs.Whole.{IsRowAt}
 use Rattle.jv_volume.proofs.SeenLaws.{AreRows, row-put}
 use Rattle.jv_volume.proofs.StoredStepLaws.{NodeKept, EdgeKept, CellKept, stored-goes}
 use Rattle.jv_volume.proofs.TreeOfLaws.{is_unseen, node_at-tree_of, get-entries, get-sessions, get-sustained, get-sustained-none}
-use Rattle.jv_contents.proofs.CountLaws.{others-adjusted}
+use Rattle.jv_volume_bytes.proofs.CountLaws.{others-adjusted}
 use Rattle.jv_data.proofs.BesideLaws.{Beside}
 
 module _ (rows after : Rows) (same : (key : RowKey) → is_unseen key.tab ≡ false → get after key ≡ get rows key) (bytes : ℕ → ℕ → ℕ) where

@@ -26,12 +26,12 @@ use Rattle.jv_rows.proofs.TransactionLaws.{stands-sees, as_stored}
 use Rattle.jv_volume.specs.TypedRows.{Rows, typed}
 use Rattle.jv_volume.specs.Views.{lists_of}
 use Rattle.jv_volume.specs.Slices.{place_in}
-use Rattle.jv_contents.specs.Fills.{Fills, record_at_spot, records_of_plan}
-use Rattle.jv_contents.specs.Places.{Lists}
-use Rattle.jv_contents.proofs.BlockLaws.{seen_contained}
-use Rattle.jv_contents.proofs.CopyLaws.{source-fills}
-use Rattle.jv_contents.proofs.CutLaws.{all-append}
-use Rattle.jv_contents.proofs.FillLaws.{plan-fills, fills-append, fills-are, fills-some, fills-name}
+use Rattle.jv_volume_bytes.specs.Fills.{Fills, record_at_spot, records_of_plan}
+use Rattle.jv_volume_bytes.specs.Places.{Lists}
+use Rattle.jv_volume_bytes.proofs.BlockLaws.{seen_contained}
+use Rattle.jv_volume_bytes.proofs.CopyLaws.{source-fills}
+use Rattle.jv_volume_bytes.proofs.CutLaws.{all-append}
+use Rattle.jv_volume_bytes.proofs.FillLaws.{plan-fills, fills-append, fills-are, fills-some, fills-name}
 use Rattle.jv_data.specs.Copying.{pieces_len, ArePieces, IsShown, ShowsRange}
 use Rattle.jv_data.specs.Records.{HasRecords}
 use Rattle.jv_data.specs.Truncating.{HasSlice, HaveSlices, ChecksSlices}

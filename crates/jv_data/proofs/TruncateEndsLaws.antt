@@ -30,10 +30,10 @@ use Rattle.jv_data.proofs.CommitLaws.{looks-any}
 use Rattle.jv_outside.specs.Rows.{applied}
 use Rattle.jv_rows.specs.Drafts.{drafted}
 use Rattle.jv_model.specs.declared.slice.Spot.TheVariants.{Zero}
-use Rattle.jv_contents.specs.Counts.{KeepsOthers}
-use Rattle.jv_contents.proofs.ByteLaws.{byte-grown}
-use Rattle.jv_contents.proofs.KeepLaws.{keeps-stay}
-use Rattle.jv_contents.proofs.PlaceLaws.{place_in-same}
+use Rattle.jv_volume_bytes.specs.Counts.{KeepsOthers}
+use Rattle.jv_volume_bytes.proofs.ByteLaws.{byte-grown}
+use Rattle.jv_volume_bytes.proofs.KeepLaws.{keeps-stay}
+use Rattle.jv_volume_bytes.proofs.PlaceLaws.{place_in-same}
 use Rattle.jv_volume.proofs.QuietLaws.{lists_of-stay, slice_row-stay}
 use Rattle.jv_volume.specs.Slices.{place_in}
 use Rattle.jv_data.proofs.BesideLaws.{beside-none}
@@ -55,7 +55,7 @@ use Rattle.jv_model.specs.declared.row.SliceRow.{SliceRow}
 use Rattle.jv_model.specs.tree.Trash.{due_after}
 use Rattle.jv_volume.specs.TreeOf.{tree_of}
 use Rattle.jv_volume.specs.TypedRows.{Rows, typed}
-use Rattle.jv_contents.specs.Bytes.{KnownBytes, spot_byte, bytes_of, tree_with}
+use Rattle.jv_volume_bytes.specs.Bytes.{KnownBytes, spot_byte, bytes_of, tree_with}
 use Rattle.jv_data.specs.Changing.{Makes, DieUntil, AnyBytes, Never, Changed, Changes, may_change, KeepsRest}
 use Rattle.jv_data.specs.Committing.{HasFile}
 use Rattle.jv_model.proofs.TestLaws.{of_known}

@@ -34,9 +34,9 @@ use Rattle.jv_volume.specs.Views.{row_in, records_in, lists_of, slice_in}
 use Rattle.jv_volume.specs.Slices.{listed, records_naming, count_in}
 use Rattle.jv_volume.specs.Whole.{Whole}
 use Rattle.jv_volume.proofs.StoredLaws.{whole-typed}
-use Rattle.jv_contents.proofs.BehindLaws.{naming-append}
-use Rattle.jv_contents.proofs.BlockLaws.{naming-le}
-use Rattle.jv_contents.proofs.CutLaws.{all-push, all-append}
+use Rattle.jv_volume_bytes.proofs.BehindLaws.{naming-append}
+use Rattle.jv_volume_bytes.proofs.BlockLaws.{naming-le}
+use Rattle.jv_volume_bytes.proofs.CutLaws.{all-push, all-append}
 use Rattle.jv_data.proofs.CutListsLaws.{get-ended}
 use Rattle.jv_data.proofs.DroppedLaws.{get-without}
 use Rattle.jv_data.specs.Truncating.{HasSlice, HaveSlices, records_of, Follow, ChecksSlice, ChecksSlices, Dropping, Dropped, DropsLists, IsLastBefore, LeaveSlices, SaysDue, EndsList, CutsLists}

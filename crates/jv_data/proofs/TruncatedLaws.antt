@@ -18,13 +18,13 @@ use Rattle.jv_volume.specs.Views.{row_in, records_in, node_row_at, counters_at, 
 use Rattle.jv_volume.specs.Slices.{place_in, next_slice, WholeSlices}
 use Rattle.jv_volume.specs.Whole.{Quiet, Whole, is_of_slices}
 use Rattle.jv_volume.proofs.QuietLaws.{quiet-slices, lists_of-stay, slice_row-stay}
-use Rattle.jv_contents.specs.Bytes.{KnownBytes, tree_with}
-use Rattle.jv_contents.specs.Counts.{KeepsOthers}
-use Rattle.jv_contents.specs.Places.{with_list, cut_list, cut_at}
-use Rattle.jv_contents.proofs.ByteLaws.{past-cut}
-use Rattle.jv_contents.proofs.CountLaws.{ListsMove, move-none, others-adjusted, dead_after, go-adjusted}
-use Rattle.jv_contents.proofs.PlaceLaws.{place_in-same, place_in-cut}
-use Rattle.jv_contents.proofs.WholeLaws.{SlicesGo}
+use Rattle.jv_volume_bytes.specs.Bytes.{KnownBytes, tree_with}
+use Rattle.jv_volume_bytes.specs.Counts.{KeepsOthers}
+use Rattle.jv_volume_bytes.specs.Places.{with_list, cut_list, cut_at}
+use Rattle.jv_volume_bytes.proofs.ByteLaws.{past-cut}
+use Rattle.jv_volume_bytes.proofs.CountLaws.{ListsMove, move-none, others-adjusted, dead_after, go-adjusted}
+use Rattle.jv_volume_bytes.proofs.PlaceLaws.{place_in-same, place_in-cut}
+use Rattle.jv_volume_bytes.proofs.WholeLaws.{SlicesGo}
 use Rattle.jv_data.specs.Changing.{may_change}
 use Rattle.jv_data.specs.Truncating.{rows_ended, rows_without, latest, Follow, ListsCut}
 use Rattle.jv_data.proofs.BesideLaws.{Beside, beside-then}

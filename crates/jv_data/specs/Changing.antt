@@ -21,8 +21,8 @@ use Rattle.jv_rows.specs.Transactions.{TransactionCounts, BadFault}
 use Rattle.jv_volume.specs.TypedRows.{Rows, typed}
 use Rattle.jv_volume.specs.Views.{setting_at, slice_row_at, dead_at}
 use Rattle.jv_volume.specs.Whole.{Whole}
-use Rattle.jv_contents.specs.Bytes.{KnownBytes, tree_with}
-use Rattle.jv_contents.specs.Counts.{KeepsOthers, record_count}
+use Rattle.jv_volume_bytes.specs.Bytes.{KnownBytes, tree_with}
+use Rattle.jv_volume_bytes.specs.Counts.{KeepsOthers, record_count}
 
 -- the slice that a transaction makes, if it makes one; how many records it adds at most; and when a
 -- slice may go that nothing names any more, by the volume's setting

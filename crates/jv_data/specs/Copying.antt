@@ -19,8 +19,8 @@ use Rattle.jv_volume.specs.TypedRows.{Rows, typed}
 use Rattle.jv_volume.specs.Views.{lists_of}
 use Rattle.jv_volume.specs.Slices.{place_in}
 use Rattle.jv_volume.specs.Whole.{Whole}
-use Rattle.jv_contents.specs.Fills.{Fills, records_of_plan}
-use Rattle.jv_contents.specs.Places.{Lists}
+use Rattle.jv_volume_bytes.specs.Fills.{Fills, records_of_plan}
+use Rattle.jv_volume_bytes.specs.Places.{Lists}
 use Rattle.jv_data.specs.declared.copying.CopyCourse.{CopyCourse}
 use Rattle.jv_data.specs.Truncating.{HaveSlices, records_of}
 

@@ -26,7 +26,7 @@ use Rattle.jv_volume.specs.Views.{lists_of}
 use Rattle.jv_volume.specs.TreeOf.{tree_of}
 use Rattle.jv_volume.specs.Slices.{IsUnknown, next_slice}
 use Rattle.jv_volume.specs.Whole.{Whole, no_bytes}
-use Rattle.jv_contents.specs.Bytes.{KnownBytes, spot_byte}
+use Rattle.jv_volume_bytes.specs.Bytes.{KnownBytes, spot_byte}
 use Rattle.jv_data.specs.declared.looking.View.{View}
 use Rattle.jv_data.specs.Changing.{Changes, Never}
 use Rattle.jv_model.specs.Optional.{mapped}

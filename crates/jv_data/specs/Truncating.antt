@@ -24,7 +24,7 @@ use Rattle.jv_rows.specs.Transactions.{Looks, without_answer}
 use Rattle.jv_volume.specs.TypedRows.{Rows, typed}
 use Rattle.jv_volume.specs.Views.{lists_of, node_row_at, setting_at}
 use Rattle.jv_volume.specs.Whole.{Whole, is_of_slices}
-use Rattle.jv_contents.specs.Places.{zero_record, cut_list}
+use Rattle.jv_volume_bytes.specs.Places.{zero_record, cut_list}
 
 -- a slice has a row
 pub record HasSlice (rows : Rows) (id : ℕ) : Type 0 where

@@ -1,6 +1,6 @@
 //! Copies between files, and inside of one.
 ghost use Rattle.std.specs.Prelude.{◌≡◌, ℕ, ◌+◌, ◌≤◌, ◌<◌, ◌++◌, ◌&&◌, ◌==◌, nat_le, IfOk, IfSome, OnOk};
-ghost use Rattle.jv_contents.specs.Fills.{record_at_spot, records_of_plan};
+ghost use Rattle.jv_volume_bytes.specs.Fills.{record_at_spot, records_of_plan};
 ghost use Rattle.jv_data.specs.Changing.{Changes, AnyBytes, IsCrowded, KeepsRest, count_in};
 ghost use Rattle.jv_data.specs.Copying.{pieces_len, part_len, AddsPieces, ShowsRange, CopiesPart, CopiesLists};
 ghost use Rattle.jv_data.specs.Records.{HasRecords};

@@ -13,13 +13,13 @@ use Rattle.jv_model.specs.tree.Tree.{Tree, EntryKey, is_directory, is_sustained,
 use Rattle.jv_outside.specs.declared.batch.Change.{Change}
 use Rattle.jv_outside.specs.Store.{Store}
 use Rattle.jv_volume.proofs.ChangeLaws.{change_node-sustained}
-use Rattle.jv_changes.specs.Drafting.{Drafting}
-use Rattle.jv_changes.specs.Ready.{StandsAt, MayGo}
+use Rattle.jv_rows_drafts.specs.Drafting.{Drafting}
+use Rattle.jv_rows_drafts.specs.Ready.{StandsAt, MayGo}
 use Rattle.jv_links.specs.declared.fates.Fate.{Fate}
 use Rattle.jv_links.specs.declared.fates.Removed.{Removed}
 use Rattle.jv_links.specs.Removals.{MayLose, SaysFate, is_inode, kept_by}
 use Rattle.jv_links.specs.Replacements.{MayClear, SaysCleared}
-use Rattle.jv_changes.proofs.DraftStepLaws.{steps-then, steps-ended, step-as, step-fails, step-value, drafting-err, drafting-exit}
+use Rattle.jv_rows_drafts.proofs.DraftStepLaws.{steps-then, steps-ended, step-as, step-fails, step-value, drafting-err, drafting-exit}
 use Rattle.jv_links.proofs.RemovalStepLaws.{drops, stands_at, empty_apart, empty_goes}
 use Rattle.jv_links.proofs.UnlinkLaws.{kept-remove_entry}
 

@@ -26,8 +26,8 @@ use Rattle.jv_outside.specs.Store.{Store, Commits}
 use Rattle.jv_rows.specs.declared.walking.Place.{Place}
 use Rattle.jv_rows.specs.Transactions.{Looks}
 use Rattle.jv_rows.proofs.TransactionLaws.{Past, past-start, past-looks, past-stops, past-refuses, fails-commit}
-use Rattle.jv_changes.specs.Drafting.{Drafting}
-use Rattle.jv_changes.proofs.DraftingLaws.{PastSteps, OfWhole, steps-start, steps-on, steps-made, steps-stop, steps-fail, steps-commit}
+use Rattle.jv_rows_drafts.specs.Drafting.{Drafting}
+use Rattle.jv_rows_drafts.proofs.DraftingLaws.{PastSteps, OfWhole, steps-start, steps-on, steps-made, steps-stop, steps-fail, steps-commit}
 use Rattle.jv_volume.specs.Stored.{edge_row}
 use Rattle.jv_volume.specs.TypedRows.{typed, is_entry_name}
 use Rattle.jv_volume.specs.TreeOf.{tree_of}

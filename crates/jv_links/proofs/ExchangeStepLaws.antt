@@ -15,8 +15,8 @@ use Rattle.jv_model.specs.tree.Renaming.{moved_node, move_in, exchanged}
 use Rattle.jv_model.specs.tree.Tree.{Tree, EntryKey, entry_key, node_at, is_directory, link_count, links_fit}
 use Rattle.jv_outside.specs.declared.batch.Change.{Change}
 use Rattle.jv_outside.specs.Store.{Store}
-use Rattle.jv_changes.specs.Drafting.{Drafting}
-use Rattle.jv_changes.specs.Ready.{StandsAt, MayStandAt, IsThere, entry_put}
+use Rattle.jv_rows_drafts.specs.Drafting.{Drafting}
+use Rattle.jv_rows_drafts.specs.Ready.{StandsAt, MayStandAt, IsThere, entry_put}
 use Rattle.jv_volume.specs.Shape.{shape_of}
 use Rattle.jv_volume.proofs.ChangeLaws.{move_in-entries}
 use Rattle.jv_volume.proofs.ClimbLaws.{avoids_outside}
@@ -27,7 +27,7 @@ use Rattle.jv_volume.proofs.WalkShapeLaws.{went_on}
 use Rattle.jv_links.specs.Exchanges.{MayExchange, entry_moved, exchanged_within}
 use Rattle.jv_links.proofs.ExchangeTreeLaws.{there-change_node, exchanged-taken}
 use Rattle.jv_links.proofs.MoveEntryLaws.{apart_first, entry_apart, required_then}
-use Rattle.jv_changes.proofs.StepLaws.{drafting-as, drafting-ready, then-stops, then-on}
+use Rattle.jv_rows_drafts.proofs.StepLaws.{drafting-as, drafting-ready, then-stops, then-on}
 use Rattle.jv_model.proofs.TestLaws.{same_Ok}
 
 -- ---- what an entry adds to a link count

@@ -25,8 +25,8 @@ use Rattle.jv_volume.specs.TreeOf.{tree_of}
 use Rattle.jv_volume.specs.Views.{row_in, node_in, setting_in}
 use Rattle.jv_volume.proofs.ShapeMapLaws.{is_there-form}
 use Rattle.jv_volume.proofs.StoredLaws.{HasNode, found_node, no_node, found_setting}
-use Rattle.jv_changes.specs.Drafting.{Minds, Drafting}
-use Rattle.jv_changes.proofs.DraftedLaws.{Stays, stays-none, stays-then, stays-sees, stays-needs, seen-stands, needed-stands, drafting-unread, drafting-lacking, drafting-refused, drafting-made}
+use Rattle.jv_rows_drafts.specs.Drafting.{Minds, Drafting}
+use Rattle.jv_rows_drafts.proofs.DraftedLaws.{Stays, stays-none, stays-then, stays-sees, stays-needs, seen-stands, needed-stands, drafting-unread, drafting-lacking, drafting-refused, drafting-made}
 use Rattle.jv_links.specs.declared.fates.Fate.{Fate}
 use Rattle.jv_links.specs.declared.fates.Fate.TheVariants.{Linked, Trashed, Dropped, Sustained}
 use Rattle.jv_links.specs.Removals.{MayLose, SaysFate, fate_in}

@@ -35,9 +35,9 @@ use Rattle.jv_volume.proofs.SameShapeLaws.{shape-status_changed}
 use Rattle.jv_volume.proofs.ShapeMapLaws.{naming_apart, is_there-form, shape-put_entry}
 use Rattle.jv_volume.proofs.StoredLaws.{whole-shape}
 use Rattle.jv_volume.proofs.WalkShapeLaws.{went_on, required, path_named}
-use Rattle.jv_changes.specs.Drafting.{Drafting}
-use Rattle.jv_changes.specs.Ready.{MayStandAt, IsThere, entry_put}
-use Rattle.jv_changes.proofs.DraftingLaws.{PastSteps, OfWhole, steps-start, steps-on, steps-made, steps-stop, steps-fail, steps-commit, transacts-error}
+use Rattle.jv_rows_drafts.specs.Drafting.{Drafting}
+use Rattle.jv_rows_drafts.specs.Ready.{MayStandAt, IsThere, entry_put}
+use Rattle.jv_rows_drafts.proofs.DraftingLaws.{PastSteps, OfWhole, steps-start, steps-on, steps-made, steps-stop, steps-fail, steps-commit, transacts-error}
 use Rattle.jv_tree.specs.Entering.{new_pair, place_of, IsFreePlace}
 use Rattle.jv_tree.proofs.MakeLaws.{by_pair, free_place}
 use Rattle.jv_links.specs.Linkable.{linkable}

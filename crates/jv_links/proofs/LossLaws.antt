@@ -25,13 +25,13 @@ use Rattle.jv_volume.specs.TreeOf.{tree_of}
 use Rattle.jv_volume.specs.TypedRows.{is_entry_name}
 use Rattle.jv_volume.proofs.RemovalLaws.{one_entry}
 use Rattle.jv_volume.proofs.ChangeLaws.{change_node-apart}
-use Rattle.jv_changes.specs.Drafting.{Drafting}
-use Rattle.jv_changes.specs.Ready.{StandsAt, IsThere, MayGo}
+use Rattle.jv_rows_drafts.specs.Drafting.{Drafting}
+use Rattle.jv_rows_drafts.specs.Ready.{StandsAt, IsThere, MayGo}
 use Rattle.jv_links.specs.declared.fates.Fate.{Fate}
 use Rattle.jv_links.specs.declared.fates.Fate.TheVariants.{Linked, Trashed, Dropped, Sustained}
 use Rattle.jv_links.specs.Losses.{IsToTrash}
 use Rattle.jv_links.specs.Removals.{MayLose, SaysFate, fate_in}
-use Rattle.jv_changes.proofs.DraftStepLaws.{OfMinds, steps-then, steps-ended, step-fails, step-value, drafting-err, drafting-exit}
+use Rattle.jv_rows_drafts.proofs.DraftStepLaws.{OfMinds, steps-then, steps-ended, step-fails, step-value, drafting-err, drafting-exit}
 use Rattle.jv_links.proofs.RemovalStepLaws.{node_there, stands_at, leaf_apart_dir, leaf_goes}
 
 -- ---- what a fate says of the tree

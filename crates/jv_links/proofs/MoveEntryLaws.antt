@@ -14,15 +14,15 @@ use Rattle.jv_model.specs.tree.Tree.{Tree, EntryKey, entry_key, node_at, is_dire
 use Rattle.jv_model.proofs.TestLaws.{and_true, same_Ok}
 use Rattle.jv_outside.specs.declared.batch.Change.{Change}
 use Rattle.jv_outside.specs.Store.{Store}
-use Rattle.jv_changes.specs.Drafting.{Drafting}
-use Rattle.jv_changes.specs.Ready.{StandsAt, MayStandAt, IsThere, entry_put}
+use Rattle.jv_rows_drafts.specs.Drafting.{Drafting}
+use Rattle.jv_rows_drafts.specs.Ready.{StandsAt, MayStandAt, IsThere, entry_put}
 use Rattle.jv_volume.specs.Shape.{Shape, WholeShape, shape_of, is_dir, is_there, named}
 use Rattle.jv_volume.proofs.ClimbLaws.{Avoids, avoids_outside, above_avoids}
 use Rattle.jv_volume.proofs.LinkLaws.{standing, standing_apart, standing_here, is_directory-take_entry, link_count-move_in, link_count-put_entry-leaf, link_count-take_entry-leaf, link_count-put_entry-dir, link_count-take_entry-dir}
 use Rattle.jv_volume.proofs.ShapeMapLaws.{get-remove_apart, parent_of_dir, is_directory-form, is_there-form, shape-take_entry, shape-put_entry}
 use Rattle.jv_volume.proofs.WalkShapeLaws.{went_on}
 use Rattle.jv_links.specs.Moves.{MayMove, moved_within}
-use Rattle.jv_changes.proofs.StepLaws.{drafting-as, drafting-ready, then-stops, then-on}
+use Rattle.jv_rows_drafts.proofs.StepLaws.{drafting-as, drafting-ready, then-stops, then-on}
 
 -- what avoids an inode is another one
 pub apart_first : (s : Shape) (inode n dir : ℕ) → Avoids s.form inode n dir → dir ≢ inode

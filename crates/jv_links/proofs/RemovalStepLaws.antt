@@ -9,7 +9,7 @@ use Rattle.jv_model.specs.tree.Changes.{touched, take_entry, drop_node}
 use Rattle.jv_model.specs.tree.Removing.{may_go}
 use Rattle.jv_model.specs.tree.Tree.{Tree, EntryKey, entry_key, is_counted, is_directory, has_entries, node_at}
 use Rattle.jv_model.specs.tree.Walk.{is_trash}
-use Rattle.jv_changes.specs.Ready.{StandsAt, MayGo}
+use Rattle.jv_rows_drafts.specs.Ready.{StandsAt, MayGo}
 use Rattle.jv_volume.specs.Shape.{WholeShape, shape_of, is_dir, names}
 use Rattle.jv_volume.proofs.ChangeLaws.{change_node-apart, change_node-next_inode}
 use Rattle.jv_volume.proofs.RemovalLaws.{directory_may_go, leaf_empty}

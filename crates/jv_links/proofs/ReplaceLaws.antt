@@ -24,8 +24,8 @@ use Rattle.jv_outside.specs.Store.{Store, Commits}
 use Rattle.jv_rows.specs.declared.walking.Place.{Place}
 use Rattle.jv_rows.specs.Transactions.{Looks}
 use Rattle.jv_rows.proofs.TransactionLaws.{Past, past-start, past-as, past-looks, past-stops, fails-commit}
-use Rattle.jv_changes.specs.Drafting.{Drafting}
-use Rattle.jv_changes.proofs.DraftingLaws.{PastSteps, OfWhole, steps-start, steps-on, steps-made, steps-stop, steps-fail, steps-commit}
+use Rattle.jv_rows_drafts.specs.Drafting.{Drafting}
+use Rattle.jv_rows_drafts.proofs.DraftingLaws.{PastSteps, OfWhole, steps-start, steps-on, steps-made, steps-stop, steps-fail, steps-commit}
 use Rattle.jv_volume.specs.TypedRows.{typed}
 use Rattle.jv_volume.specs.TreeOf.{tree_of}
 use Rattle.jv_volume.proofs.EnteredShapeLaws.{new_below}

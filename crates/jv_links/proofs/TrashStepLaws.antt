@@ -11,7 +11,7 @@ use Rattle.jv_model.specs.tree.Changes.{put_entry}
 use Rattle.jv_model.specs.tree.HourNames.{hour_at}
 use Rattle.jv_model.specs.tree.Trash.{hour_inode, hour_place, with_hour, trash_place, trash_name}
 use Rattle.jv_model.specs.tree.Tree.{Tree, EntryKey, entry_key, in_trash, is_directory, link_count, links_fit, node_at, name_count}
-use Rattle.jv_changes.specs.Ready.{MayHaveHour, MayStandAt, IsThere, entry_put}
+use Rattle.jv_rows_drafts.specs.Ready.{MayHaveHour, MayStandAt, IsThere, entry_put}
 use Rattle.jv_links.specs.Losses.{IsToTrash}
 use Rattle.jv_volume.specs.Shape.{Form, Absent, Dir, Shape, Names, form_of, shape_of, is_there, is_dir, named, names, is_hour}
 use Rattle.jv_volume.specs.TypedRows.{is_entry_name}

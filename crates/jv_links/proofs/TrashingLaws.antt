@@ -15,10 +15,10 @@ use Rattle.jv_outside.specs.declared.batch.Change.{Change}
 use Rattle.jv_outside.specs.Store.{Store}
 use Rattle.jv_rows.specs.Transactions.{IsFor, Always}
 use Rattle.jv_volume.proofs.ChangeLaws.{change_node-sustained}
-use Rattle.jv_changes.specs.Drafting.{Drafting}
-use Rattle.jv_changes.specs.Ready.{MayHaveHour, MayStandAt, IsThere, entry_put, sustaining}
+use Rattle.jv_rows_drafts.specs.Drafting.{Drafting}
+use Rattle.jv_rows_drafts.specs.Ready.{MayHaveHour, MayStandAt, IsThere, entry_put, sustaining}
 use Rattle.jv_links.specs.Losses.{IsToTrash}
-use Rattle.jv_changes.proofs.DraftStepLaws.{steps-then, steps-ended, step-as, step-fails, drafting-exit}
+use Rattle.jv_rows_drafts.proofs.DraftStepLaws.{steps-then, steps-ended, step-as, step-fails, drafting-exit}
 use Rattle.jv_links.proofs.TrashEntryLaws.{trash_name-entry}
 use Rattle.jv_links.proofs.TrashStepLaws.{trash_hour, trash_stands, trash_enters, trash_there}
 

@@ -31,8 +31,8 @@ use Rattle.jv_volume.proofs.ChangeLaws.{change_node-sustained}
 use Rattle.jv_volume.proofs.RemovalLaws.{whole-remove_entry}
 use Rattle.jv_volume.proofs.ShapeMapLaws.{get-inserted, get-insert_apart, pair_of, counted_once}
 use Rattle.jv_volume.proofs.StoredLaws.{whole-shape}
-use Rattle.jv_changes.specs.Drafting.{Drafting}
-use Rattle.jv_changes.proofs.DraftingLaws.{PastSteps, OfWhole, steps-start, steps-on, steps-stop, steps-fail, steps-commit, transacts-error}
+use Rattle.jv_rows_drafts.specs.Drafting.{Drafting}
+use Rattle.jv_rows_drafts.proofs.DraftingLaws.{PastSteps, OfWhole, steps-start, steps-on, steps-stop, steps-fail, steps-commit, transacts-error}
 use Rattle.jv_links.specs.declared.fates.Fate.{Fate as Told}
 use Rattle.jv_links.specs.declared.removing.Removable.{Removable}
 use Rattle.jv_links.specs.Removable.{removable_at, removable_place, ComesToRemovable}

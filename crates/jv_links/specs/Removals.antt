@@ -11,7 +11,7 @@ use Rattle.jv_model.specs.tree.Caller.{Caller, Outcome, outcome}
 use Rattle.jv_model.specs.tree.Removing as model
 use Rattle.jv_outside.specs.declared.batch.Change.{Change}
 use Rattle.jv_outside.specs.Store.{Store}
-use Rattle.jv_changes.specs.Drafting.{Minds}
+use Rattle.jv_rows_drafts.specs.Drafting.{Minds}
 use Rattle.jv_volume.specs.TypedRows.{typed}
 use Rattle.jv_volume.specs.TreeOf.{tree_of}
 use Rattle.jv_volume.specs.Shape.{Regular, WholeShape, shape_of, is_there}

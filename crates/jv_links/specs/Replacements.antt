@@ -13,7 +13,7 @@ use Rattle.jv_model.specs.tree.Renaming.{is_inside, without_target}
 use Rattle.jv_model.specs.tree.Tree.{Tree, EntryKey, is_directory, has_entries}
 use Rattle.jv_outside.specs.declared.batch.Change.{Change}
 use Rattle.jv_outside.specs.Store.{Store}
-use Rattle.jv_changes.specs.Drafting.{Minds}
+use Rattle.jv_rows_drafts.specs.Drafting.{Minds}
 use Rattle.jv_volume.specs.Shape.{WholeShape, shape_of}
 use Rattle.jv_links.specs.declared.fates.Removed.{Removed}
 use Rattle.jv_links.specs.Removals.{HoldsFiles, KeepsAnew, kept_of}

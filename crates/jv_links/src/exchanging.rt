@@ -1,7 +1,7 @@
 //! Entries that change places.
 ghost use Rattle.std.specs.Prelude.{◌≢◌};
-ghost use Rattle.jv_changes.specs.Drafting.{Drafting};
-ghost use Rattle.jv_changes.specs.Ready.{MayStandAt};
+ghost use Rattle.jv_rows_drafts.specs.Drafting.{Drafting};
+ghost use Rattle.jv_rows_drafts.specs.Ready.{MayStandAt};
 ghost use Rattle.jv_links.specs.Exchanges.{MayExchange, entry_moved, exchanged_within};
 ghost use Rattle.jv_links.specs.Moves.{EndsStand, IsOverMove, Renames, Stands, place_of};
 ghost use Rattle.jv_model.specs.declared.basics.How.TheVariants.{Exchange};
@@ -12,10 +12,10 @@ ghost use Rattle.jv_rows.specs.Transactions.{IsFor};
 use crate::climbing::is_inside;
 use crate::ends::Ends;
 use crate::fates::Removed;
-use jv_changes::{move_under, put_entry, take_entry};
 use jv_model::{Fault, MAX_LINKS, Moment, RowFault, TxFault, Who};
 use jv_outside::Keeper;
 use jv_rows::{Draft, EntryPlace, Place};
+use jv_rows_drafts::{move_under, put_entry, take_entry};
 use std::alloc::Global;
 
 // Puts an entry of an inode that comes from elsewhere.

@@ -1,7 +1,7 @@
 //! What becomes of a file or a symlink that loses an entry.
 ghost use Rattle.std.specs.Prelude.{◌≡◌, Ok};
-ghost use Rattle.jv_changes.specs.Drafting.{Drafting};
-ghost use Rattle.jv_changes.specs.Ready.{IsThere};
+ghost use Rattle.jv_rows_drafts.specs.Drafting.{Drafting};
+ghost use Rattle.jv_rows_drafts.specs.Ready.{IsThere};
 ghost use Rattle.jv_links.specs.Losses.{IsToTrash};
 ghost use Rattle.jv_links.specs.Removals.{MayLose, SaysFate};
 ghost use Rattle.jv_model.specs.tree.Caller.{Caller};
@@ -10,12 +10,12 @@ ghost use Rattle.jv_model.specs.tree.Trash.{trashed};
 ghost use Rattle.jv_model.specs.tree.Tree.{EntryKey};
 ghost use Rattle.jv_rows.specs.Transactions.{IsFor};
 
-use jv_changes::{
-    change_status, drop_node, enter_hour, put_entry, sustain, take_entry, trash_name,
-};
 use jv_model::{Fault, Gone, Moment, Name, TRASH_ROOT, TxFault, Who};
 use jv_outside::Keeper;
 use jv_rows::{Draft, needed_setting};
+use jv_rows_drafts::{
+    change_status, drop_node, enter_hour, put_entry, sustain, take_entry, trash_name,
+};
 use std::alloc::Global;
 
 /// What becomes of a file or a symlink that loses an entry.

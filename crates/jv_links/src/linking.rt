@@ -8,10 +8,10 @@ ghost use Rattle.jv_model.specs.tree.Caller.{Caller};
 ghost use Rattle.jv_model.specs.tree.Making as model;
 ghost use Rattle.jv_rows.specs.Transactions.{IsFor, Looks, Transacts, Always};
 
-use jv_changes::{change_status, put_entry};
 use jv_model::{Fault, Path, RowFault, TRASH_ROOT, TxFault, Who};
 use jv_outside::Keeper;
 use jv_rows::{Draft, in_session, walk_to, walk_to_entry};
+use jv_rows_drafts::{change_status, put_entry};
 use jv_tree::new_place;
 use std::alloc::Global;
 

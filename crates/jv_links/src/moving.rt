@@ -1,5 +1,5 @@
 //! Entries that move to a free place.
-ghost use Rattle.jv_changes.specs.Drafting.{Drafting};
+ghost use Rattle.jv_rows_drafts.specs.Drafting.{Drafting};
 ghost use Rattle.jv_links.specs.Moves.{EndsStand, IsFreeMove, MayMove, Renames, moved_within, place_of};
 ghost use Rattle.jv_model.specs.declared.basics.How.{How};
 ghost use Rattle.jv_model.specs.tree.Caller.{Caller};
@@ -9,10 +9,10 @@ ghost use Rattle.jv_rows.specs.Transactions.{IsFor};
 use crate::climbing::is_inside;
 use crate::ends::Ends;
 use crate::fates::Removed;
-use jv_changes::{move_under, put_entry, take_entry};
 use jv_model::{Fault, MAX_LINKS, Moment, RowFault, TxFault, Who};
 use jv_outside::Keeper;
 use jv_rows::{Draft, EntryPlace};
+use jv_rows_drafts::{move_under, put_entry, take_entry};
 use std::alloc::Global;
 
 /// Moves an inode from its entry to a place where none is.

@@ -9,10 +9,10 @@ ghost use Rattle.jv_rows.specs.Transactions.{IsFor, Transacts, Always};
 use crate::emptiness::has_entries;
 use crate::ends::may_go;
 use crate::fates::{Removed, remove_entry};
-use jv_changes::{drop_node, take_entry};
 use jv_model::{Fault, Name, Path, RowFault, TxFault, Who};
 use jv_outside::Keeper;
 use jv_rows::{Draft, Place, child, in_session, walk_to_entry};
+use jv_rows_drafts::{drop_node, take_entry};
 use std::alloc::Global;
 
 /// An entry that may be removed, with the node that it names.

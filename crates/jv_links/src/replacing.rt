@@ -1,6 +1,6 @@
 //! Entries that are replaced by another one.
 ghost use Rattle.std.specs.Prelude.{◌≢◌, ◌==◌, Ok};
-ghost use Rattle.jv_changes.specs.Drafting.{Drafting};
+ghost use Rattle.jv_rows_drafts.specs.Drafting.{Drafting};
 ghost use Rattle.jv_links.specs.Moves.{EndsStand, IsOverMove, Renames, Stands, place_of};
 ghost use Rattle.jv_links.specs.Replacements.{MayClear, SaysCleared, may_replace as asked};
 ghost use Rattle.jv_model.specs.declared.basics.How.{How};
@@ -13,10 +13,10 @@ use crate::emptiness::has_entries;
 use crate::ends::Ends;
 use crate::fates::{Removed, remove_entry};
 use crate::moving::move_entry;
-use jv_changes::{drop_node, take_entry};
 use jv_model::{Fault, MAX_LINKS, RowFault, TxFault, Who};
 use jv_outside::Keeper;
 use jv_rows::{Draft, EntryPlace, Place};
+use jv_rows_drafts::{drop_node, take_entry};
 use std::alloc::Global;
 
 // Whether an inode may stand in place of another one. No row changes.

@@ -33,9 +33,9 @@ use Rattle.jv_volume.proofs.SessionShapeLaws.{whole-released, whole-without_sess
 use Rattle.jv_volume.proofs.ShapeMapLaws.{get-removed, get-remove_apart, pair_of}
 use Rattle.jv_volume.proofs.StoredLaws.{whole-shape}
 use Rattle.jv_volume.proofs.TreeOfLaws.{is_sustained-tree_of, get-sustained-none}
-use Rattle.jv_changes.specs.Drafting.{Drafting}
-use Rattle.jv_changes.specs.Ready.{MayGo}
-use Rattle.jv_changes.proofs.DraftingLaws.{PastSteps, steps-on, steps-stop, steps-fail, steps-commit}
+use Rattle.jv_rows_drafts.specs.Drafting.{Drafting}
+use Rattle.jv_rows_drafts.specs.Ready.{MayGo}
+use Rattle.jv_rows_drafts.proofs.DraftingLaws.{PastSteps, steps-on, steps-stop, steps-fail, steps-commit}
 use Rattle.jv_live.specs.Steps.{letting_go, ending_session, is_past, is_ahead, KeepsNone, FindsKept}
 use Rattle.jv_live.proofs.SessionLaws.{fresh-steps, not_made, steps-fell}
 use Rattle.jv_live.proofs.KeptLaws.{kept-may_go, pair-kept}

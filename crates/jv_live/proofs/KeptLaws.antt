@@ -45,9 +45,9 @@ use Rattle.jv_volume.proofs.SessionShapeLaws.{whole-released}
 use Rattle.jv_volume.proofs.ShapeMapLaws.{tied_here, is_there-form, uncounted}
 use Rattle.jv_volume.proofs.StoredLaws.{whole-shape, no_node}
 use Rattle.jv_volume.proofs.TreeOfLaws.{is_sustained-tree_of}
-use Rattle.jv_changes.specs.Drafting.{Drafting}
-use Rattle.jv_changes.specs.Ready.{MayGo}
-use Rattle.jv_changes.proofs.DraftingLaws.{PastSteps, steps-on, steps-stop, steps-commit}
+use Rattle.jv_rows_drafts.specs.Drafting.{Drafting}
+use Rattle.jv_rows_drafts.specs.Ready.{MayGo}
+use Rattle.jv_rows_drafts.proofs.DraftingLaws.{PastSteps, steps-on, steps-stop, steps-commit}
 use Rattle.jv_live.specs.Steps.{letting_go, HasPair}
 use Rattle.jv_live.proofs.FindingLaws.{finds}
 use Rattle.jv_live.proofs.SessionLaws.{fresh-steps, not_made, steps-fell}

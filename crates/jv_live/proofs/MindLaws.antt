@@ -26,8 +26,8 @@ use Rattle.jv_volume.proofs.StoredLaws.{found_counters}
 use Rattle.jv_volume.proofs.StoredStepLaws.{stored-put_counters}
 use Rattle.jv_volume.proofs.TableStepLaws.{stored-put_session, stored-drop_session, stored-drop_sustained}
 use Rattle.jv_volume.proofs.TreeOfLaws.{tree_of-put_session, tree_of-drop_session, tree_of-drop_sustained, tree_of-put_counters}
-use Rattle.jv_changes.specs.Drafting.{Minds, Drafting}
-use Rattle.jv_changes.proofs.DraftedLaws.{Drafted, are_rows-put, are_rows-drop, stays-none, drafting-made}
+use Rattle.jv_rows_drafts.specs.Drafting.{Minds, Drafting}
+use Rattle.jv_rows_drafts.proofs.DraftedLaws.{Drafted, are_rows-put, are_rows-drop, stays-none, drafting-made}
 use Rattle.jv_live.specs.Steps.{keeping_session, ending_session, letting_go}
 
 -- a change at a key, by what it does to rows

@@ -37,9 +37,9 @@ use Rattle.jv_volume.specs.Views.{row_in, counters_in, session_in}
 use Rattle.jv_volume.specs.Whole.{Whole}
 use Rattle.jv_volume.proofs.SessionShapeLaws.{whole-with_session, whole-kept_alive}
 use Rattle.jv_volume.proofs.StoredLaws.{whole-stored, whole-shape, found_counters, found_session, no_session}
-use Rattle.jv_changes.specs.Drafting.{Minds, AreRows, Drafting}
-use Rattle.jv_changes.proofs.DraftedLaws.{Drafted, are_rows-put}
-use Rattle.jv_changes.proofs.DraftingLaws.{PastSteps, minds-none, are_rows-none, steps-start, steps-on, steps-stop, steps-commit}
+use Rattle.jv_rows_drafts.specs.Drafting.{Minds, AreRows, Drafting}
+use Rattle.jv_rows_drafts.proofs.DraftedLaws.{Drafted, are_rows-put}
+use Rattle.jv_rows_drafts.proofs.DraftingLaws.{PastSteps, minds-none, are_rows-none, steps-start, steps-on, steps-stop, steps-commit}
 use Rattle.jv_live.specs.Steps.{keeping_session}
 use Rattle.jv_live.proofs.MindLaws.{minds-counted}
 

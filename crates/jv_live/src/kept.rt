@@ -8,10 +8,10 @@ ghost use Rattle.jv_rows.specs.Transactions.{IsFor, Looks, Transacts, Always};
 
 use crate::scanning::next_kept;
 use crate::steps::{end_session, let_go};
-use jv_changes::drop_node;
 use jv_model::{RowFault, Sequence, TxFault, Who};
 use jv_outside::Keeper;
 use jv_rows::{Draft, in_session, key_of_sustained, read_node};
+use jv_rows_drafts::drop_node;
 use std::alloc::Global;
 
 /// Looks whether the node of a file that the session keeps is there.

@@ -1,6 +1,6 @@
 //! Changes of a draft that sessions are made of: a session that comes or goes, and a file that a session lets go.
 ghost use Rattle.std.specs.Prelude.{Ok, IsTrue};
-ghost use Rattle.jv_changes.specs.Drafting.{Drafting};
+ghost use Rattle.jv_rows_drafts.specs.Drafting.{Drafting};
 ghost use Rattle.jv_live.specs.Steps.{keeping_session, ending_session, letting_go};
 ghost use Rattle.jv_model.specs.rows.RowGrammar.{is_session};
 ghost use Rattle.jv_outside.specs.Store.{Store};

@@ -7,8 +7,8 @@ use jv_outside::{
     Batch, Clock, Keeper, MemClock, MemKeeper, MemSink, MemSource, NeverClock, NeverKeeper,
     NeverSink, NeverSource, Sink, Source, write_whole,
 };
-use jv_samples::failing_at;
 use std::alloc::{AllocError, Global};
+use test_values::failing_at;
 
 /// Reads eight times, and returns the bytes and the number of errors.
 fn drained<S: Source>(alloc: Global, source: &mut S) -> Result<(Vec<u8>, u32), AllocError> {

@@ -10,8 +10,8 @@ use jv_outside::{
     Carrier, Depot, Load, MemCarrier, MemDepot, MemShelf, NeverCarrier, NeverDepot, NeverShelf,
     Object, ObjectList, Parcel, Shelf, Staged, StagedList,
 };
-use jv_samples::failing_at;
 use std::alloc::{AllocError, Global};
+use test_values::failing_at;
 
 /// Sends bytes and publishes what stands for them.
 fn carry<D: Depot>(

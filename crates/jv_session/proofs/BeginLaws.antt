@@ -3,7 +3,7 @@ use Rattle.std.proofs.Common.{◌≡◌, false, Option, None, Some, refl, ap, �
 use Rattle.jv_model.specs.client.ModelClient.{ModelClient, Doing}
 use Rattle.jv_model.specs.journal.Past.{ends_in_step}
 use Rattle.jv_model.specs.journal.Steps.{must_answer}
-use Rattle.jv_handles.specs.Held.{SamePlace}
+use Rattle.jv_client_handles.specs.Held.{SamePlace}
 use Rattle.jv_client.specs.declared.doing.Doing.{Doing as ClientDoing}
 use Rattle.jv_client.specs.declared.doing.Progress.{Progress}
 use Rattle.jv_client.specs.declared.doing.Progress.TheVariants.{Working, Reading}

@@ -11,7 +11,7 @@ use Rattle.jv_model.proofs.FiniteMapLaws.{get-insert}
 use Rattle.jv_model.proofs.TestLaws.{tie_is}
 use Rattle.jv_model.specs.blocks.BlockNames.{IsBlock, name_in}
 use Rattle.jv_outside.specs.Objects.{ObjectMap, with_object}
-use Rattle.jv_contents.specs.Flights.{flight_block, flight_bytes}
+use Rattle.jv_volume_bytes.specs.Flights.{flight_block, flight_bytes}
 use Rattle.jv_yard.specs.YardValue.{YardValue}
 use Rattle.jv_yard.proofs.ContentsLaws.{put-objects}
 use Rattle.jv_client.specs.declared.made.Made.{Made}

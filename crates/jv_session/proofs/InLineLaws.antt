@@ -21,13 +21,13 @@ use Rattle.jv_model.specs.journal.Past.{Past, Setup, Due, NoMore, OneStep, StepM
 use Rattle.jv_model.specs.script.ReplyText.{printed_line}
 use Rattle.jv_model.specs.journal.Legal.{may_stop}
 use Rattle.jv_model.specs.journal.Stepping.{stepped_by, entry_of}
-use Rattle.jv_laws.specs.OnLines.{IsNow}
-use Rattle.jv_laws.proofs.LineEntryLaws.{leads_none}
-use Rattle.jv_laws.proofs.EndedLineLaws.{is_over_at, may_be_cut_at}
-use Rattle.jv_laws.proofs.LineStepLaws.{RunsClient, OneStepOnly, StepsOn, step_ran, others_stepped}
+use Rattle.jv_model_laws.specs.OnLines.{IsNow}
+use Rattle.jv_model_laws.proofs.LineEntryLaws.{leads_none}
+use Rattle.jv_model_laws.proofs.EndedLineLaws.{is_over_at, may_be_cut_at}
+use Rattle.jv_model_laws.proofs.LineStepLaws.{RunsClient, OneStepOnly, StepsOn, step_ran, others_stepped}
 use Rattle.jv_outside.specs.Ticks.{Ticks, Passes}
-use Rattle.jv_shared.specs.Shared.{Known, Shared}
-use Rattle.jv_requests.specs.Request.{Request}
+use Rattle.jv_client_shared.specs.Shared.{Known, Shared}
+use Rattle.jv_client_requests.specs.Request.{Request}
 use Rattle.jv_client.specs.ClientValue.{ClientValue}
 use Rattle.jv_client.specs.Held.{IsClient, Holds, in_flight}
 use Rattle.jv_client.specs.Makes.{StepsTo, entries_of, kinds_of}

@@ -11,7 +11,7 @@ use Rattle.jv_model.specs.declared.op.Op.{Op}
 use Rattle.jv_model.specs.client.ModelClient.{ModelClient}
 use Rattle.jv_model.specs.client.Submission.{submission, submitted}
 use Rattle.jv_yard.specs.YardValue.{YardValue}
-use Rattle.jv_shared.specs.Shared.{Known, Shared}
+use Rattle.jv_client_shared.specs.Shared.{Known, Shared}
 use Rattle.jv_client.specs.Built.{is_built_op}
 use Rattle.jv_client.specs.ClientValue.{ClientValue, crashed}
 use Rattle.jv_client.specs.Held.{IsClient, in_flight, refused_with}

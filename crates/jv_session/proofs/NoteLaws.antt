@@ -19,12 +19,12 @@ use Rattle.jv_model.specs.client.ModelClient.{Doing, ModelClient, unmounted}
 use Rattle.jv_model.specs.journal.State.{State, effect, of_doing}
 use Rattle.jv_model.specs.journal.Past.{Past, Setup, NoMore, CrashEntry, TickEntry, Refusal}
 use Rattle.jv_model.specs.journal.Stepping.{entry_of}
-use Rattle.jv_laws.specs.OnLines.{IsNow, Leads}
-use Rattle.jv_laws.proofs.JournalGrowthLaws.{advanced, begun_to-begun}
-use Rattle.jv_laws.proofs.EndedLineLaws.{is_over_at, may_be_cut_at}
-use Rattle.jv_laws.proofs.NotedLineLaws.{Notes as NotesEntry, refused_ran, crash_ran, tick_ran}
+use Rattle.jv_model_laws.specs.OnLines.{IsNow, Leads}
+use Rattle.jv_model_laws.proofs.JournalGrowthLaws.{advanced, begun_to-begun}
+use Rattle.jv_model_laws.proofs.EndedLineLaws.{is_over_at, may_be_cut_at}
+use Rattle.jv_model_laws.proofs.NotedLineLaws.{Notes as NotesEntry, refused_ran, crash_ran, tick_ran}
 use Rattle.jv_outside.specs.Ticks.{Ticks}
-use Rattle.jv_shared.specs.Shared.{Known, Shared}
+use Rattle.jv_client_shared.specs.Shared.{Known, Shared}
 use Rattle.jv_client.specs.ClientValue.{ClientValue, crashed, fresh_client}
 use Rattle.jv_client.specs.Held.{IsClient, Holds}
 use Rattle.jv_client.specs.Makes.{IsCalm, is_failure_entry}

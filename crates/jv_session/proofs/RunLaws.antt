@@ -13,14 +13,14 @@ use Rattle.jv_model.specs.declared.setting.Setting.{Setting}
 use Rattle.jv_model.specs.journal.Past.{Past, Setup, NoMore, ToAnswer}
 use Rattle.jv_model.specs.journal.Stepping.{entry_of}
 use Rattle.jv_model.specs.script.ReplyText.{printed_line}
-use Rattle.jv_laws.proofs.LineEntryLaws.{leads_more, same_line-then}
-use Rattle.jv_laws.proofs.EndedLineLaws.{is_over_at, may_be_cut_at}
-use Rattle.jv_laws.proofs.LineStepLaws.{ToItsEnd}
+use Rattle.jv_model_laws.proofs.LineEntryLaws.{leads_more, same_line-then}
+use Rattle.jv_model_laws.proofs.EndedLineLaws.{is_over_at, may_be_cut_at}
+use Rattle.jv_model_laws.proofs.LineStepLaws.{ToItsEnd}
 use Rattle.jv_outside.specs.Causes.{Rose}
 use Rattle.jv_outside.specs.Ticks.{Ticks, Passes}
 use Rattle.jv_outside.proofs.TicksLaws.{Passes-trans}
-use Rattle.jv_contents.proofs.BlockLaws.{grows-then}
-use Rattle.jv_shared.specs.Shared.{depot_in}
+use Rattle.jv_volume_bytes.proofs.BlockLaws.{grows-then}
+use Rattle.jv_client_shared.specs.Shared.{depot_in}
 use Rattle.jv_client.specs.ClientValue.{ClientValue}
 use Rattle.jv_client.specs.UnderWay.{steps_left}
 use Rattle.jv_client.proofs.StepOfLaws.{falls-of}

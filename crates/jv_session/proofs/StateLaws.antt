@@ -8,15 +8,15 @@ use Rattle.jv_model.specs.journal.Steps.{Start}
 use Rattle.jv_model.proofs.ClientsLaws.{own_client, other_client}
 use Rattle.jv_volume.specs.Holding.{Stays}
 use Rattle.jv_volume.specs.TypedRows.{Rows}
-use Rattle.jv_contents.specs.Flights.{Flight}
-use Rattle.jv_shared.specs.Flying.{Flies}
-use Rattle.jv_shared.specs.Keeping.{HoldsSame, KeepsShared}
-use Rattle.jv_shared.specs.Shared.{HasStore, Known, Shared, rows_in}
-use Rattle.jv_shared.proofs.KeepingLaws.{stays-none}
-use Rattle.jv_shared.proofs.SameLaws.{same-stays, same-store}
-use Rattle.jv_requests.specs.Request.{IsApart, IsWithin}
-use Rattle.jv_requests.proofs.FlightLaws.{apart-new, numbered}
-use Rattle.jv_requests.proofs.StillLaws.{stays-same}
+use Rattle.jv_volume_bytes.specs.Flights.{Flight}
+use Rattle.jv_client_shared.specs.Flying.{Flies}
+use Rattle.jv_client_shared.specs.Keeping.{HoldsSame, KeepsShared}
+use Rattle.jv_client_shared.specs.Shared.{HasStore, Known, Shared, rows_in}
+use Rattle.jv_client_shared.proofs.KeepingLaws.{stays-none}
+use Rattle.jv_client_shared.proofs.SameLaws.{same-stays, same-store}
+use Rattle.jv_client_requests.specs.Request.{IsApart, IsWithin}
+use Rattle.jv_client_requests.proofs.FlightLaws.{apart-new, numbered}
+use Rattle.jv_client_requests.proofs.StillLaws.{stays-same}
 use Rattle.jv_client.specs.ClientValue.{ClientValue}
 use Rattle.jv_client.specs.Held.{IsClient, Holds, IsOnWay, flight_of, in_flight, number_of}
 use Rattle.jv_client.proofs.HeldLaws.{holds-later}

@@ -18,8 +18,8 @@ use Rattle.jv_outside.specs.Ticks.{Passes}
 use Rattle.jv_outside.proofs.TicksLaws.{Passes-zero, Passes-trans}
 use Rattle.jv_rows.specs.Transactions.{IsBad}
 use Rattle.jv_volume.specs.TypedRows.{typed}
-use Rattle.jv_shared.specs.Lengths.{IsLength}
-use Rattle.jv_shared.specs.Shared.{Shared}
+use Rattle.jv_client_shared.specs.Lengths.{IsLength}
+use Rattle.jv_client_shared.specs.Shared.{Shared}
 use Rattle.jv_client.specs.ClientValue.{ClientValue}
 use Rattle.jv_client.specs.YardUse.{YardUse}
 use Rattle.jv_client.specs.declared.made.Made.{Made}

@@ -1,7 +1,7 @@
 -- What lines leave while each block goes to the depot at once and none is removed. It is the field
 -- `direct` of the contracts that say it, as `KeepsShelf` is, and stands beside what holds for good.
-use Rattle.jv_contents.specs.Blocks.{Grows}
-use Rattle.jv_shared.specs.Shared.{Shared, depot_in}
+use Rattle.jv_volume_bytes.specs.Blocks.{Grows}
+use Rattle.jv_client_shared.specs.Shared.{Shared, depot_in}
 
 -- each block that the depot had it has later, with its bytes
 abbrev pub BlocksStay : Shared → Shared → Type 0

@@ -14,14 +14,14 @@ use Rattle.jv_model.specs.client.Submission.{submission, submitted}
 use Rattle.jv_model.specs.journal.Past.{Past, ToAnswer, OneStep, Refusal, CrashEntry, TickEntry, is_over}
 use Rattle.jv_model.specs.journal.Legal.{may_stop}
 use Rattle.jv_model.specs.journal.Stepping.{entry_of}
-use Rattle.jv_laws.specs.OnLines.{Leads, SameLine}
+use Rattle.jv_model_laws.specs.OnLines.{Leads, SameLine}
 use Rattle.jv_outside.specs.Causes.{Rose}
 use Rattle.jv_outside.specs.Ticks.{Ticks, HasAnswered}
 use Rattle.jv_client.specs.ClientValue.{ClientValue}
 use Rattle.jv_model.specs.declared.row.RowKey.{RowKey}
 use Rattle.jv_rows.specs.Transactions.{IsBad}
 use Rattle.jv_volume.specs.TypedRows.{typed}
-use Rattle.jv_shared.specs.Shared.{Known, Shared}
+use Rattle.jv_client_shared.specs.Shared.{Known, Shared}
 use Rattle.jv_client.specs.Held.{IsClient, in_flight}
 use Rattle.jv_client.specs.Makes.{IsCalm, Steps}
 use Rattle.jv_session.specs.declared.line_end.LineEnd.{LineEnd}

@@ -11,7 +11,7 @@ use Rattle.jv_outside.specs.Ticks.{Ticks, Passes}
 use Rattle.jv_rows.specs.Transactions.{IsBad}
 use Rattle.jv_volume.specs.TypedRows.{typed}
 use Rattle.jv_yard.specs.YardValue.{YardValue}
-use Rattle.jv_shared.specs.Shared.{Shared}
+use Rattle.jv_client_shared.specs.Shared.{Shared}
 use Rattle.jv_client.specs.Direct.{KeepsShelf}
 use Rattle.jv_client.specs.Makes.{faults_of, is_failure_entry}
 use Rattle.jv_session.specs.declared.line_end.LineEnd.{LineEnd}

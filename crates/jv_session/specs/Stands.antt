@@ -6,11 +6,11 @@ use Rattle.jv_model.specs.declared.setting.Setting.{Setting}
 use Rattle.jv_model.specs.journal.State.{State}
 use Rattle.jv_model.specs.journal.Steps.{Start}
 use Rattle.jv_model.specs.journal.Past.{Past, is_over}
-use Rattle.jv_laws.specs.OnLines.{IsAlone}
+use Rattle.jv_model_laws.specs.OnLines.{IsAlone}
 use Rattle.jv_yard.specs.YardValue.{YardValue}
-use Rattle.jv_shared.specs.Lengths.{IsLength}
-use Rattle.jv_shared.specs.Shared.{HasStore, Known, Shared, rows_in}
-use Rattle.jv_requests.specs.Request.{IsWithin}
+use Rattle.jv_client_shared.specs.Lengths.{IsLength}
+use Rattle.jv_client_shared.specs.Shared.{HasStore, Known, Shared, rows_in}
+use Rattle.jv_client_requests.specs.Request.{IsWithin}
 use Rattle.jv_client.specs.ClientValue.{ClientValue, fresh_client}
 use Rattle.jv_client.specs.Held.{IsClient, Holds, in_flight}
 use Rattle.jv_client.specs.UnderWay.{IsReady}

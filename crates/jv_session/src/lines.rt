@@ -3,7 +3,7 @@ ghost use Rattle.std.specs.Prelude.{◌≡◌, ◌≢◌, ◌<◌, ◌≤◌, Is
 ghost use Rattle.jv_model.specs.declared.op.Line.TheVariants as line;
 ghost use Rattle.jv_model.specs.declared.act.ActKind.TheVariants.{Crashed};
 ghost use Rattle.jv_model.specs.declared.act.Told.TheVariants.{Refused};
-ghost use Rattle.jv_shared.specs.Shared.{Shared};
+ghost use Rattle.jv_client_shared.specs.Shared.{Shared};
 ghost use Rattle.jv_client.specs.Built.{is_built_op};
 ghost use Rattle.jv_client.specs.Makes.{IsCalm};
 ghost use Rattle.jv_client.specs.Shared.{shared};

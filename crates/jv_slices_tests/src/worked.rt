@@ -2,10 +2,10 @@ ghost use Rattle.std.specs.Prelude.{All, IfOk};
 ghost use Rattle.jv_model.specs.blocks.Slices.{IsRecord};
 
 use jv_model::{BlockId, List, Piece, Rec, Setting, Spot};
-use jv_samples::setting;
 use jv_slices::{block_len, block_name, blocks_of, byte_at, needs, parse_block_name, plan};
 use std::alloc::{AllocError, Global};
 use std::test::Fail;
+use test_values::setting;
 
 fn setting_with(alloc: Global, hash: u8) -> Result<Setting, AllocError> {
     let mut setting = setting(alloc)?;

@@ -15,7 +15,7 @@ use Rattle.jv_model.proofs.TestLaws.{tie_is, of_known}
 use Rattle.jv_outside.specs.declared.parcel.Parcel.{Parcel}
 use Rattle.jv_outside.specs.Objects.{ObjectMap, bytes_at, with_object}
 use Rattle.jv_outside.specs.Parcels.{StandsFor}
-use Rattle.jv_contents.specs.Blocks.{Grows}
+use Rattle.jv_volume_bytes.specs.Blocks.{Grows}
 use Rattle.jv_slices.specs.Laws.{HasWidths}
 use Rattle.jv_slices.proofs.NameLaws.{names_are_distinct}
 use Rattle.jv_slices.proofs.NeedLaws.{equal_if_same, same_self}

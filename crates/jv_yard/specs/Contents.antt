@@ -4,7 +4,7 @@ use Rattle.jv_model.specs.declared.setting.Setting.{Setting}
 use Rattle.jv_model.specs.blocks.BlockNames.{name_in}
 pub use Rattle.jv_model.specs.blocks.BlockNames.{is_block}
 use Rattle.jv_outside.specs.Objects.{ObjectMap, bytes_at}
-use Rattle.jv_contents.specs.Blocks.{Blocks}
+use Rattle.jv_volume_bytes.specs.Blocks.{Blocks}
 
 -- the blocks of the volume among objects: names are spelled for other numbers too, which no block
 -- has

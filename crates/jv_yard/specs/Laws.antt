@@ -4,7 +4,7 @@ use Rattle.jv_model.specs.declared.setting.Setting.{Setting}
 use Rattle.jv_model.specs.declared.slice.BlockId.{BlockId}
 use Rattle.jv_model.specs.blocks.BlockNames.{IsBlock, name_in}
 use Rattle.jv_outside.specs.Objects.{ObjectMap, with_object}
-use Rattle.jv_contents.specs.Blocks.{Grows}
+use Rattle.jv_volume_bytes.specs.Blocks.{Grows}
 use Rattle.jv_yard.specs.Contents.{blocks_in}
 use Rattle.jv_yard.specs.Later.{Later}
 use Rattle.jv_yard.specs.YardValue.{YardValue}

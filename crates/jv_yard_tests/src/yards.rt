@@ -6,11 +6,11 @@ use jv_model::{BlockId, ClientId, Moment, Name, Sequence, Setting, copied};
 use jv_outside::{
     Depot, Load, MemDepot, MemShelf, Object, ObjectList, Parcel, Shelf, Staged, StagedList,
 };
-use jv_samples::{failing_at, setting};
 use jv_slices::block_name;
 use jv_yard::{Alone, MAIN, Note, What, Yard, YardDoor, YardFault};
 use std::alloc::{AllocError, Global};
 use std::test::Fail;
+use test_values::{failing_at, setting};
 
 /// The number of the slice, and the length of its blocks.
 const ID: u64 = 7;

@@ -97,8 +97,8 @@
 
 use jv_cmd::{Finish, World, run};
 use jv_outside::{Carrier, Clock, Depot, Keeper, MemCarrier, NumberList, Shelf, Sink, Source};
-use jv_scenes::{BadScenes, Scene, read_scenes};
-use jv_theatre::{MemParts, Parts, Player, Stores, Streams, Theatre, push_scene};
+use scenes_runs::{MemParts, Parts, Player, Stores, Streams, Theatre, push_scene};
+use scenes_text::{BadScenes, Scene, read_scenes};
 use std::alloc::{AllocError, Global};
 use std::process::ExitCode;
 use std::{io, mem};

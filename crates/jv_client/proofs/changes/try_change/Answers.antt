@@ -1,7 +1,7 @@
 -- A truncate or a copy of the files of the operation's handles is tried.
 use Rattle.std.proofs.Common.{sym, ap, subst, ◌∙◌}
 use Rattle.jv_model.specs.tree.Trash.{due_after}
-use Rattle.jv_handles.specs.Handles.{inode_here}
+use Rattle.jv_client_handles.specs.Handles.{inode_here}
 use Rattle.jv_client.specs.Changing.{TriesChange, copied_to, cut_to}
 use Rattle.jv_client.proofs.changes.try_change.Goals as goal
 use Rattle.jv_model.specs.Optional.{mapped}

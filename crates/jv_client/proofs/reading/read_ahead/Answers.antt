@@ -1,7 +1,7 @@
 -- What is needed isn't in the cache, and what was read is what the views show.
 use Rattle.std.proofs.Common.{subst}
-use Rattle.jv_fetching.specs.Ahead.{blocks_ahead}
-use Rattle.jv_fetching.specs.Calls.{Asks}
+use Rattle.jv_client_reads.specs.Ahead.{blocks_ahead}
+use Rattle.jv_client_reads.specs.Calls.{Asks}
 use Rattle.jv_client.proofs.ReadingLaws.{asks-all, asks-lacks, reads-all}
 use Rattle.jv_client.proofs.LooksLaws.{err-looks, none-ahead}
 use Rattle.jv_client.proofs.reading.read_ahead.Goals as goal

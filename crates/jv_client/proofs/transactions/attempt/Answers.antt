@@ -3,7 +3,7 @@ use Rattle.std.proofs.Common.{refl, sym, ap, ◌∙◌}
 use Rattle.std.specs.Prelude.{unwrap_or}
 use Rattle.jv_model.specs.client.ModelClient.{free_handle}
 use Rattle.jv_model.specs.client.Profile.{handle_of}
-use Rattle.jv_handles.specs.Handles.{held_here, inode_here}
+use Rattle.jv_client_handles.specs.Handles.{held_here, inode_here}
 use Rattle.jv_client.proofs.TriedLaws.{tried_metadata, tried_mount}
 use Rattle.jv_client.proofs.transactions.attempt.Goals as goal
 

@@ -3,7 +3,7 @@ use Rattle.jv_cmd.specs.Commands.{NotOpened}
 use Rattle.jv_session.proofs.UsesLaws.{no_failures}
 use Rattle.jv_cmd.proofs.CommandLaws.{CountsFaults-volume, RunsSession-volume}
 use Rattle.jv_cmd.proofs.command.run_session.Goals as goal
-use Rattle.jv_shared.proofs.SettingLaws.{allowed_length}
+use Rattle.jv_client_shared.proofs.SettingLaws.{allowed_length}
 
 pub run_volume-requires-clause-block : goal.run_volume-requires-clause-block
 run_volume-requires-clause-block g c = allowed_length c.in-Ok.setting c.in-Ok.ensures.allowed

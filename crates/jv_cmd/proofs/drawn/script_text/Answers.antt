@@ -1,6 +1,6 @@
 use Rattle.std.proofs.Common.{◌∙◌}
 use Rattle.jv_model.proofs.TestLaws.{none_unless}
-use Rattle.jv_generator.specs.Script.{script}
+use Rattle.jv_script_drawn.specs.Script.{script}
 use Rattle.jv_cmd.proofs.DrawnLaws.{next_line, text_more, text_whole}
 use Rattle.jv_cmd.proofs.drawn.script_text.Goals as goal
 

@@ -1,7 +1,7 @@
 use Rattle.std.proofs.Common.{◌≡◌, ◌≤◌, ◌-◌, take}
 use Rattle.std.specs.List.{flat_map}
-use Rattle.jv_generator.specs.declared.accesses.TheConstants.{LINES}
-use Rattle.jv_generator.specs.Script.{script}
+use Rattle.jv_script_drawn.specs.declared.accesses.TheConstants.{LINES}
+use Rattle.jv_script_drawn.specs.Script.{script}
 use Rattle.jv_cmd.specs.Generating.{line_text}
 use Rattle.jv_cmd.proofs.drawn.script_text.Given as goal
 

@@ -1,6 +1,6 @@
 use Rattle.std.proofs.Common.{◌∙◌, ap, sym}
 use Rattle.jv_model.proofs.TestLaws.{none_unless}
-use Rattle.jv_generator.specs.Summary.{TotalsValue}
+use Rattle.jv_script_drawn.specs.Summary.{TotalsValue}
 use Rattle.jv_cmd.proofs.DrawnLaws.{next_line, totals_answered, totals_from, totals_more, totals_whole}
 use Rattle.jv_cmd.proofs.drawn.totals.Goals as goal
 

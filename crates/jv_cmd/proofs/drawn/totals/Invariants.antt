@@ -1,7 +1,7 @@
 use Rattle.std.proofs.Common.{◌≡◌, ◌≤◌, ◌-◌}
-use Rattle.jv_generator.specs.declared.accesses.TheConstants.{LINES}
-use Rattle.jv_generator.specs.Script.{script}
-use Rattle.jv_generator.specs.Summary.{totals_of}
+use Rattle.jv_script_drawn.specs.declared.accesses.TheConstants.{LINES}
+use Rattle.jv_script_drawn.specs.Script.{script}
+use Rattle.jv_script_drawn.specs.Summary.{totals_of}
 use Rattle.jv_cmd.specs.Generating.{replies_said}
 use Rattle.jv_cmd.specs.Texts.{texts_of}
 use Rattle.jv_cmd.proofs.DrawnLaws.{totals_from}

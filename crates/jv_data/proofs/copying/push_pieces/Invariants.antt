@@ -1,5 +1,5 @@
 use Rattle.std.proofs.Common.{◌≡◌, ◌+◌, ◌++◌, take}
-use Rattle.jv_contents.specs.Fills.{records_of_plan}
+use Rattle.jv_volume_bytes.specs.Fills.{records_of_plan}
 use Rattle.jv_data.specs.Copying.{pieces_len}
 use Rattle.jv_data.proofs.copying.push_pieces.Given as goal
 

@@ -12,7 +12,7 @@ use Rattle.jv_model.specs.rows.RowPlaces.{node_key}
 use Rattle.jv_rows.specs.Drafts.{Sees}
 use Rattle.jv_links.specs.Removals.{MayLose}
 use Rattle.jv_links.specs.declared.fates.Fate.TheVariants.{Trashed, Dropped, Sustained}
-use Rattle.jv_changes.proofs.DraftStepLaws.{drafting-exit}
+use Rattle.jv_rows_drafts.proofs.DraftStepLaws.{drafting-exit}
 use Rattle.jv_links.proofs.FateLaws.{fate-none, fate-no_setting, fate-made, says-trashed, says-sustained, says-dropped}
 use Rattle.jv_links.proofs.fates.fate_of.Goals as goal
 use Rattle.jv_links.proofs.fates.fate_of.Goals.{else-setting-gt0-via-then-setting-gt0+else-dir-lt-TRASH_ROOT, else-setting-gt0-via-else-setting-gt0}

@@ -1,6 +1,6 @@
 use Rattle.std.proofs.Common.{◌+◌, sym, ◌∙◌}
 use Rattle.std.proofs.lemmas.Result.{err_from_is_err_and}
-use Rattle.jv_changes.proofs.DraftedLaws.{was_drafted}
+use Rattle.jv_rows_drafts.proofs.DraftedLaws.{was_drafted}
 use Rattle.jv_live.proofs.SessionLaws.{mount-uncounted, mount-full, mount-fell, mount-commits}
 use Rattle.jv_live.proofs.sessions.mount.Goals as goal
 

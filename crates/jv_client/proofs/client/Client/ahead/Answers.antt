@@ -2,7 +2,7 @@
 use Rattle.std.proofs.Common.{◌≡◌, ◌∙◌, List, Option, Some, ap, subst, sym}
 use Rattle.std.specs.Option.{option_copied}
 use Rattle.jv_model.specs.client.ModelClient.{file_of}
-use Rattle.jv_handles.specs.declared.handle.Handle.{Handle}
+use Rattle.jv_client_handles.specs.declared.handle.Handle.{Handle}
 use Rattle.jv_client.specs.ClientValue.{ClientValue}
 use Rattle.jv_client.specs.Reading.{OnlyLooksUp, came}
 use Rattle.jv_client.proofs.LimitsLaws.{limits-looked}

@@ -6,7 +6,7 @@ use Rattle.jv_client.specs.ClientValue.{ClientValue}
 use Rattle.jv_client.specs.Changing.{TriesChange}
 use Rattle.jv_client.specs.Shared.{shared}
 use Rattle.jv_client.specs.Ending.{told_here}
-use Rattle.jv_steps.specs.Stages.{changes_files}
+use Rattle.jv_model_steps.specs.Stages.{changes_files}
 use Rattle.jv_client.specs.UnderWay.{ClosesOpen}
 use Rattle.jv_client.proofs.ChangingLaws.{blind}
 use Rattle.jv_client.proofs.ChangedLaws.{change-made, change-unmade, closes-blind, may-try}

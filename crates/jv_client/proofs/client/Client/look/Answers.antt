@@ -3,7 +3,7 @@ use Rattle.std.proofs.Common.{Ok, Err, sym, ap, subst, ◌∙◌, ◌≡◌, len
 use Rattle.std.proofs.lemmas.List.{with_items_is}
 use Rattle.jv_data.specs.declared.looking.View.{View as Looked}
 use Rattle.jv_data.specs.Records.{LooksAt}
-use Rattle.jv_handles.specs.Handles.{inode_here}
+use Rattle.jv_client_handles.specs.Handles.{inode_here}
 use Rattle.jv_client.specs.ClientValue.{ClientValue}
 use Rattle.jv_client.specs.Shared.{shared}
 use Rattle.jv_client.specs.Reading.{came, fetch_in}

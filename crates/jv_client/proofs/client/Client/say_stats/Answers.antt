@@ -3,7 +3,7 @@ use Rattle.std.proofs.Common.{length, ap, subst, refl, ◌∙◌}
 use Rattle.std.specs.Prelude.{IfSome, IsTrue}
 use Rattle.jv_model.specs.declared.act.Told.TheVariants.{Fine}
 use Rattle.jv_model.specs.declared.op.Reply.TheVariants.{CacheStats}
-use Rattle.jv_handles.proofs.TableLaws.{the_some}
+use Rattle.jv_client_handles.proofs.TableLaws.{the_some}
 use Rattle.jv_client.specs.declared.doing.Doing.{Doing}
 use Rattle.jv_client.specs.declared.made.Made.TheVariants.{Answer}
 use Rattle.jv_client.specs.ClientValue.{ClientValue}

@@ -6,8 +6,8 @@ use Rattle.jv_model.specs.declared.act.ActKind.TheVariants.{Meta}
 use Rattle.jv_model.specs.declared.act.Told.{Told}
 use Rattle.jv_model.specs.journal.State.{gift_of}
 use Rattle.jv_model.specs.journal.Steps.{entry_of_gift, told_of}
-use Rattle.jv_shared.specs.Shared.{Shared}
-use Rattle.jv_handles.proofs.TableLaws.{the_some}
+use Rattle.jv_client_shared.specs.Shared.{Shared}
+use Rattle.jv_client_handles.proofs.TableLaws.{the_some}
 use Rattle.jv_client.specs.declared.doing.Doing.{Doing}
 use Rattle.jv_client.specs.declared.made.Made.TheVariants.{Both}
 use Rattle.jv_client.specs.ClientValue.{ClientValue}

@@ -1,0 +1,142 @@
+-- What is known at the start: the blocks of the depot and of all clients that staged some, and the sizes of slices with rows.
+use Rattle.std.proofs.Common.{◌≡◌, ℕ, ◌<◌, Bool, true, false, inl, inr, List, Option, None, Some, refl, sym, ap, ◌∙◌}
+use Rattle.std.specs.Prelude.{◌&&◌, if◌then◌else◌, is_some}
+use Rattle.std.specs.Ordering.{eq_by_cmp}
+use Rattle.std.specs.Cmp.{eq_by_cmp_equiv}
+use Rattle.std.proofs.lemmas.Bool.{and_parts}
+use Rattle.jv_model.specs.FiniteMap.{first_where, text_key}
+use Rattle.jv_model.proofs.FiniteMapLaws.{IsFound, first_where-found}
+use Rattle.jv_model.specs.blocks.BlockNames.{name_in}
+use Rattle.jv_outside.specs.Blocks.{staged_at, staged_key}
+use Rattle.jv_outside.specs.Objects.{bytes_at}
+use Rattle.jv_volume.specs.TypedRows.{typed}
+use Rattle.jv_volume.specs.Slices.{next_slice}
+use Rattle.jv_volume.proofs.ShapeMapLaws.{first_where-none, tied_same}
+use Rattle.jv_volume_bytes.specs.Blocks.{AreBelow, Blocks, Grows, known_by}
+use Rattle.jv_volume_bytes.specs.Bytes.{tree_with}
+use Rattle.jv_yard.specs.Contents.{blocks_in, is_block}
+use Rattle.jv_yard.specs.Later.{IsStagedWith, contents_of}
+use Rattle.jv_yard.specs.Staging.{staged_since}
+use Rattle.jv_client_shared.specs.Shared.{HasStore, InDepot, Known, Shared, staged_in}
+use Rattle.jv_client_shared.specs.Fresh.{IsFresh}
+use Rattle.jv_client_shared.proofs.RowStepLaws.{sized-slices}
+
+module _ (v : Shared) (s : IsFresh v) where
+  -- a client has staged it under this name
+  abbrev is_copy : List ℕ → ℕ × List ℕ → List ℕ → Bool
+  is_copy name at bytes = eq_by_cmp text_key.cmp at.1 name && is_some (staged_since at.0 at.1 v.yard.staged)
+
+  abbrev bytes_found : Option ((ℕ × List ℕ) × List ℕ) → Option (List ℕ)
+  bytes_found None = None
+  bytes_found (Some found) = Some found.1
+
+  abbrev either : Option (List ℕ) → Option (List ℕ) → Option (List ℕ)
+  either None other = other
+  either (Some bytes) other = Some bytes
+
+  -- the depot's, else the first that is staged
+  abbrev copy : List ℕ → Option (List ℕ)
+  copy name = either (bytes_at name s.objects) (bytes_found (first_where (is_copy name) s.staged))
+
+  abbrev all_blocks : Blocks
+  all_blocks b = (if is_block v.yard.setting.block b then copy (name_in v.yard.setting b) else None)
+
+  staged_copy : (name : List ℕ) (found : (ℕ × List ℕ) × List ℕ) → first_where (is_copy name) s.staged ≡ Some found
+      → (staged_at found.0.0 name s.staged ≡ Some found.1) × (is_some (staged_since found.0.0 name v.yard.staged) ≡ true)
+  staged_copy name found first =
+      let is : IsFound (is_copy name) s.staged found.0 found.1 = first_where-found staged_key (is_copy name) s.staged found first in
+      let passes = and_parts (eq_by_cmp text_key.cmp found.0.1 name) (is_some (staged_since found.0.0 found.0.1 v.yard.staged)) is.passes in
+      let named : found.0.1 ≡ name = tied_same text_key name found.0.1 passes.0 in (
+        ap (λ n. staged_at found.0.0 n s.staged) (sym named) ∙ is.there,
+        ap (λ n. is_some (staged_since found.0.0 n v.yard.staged)) (sym named) ∙ passes.1,
+      )
+
+  -- what the depot has is that
+  depot_copies : Grows (blocks_in v.yard.setting s.objects) all_blocks
+  depot_copies b bytes there = by_test (is_block v.yard.setting.block b) there
+    where
+      by_test : (test : Bool) → (if test then bytes_at (name_in v.yard.setting b) s.objects else None) ≡ Some bytes
+          → (if test then copy (name_in v.yard.setting b) else None) ≡ Some bytes
+      by_test true e = ap (λ o. either o (bytes_found (first_where (is_copy (name_in v.yard.setting b)) s.staged))) e
+      by_test false e = absurd (cc)
+
+  -- so is what a client has staged
+  client_copies : (client : ℕ) → Grows (staged_in v.yard s.staged client) all_blocks
+  client_copies client b bytes there =
+      by_tests (is_block v.yard.setting.block b) (is_some (staged_since client (name_in v.yard.setting b) v.yard.staged)) refl there
+    where
+      name : List ℕ
+      name = name_in v.yard.setting b
+
+      its : is_some (staged_since client name v.yard.staged) ≡ true → staged_at client name s.staged ≡ Some bytes
+          → IsStagedWith (contents_of s.objects s.staged v.yard) name bytes
+      its staged e = record { client = client; is = staged; bytes_are = e }
+
+      by_first : is_some (staged_since client name v.yard.staged) ≡ true → staged_at client name s.staged ≡ Some bytes
+          → (o : Option ((ℕ × List ℕ) × List ℕ)) → first_where (is_copy name) s.staged ≡ o → bytes_found o ≡ Some bytes
+      by_first staged e None first =
+          absurd (first_where-none staged_key (is_copy name) s.staged (client, name) bytes first e
+          (λ i. (eq_by_cmp_equiv text_key.total).refl name i && staged i))
+      by_first staged e (Some found) first =
+          let is = staged_copy name found first in
+          ap Some (s.alike name found.1 bytes (inr (record { client = found.0.0; is = is.1; bytes_are = is.0 })) (inr (its staged e)))
+
+      by_object : is_some (staged_since client name v.yard.staged) ≡ true → staged_at client name s.staged ≡ Some bytes
+          → (o : Option (List ℕ)) → bytes_at name s.objects ≡ o → either o (bytes_found (first_where (is_copy name) s.staged)) ≡ Some bytes
+      by_object staged e None object = by_first staged e (first_where (is_copy name) s.staged) refl
+      by_object staged e (Some other) object = ap Some (s.alike name other bytes (inl object) (inr (its staged e)))
+
+      by_tests : (test staged : Bool) → is_some (staged_since client name v.yard.staged) ≡ staged
+          → (if test && staged then staged_at client name s.staged else None) ≡ Some bytes → (if test then copy name else None) ≡ Some bytes
+      by_tests true true staged e = by_object staged e (bytes_at name s.objects) refl
+      by_tests true false staged e = absurd (cc)
+      by_tests false staged is e = absurd (cc)
+
+  -- and no such block is of a slice that is still to get its number
+  all_below : AreBelow (typed s.rows) all_blocks
+  all_below b bytes there = by_test (is_block v.yard.setting.block b) refl there
+    where
+      name : List ℕ
+      name = name_in v.yard.setting b
+
+      by_first : is_block v.yard.setting.block b ≡ true → (o : Option ((ℕ × List ℕ) × List ℕ)) → first_where (is_copy name) s.staged ≡ o → bytes_found o ≡ Some bytes
+          → b.id < next_slice (typed s.rows)
+      by_first passes None first e = absurd (cc)
+      by_first passes (Some found) first e =
+          let is = staged_copy name found first in
+          s.staged_below found.0.0 b found.1
+          (ap (λ test. if test then staged_at found.0.0 name s.staged else None) (λ i. passes i && is.1 i) ∙ is.0)
+
+      by_object : is_block v.yard.setting.block b ≡ true → (o : Option (List ℕ)) → bytes_at name s.objects ≡ o
+          → either o (bytes_found (first_where (is_copy name) s.staged)) ≡ Some bytes → b.id < next_slice (typed s.rows)
+      by_object passes None object e = by_first passes (first_where (is_copy name) s.staged) refl e
+      by_object passes (Some other) object e =
+          s.below b other (ap (λ test. if test then bytes_at name s.objects else None) passes ∙ object)
+
+      by_test : (test : Bool) → is_block v.yard.setting.block b ≡ test → (if test then copy name else None) ≡ Some bytes → b.id < next_slice (typed s.rows)
+      by_test true passes e = by_object passes (bytes_at name s.objects) refl e
+      by_test false passes e = absurd (cc)
+
+  -- At the start something is known with which the tree is that of the rows.
+  pub fresh_store : (g : Known) × HasStore (tree_with (known_by v.yard.setting.block g.blocks) (typed s.rows)) g v
+  fresh_store = (
+    record { blocks = all_blocks; sizes = s.whole.slices.sizes },
+    record {
+      rows = s.rows;
+      rows_are = s.rows_are;
+      whole = s.whole;
+      sized = sized-slices s.whole.slices.sizes (typed s.rows) s.whole.slices (λ id slice there. (s.whole.slices.slice_size id slice there).0);
+      setting = s.setting;
+      objects = s.objects;
+      objects_are = s.objects_are;
+      staged = s.staged;
+      staged_are = s.staged_are;
+      there = λ id slice is index low. InDepot (s.there id slice is index low);
+      copies = depot_copies;
+      staged_copies = client_copies;
+      kept = s.kept;
+      below = all_below;
+      tree = refl;
+      direct = s.there;
+    },
+  )

@@ -1,5 +1,0 @@
-use Rattle.jv_fetching.proofs.FetchLaws.{fetches_go_on as the_law}
-use Rattle.jv_fetching.proofs.laws.fetches_go_on.Goals as goal
-
-pub returns : goal.returns
-returns c = the_law

@@ -1,5 +1,0 @@
-use Rattle.jv_fetching.proofs.SameLaws.{fetches_show as the_law}
-use Rattle.jv_fetching.proofs.laws.fetches_show.Goals as goal
-
-pub returns : goal.returns
-returns c = the_law

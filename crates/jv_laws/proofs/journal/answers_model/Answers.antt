@@ -1,5 +1,0 @@
-use Rattle.jv_laws.proofs.JournalAnswerLaws.{answers_model as the_law}
-use Rattle.jv_laws.proofs.journal.answers_model.Goals as goal
-
-pub returns : goal.returns
-returns c = the_law

@@ -1,5 +1,0 @@
-use Rattle.jv_laws.proofs.JournalStageLaws.{clean_only}
-use Rattle.jv_laws.proofs.journal.cleans_only_in_clean.Goals as goal
-
-pub returns : goal.returns
-returns c = clean_only

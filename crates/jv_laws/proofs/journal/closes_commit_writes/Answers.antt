@@ -1,5 +1,0 @@
-use Rattle.jv_laws.proofs.JournalCloseLaws.{closes_commit}
-use Rattle.jv_laws.proofs.journal.closes_commit_writes.Goals as goal
-
-pub returns : goal.returns
-returns c = closes_commit

@@ -1,5 +1,0 @@
-use Rattle.jv_laws.proofs.JournalOwedLaws.{drained}
-use Rattle.jv_laws.proofs.journal.drains_settle_all.Goals as goal
-
-pub returns : goal.returns
-returns c = drained

@@ -1,5 +1,0 @@
-use Rattle.jv_laws.proofs.JournalCleaningLaws.{drops_gone}
-use Rattle.jv_laws.proofs.journal.drops_only_gone.Goals as goal
-
-pub returns : goal.returns
-returns c = drops_gone

@@ -1,5 +1,0 @@
-use Rattle.jv_laws.proofs.JournalLineLaws.{ended_lines}
-use Rattle.jv_laws.proofs.journal.ended_lines_have_entries.Goals as goal
-
-pub returns : goal.returns
-returns c = ended_lines

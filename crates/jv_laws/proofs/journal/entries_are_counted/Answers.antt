@@ -1,5 +1,0 @@
-use Rattle.jv_laws.proofs.JournalGrowthLaws.{counted}
-use Rattle.jv_laws.proofs.journal.entries_are_counted.Goals as goal
-
-pub returns : goal.returns
-returns c = counted

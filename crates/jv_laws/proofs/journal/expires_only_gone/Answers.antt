@@ -1,5 +1,0 @@
-use Rattle.jv_laws.proofs.JournalCleaningLaws.{expires_gone}
-use Rattle.jv_laws.proofs.journal.expires_only_gone.Goals as goal
-
-pub returns : goal.returns
-returns c = expires_gone

@@ -1,5 +1,0 @@
-use Rattle.jv_laws.proofs.JournalGrowthLaws.{clock_followed}
-use Rattle.jv_laws.proofs.journal.follows_clock.Goals as goal
-
-pub returns : goal.returns
-returns c = clock_followed

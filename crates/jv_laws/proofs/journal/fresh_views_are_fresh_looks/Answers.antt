@@ -1,5 +1,0 @@
-use Rattle.jv_laws.proofs.JournalLooksLaws.{fresh_views}
-use Rattle.jv_laws.proofs.journal.fresh_views_are_fresh_looks.Goals as goal
-
-pub returns : goal.returns
-returns c = fresh_views

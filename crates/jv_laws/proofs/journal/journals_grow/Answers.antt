@@ -1,5 +1,0 @@
-use Rattle.jv_laws.proofs.JournalGrowthLaws.{journals_grow as the_law}
-use Rattle.jv_laws.proofs.journal.journals_grow.Goals as goal
-
-pub returns : goal.returns
-returns c = the_law

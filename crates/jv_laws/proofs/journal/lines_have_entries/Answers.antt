@@ -1,5 +1,0 @@
-use Rattle.jv_laws.proofs.JournalLineLaws.{lines_have_entries as the_law}
-use Rattle.jv_laws.proofs.journal.lines_have_entries.Goals as goal
-
-pub returns : goal.returns
-returns c = the_law

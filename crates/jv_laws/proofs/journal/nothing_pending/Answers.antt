@@ -1,5 +1,0 @@
-use Rattle.jv_laws.proofs.JournalDoingLaws.{nothing_pending as the_law}
-use Rattle.jv_laws.proofs.journal.nothing_pending.Goals as goal
-
-pub returns : goal.returns
-returns c = the_law

@@ -1,5 +1,0 @@
-use Rattle.jv_laws.proofs.JournalGrowthLaws.{others_kept}
-use Rattle.jv_laws.proofs.journal.others_stay.Goals as goal
-
-pub returns : goal.returns
-returns c = others_kept

@@ -1,5 +1,0 @@
-use Rattle.jv_laws.proofs.JournalReadLaws.{reads_cite}
-use Rattle.jv_laws.proofs.journal.reads_cite_looks.Goals as goal
-
-pub returns : goal.returns
-returns c = reads_cite

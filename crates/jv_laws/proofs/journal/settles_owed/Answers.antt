@@ -1,5 +1,0 @@
-use Rattle.jv_laws.proofs.JournalOwedLaws.{settles_owed as the_law}
-use Rattle.jv_laws.proofs.journal.settles_owed.Goals as goal
-
-pub returns : goal.returns
-returns c = the_law

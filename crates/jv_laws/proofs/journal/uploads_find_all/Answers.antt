@@ -1,5 +1,0 @@
-use Rattle.jv_laws.proofs.JournalUploadLaws.{uploads_find}
-use Rattle.jv_laws.proofs.journal.uploads_find_all.Goals as goal
-
-pub returns : goal.returns
-returns c = uploads_find
