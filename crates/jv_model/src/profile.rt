@@ -52,7 +52,8 @@ pub enum Does {
     Reads(u64, u32),
     Truncates,
     Copies,
-    Compacts,
+    /// It puts the blocks of a window into a slice of its own: of the file with this inode, else of the file at its path.
+    Compacts(Option<u64>),
     Cleans,
     /// It judges the objects of the depot page by page, and removes the leaked ones or not.
     Collects(bool),
@@ -131,7 +132,7 @@ impl Op {
             } => write_profile(*handle, *offset, bytes.len() as u64),
             Op::Truncate { handle, .. } => on_file(*handle, Does::Truncates),
             Op::Copy { source, target, .. } => on_files(*source, *target),
-            Op::Compact { .. } => of_mounted(Does::Compacts),
+            Op::Compact { .. } => of_mounted(Does::Compacts(None)),
             Op::Clean => of_mounted(Does::Cleans),
             Op::Gc { delete } => of_mounted(Does::Collects(*delete)),
             Op::Upload => of_any_client(Does::Uploads),

@@ -306,7 +306,7 @@ contended_compaction_is_legal = record {
       ∴ record { line = refl; complete = refl; moment = refl; stands = record { own = refl; may = record { doing = _; busy = refl; begins_is = refl; may = refl } } }
       ∴ record { line = refl; complete = refl; moment = refl; stands = record { own = refl; may = record { doing = _; busy = refl; begins_is = refl; may = refl } } }
       ∴ record { line = refl; complete = refl; moment = refl; stands = record { own = refl; may = record { doing = _; busy = refl; begins_is = refl; may = refl } } }
-      ∴ record { line = refl; complete = refl; moment = refl; stands = record { own = refl; may = record { doing = _; busy = refl; begins_is = refl; may = IsRefusedBy _ refl (AnotherList _ 5 0 refl refl refl refl refl) refl } } }
+      ∴ record { line = refl; complete = refl; moment = refl; stands = record { own = refl; may = record { doing = _; busy = refl; begins_is = refl; may = IsRefusedBy _ refl (AnotherList _ 5 0 refl refl refl refl refl refl refl) refl } } }
       ∴ record { line = refl; complete = refl; moment = refl; stands = record { own = refl; may = record { doing = _; busy = refl; begins_is = refl; may = record { goes_on = refl; file = (refl, refl); session = refl; there = refl } } } }
       ∴ record { line = refl; complete = refl; moment = refl; stands = record { own = refl; may = record { doing = _; busy = refl; begins_is = refl; may = ReadsViews (record { goes_on = refl; file = _; opened = refl; first = 46; second = 0; bytes = _; reads = refl; same = refl }) } } }
       ∴ tt;

@@ -136,7 +136,7 @@ drained_run = record (run_of (
     ∷ Do 1 (Open (codes "/w"))
     ∷ Do 1 (Read 1 6 9)
     ∷ []
-    )) { uploads = 3; by_worker = λ entry. (entry == 14) || (entry == 16) || (entry == 18) || (entry == 25) }
+    )) { uploads = 3; by_worker = λ entry. (entry == 15) || (entry == 16) || (entry == 18) || (entry == 25) }
 
 abbrev pub drained_journal : List Act
 drained_journal =
@@ -153,8 +153,8 @@ drained_journal =
     ∷ entry 5 0 Quiet
     ∷ entry 5 0 Quiet
     ∷ entry 5 0 (Commit 2 0 8 4)
-    ∷ entry 5 255 Quiet
     ∷ entry 5 0 (Answered (Fine 0 0 0 0))
+    ∷ entry 5 255 Quiet
     ∷ entry 6 255 Quiet
     ∷ entry 6 255 Quiet
     ∷ entry 6 255 (Settled 13)
@@ -184,11 +184,11 @@ drained_is_legal = record {
       ∴ record { line = refl; complete = refl; moment = refl; stands = record { own = refl; may = record { doing = _; busy = refl; begins_is = refl; may = refl } } }
       ∴ record { line = refl; complete = refl; moment = refl; stands = record { own = refl; may = record { doing = _; busy = refl; begins_is = refl; may = refl } } }
       ∴ record { line = refl; complete = refl; moment = refl; stands = record { own = refl; may = record { doing = _; busy = refl; begins_is = refl; may = record { requests = lit≤ tt; segment = refl; behind = refl; session = refl; file = refl; in_time = lit< tt; room = refl } } } }
-      ∴ record { line = refl; complete = refl; moment = (lit≤ tt, lit≤ tt); stands = (refl, refl, tt, refl) }
       ∴ record { line = refl; complete = refl; moment = refl; stands = record { own = refl; may = record { doing = _; busy = refl; begins_is = refl; may = Settles _ refl refl } } }
-      ∴ record { line = refl; complete = refl; moment = (lit≤ tt, lit≤ tt); stands = (refl, refl, tt, refl) }
+      ∴ record { line = refl; complete = refl; moment = (lit≤ tt, lit≤ tt); stands = (refl, refl, tt, refl, refl) }
+      ∴ record { line = refl; complete = refl; moment = (lit≤ tt, lit≤ tt); stands = (refl, refl, tt, refl, refl) }
       ∴ record { line = refl; complete = refl; moment = refl; stands = (refl, Sends tt) }
-      ∴ record { line = refl; complete = refl; moment = (lit≤ tt, lit≤ tt); stands = (refl, refl, refl, refl) }
+      ∴ record { line = refl; complete = refl; moment = (lit≤ tt, lit≤ tt); stands = (refl, refl, refl, refl, refl) }
       ∴ record { line = refl; complete = refl; moment = refl; stands = (refl, Ends refl refl) }
       ∴ record { line = refl; complete = refl; moment = refl; stands = record { own = refl; may = record { doing = _; busy = refl; begins_is = refl; may = record { ready = refl; transacts = refl; same = refl } } } }
       ∴ record { line = refl; complete = refl; moment = refl; stands = record { own = refl; may = record { doing = _; busy = refl; begins_is = refl; may = Settles _ refl refl } } }

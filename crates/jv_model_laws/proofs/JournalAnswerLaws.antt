@@ -13,9 +13,9 @@ use Rattle.jv_model.specs.declared.fault.Fault.{Fault}
 use Rattle.jv_model.specs.declared.op.Reply.{Reply}
 use Rattle.jv_model.specs.declared.profile.Answer.{Answer}
 use Rattle.jv_model.specs.declared.profile.Does.TheVariants.{Answers}
-use Rattle.jv_model.specs.client.ModelClient.{ModelClient, Doing, Stage, Replying, Files, MoreBlocks, CleaningPart}
+use Rattle.jv_model.specs.client.ModelClient.{ModelClient, Doing, Stage, Replying, Files, OneBlock, BlockRemoved, CleaningPart}
 use Rattle.jv_model.specs.journal.State.{State, given, replied, transacted, newly_sustained, next_entry, gift_of, after_transaction, after_step, of_doing, effect, is_compaction}
-use Rattle.jv_model.specs.journal.Steps.{Start, transacts, Transaction, LooksAt, CompactionLooks, First, Again, CompactionMisses, MissesBlock, CleansItem, DropsFile, MayStep, MayAnswer, Fails, Settles, AtOnce, CountsCache, ReadsViews, CleanedUp, HasCompacted, HasCollected, HasUploaded, Refuses, TooShort, HasReplaced, Sent, FoundNone, IsRefusedIn, SessionGone, InodeGone, CommitLate, CommitTooLarge, NumberRefused, CompactionCrowded, CompactionLate, AnotherList, BlockOwed, MissedTooOften, InReading, InCompaction, begins_step, must_answer, told_of}
+use Rattle.jv_model.specs.journal.Steps.{Start, transacts, Transaction, LooksAt, CompactionLooks, First, Again, CompactionMisses, MissesBlock, CleansItem, DropsFile, ForgetsSlice, OfOneBlock, OfBlocks, MayStep, MayAnswer, Fails, Decided, AtOnce, CountsCache, ReadsViews, CleanedUp, HasCompacted, HasCollected, HasUploaded, Refuses, TooShort, HasReplaced, Sent, FoundNone, IsRefusedIn, SessionGone, InodeGone, CommitLate, CommitTooLarge, NumberRefused, CompactionCrowded, CompactionLate, AnotherList, BlockOwed, MissedTooOften, InReading, InCompaction, begins_step, must_answer, told_of}
 use Rattle.jv_model.specs.journal.Past.{Past, Due, NoMore, Refusal, MayLack, ToAnswer, OneStep, StepMade, CrashEntry, TickEntry, DrainEntries, at_start, begun_by, begun_to, is_over, requested, lined, is_workers, after, advance, past, reached, line_reply, reply_of, refusal_reply}
 use Rattle.jv_model.specs.journal.Legal.{Allowed, AllAllowed, Refuses as RefusesSubmission, LacksMemory as RefusalLacks, OfClient, OfLine, OfWorker}
 use Rattle.jv_model_laws.specs.Laws.{AnswersModel, AnswersAsTree, is_transaction_entry}
@@ -55,9 +55,13 @@ none_missed start s client c d r inode window false h = let g = h.goes_on in cc
 none_cleaned : (s : State) (c : ModelClient) (d : Doing) (r : Reply) (part : CleaningPart) → CleansItem s c (settled_doing d r) part → ⊥
 none_cleaned s c d r part h = let e = h.stage in cc
 
-none_row : (s : State) (c : ModelClient) (d : Doing) (r : Reply) (table key : ℕ) (b : Bool) → MatchBool b (CleansItem s c (settled_doing d r) Files × DropsFile s key) ((table ≡ TABLE_OF_DEAD) × CleansItem s c (settled_doing d r) MoreBlocks) → ⊥
+none_forgotten : (s : State) (c : ModelClient) (d : Doing) (r : Reply) → ForgetsSlice s c (settled_doing d r) → ⊥
+none_forgotten s c d r (OfOneBlock item) = none_cleaned s c d r OneBlock item
+none_forgotten s c d r (OfBlocks item) = none_cleaned s c d r BlockRemoved item
+
+none_row : (s : State) (c : ModelClient) (d : Doing) (r : Reply) (table key : ℕ) (b : Bool) → MatchBool b (CleansItem s c (settled_doing d r) Files × DropsFile s key) ((table ≡ TABLE_OF_DEAD) × ForgetsSlice s c (settled_doing d r)) → ⊥
 none_row s c d r table key true h = none_cleaned s c d r Files h.0
-none_row s c d r table key false h = none_cleaned s c d r MoreBlocks h.1
+none_row s c d r table key false h = none_forgotten s c d r h.1
 
 module _ (start : Start) (alone : Bool) (s : State) (client now : ℕ) (c : ModelClient) (d : Doing) (r : Reply) (no_answer : (told : Answer) → d.does ≡ Answers told → ⊥) where
   none_refused : (fault : Fault) → IsRefusedIn start s client now c (settled_doing d r) fault → ⊥
@@ -66,16 +70,16 @@ module _ (start : Start) (alone : Bool) (s : State) (client now : ℕ) (c : Mode
   none_refused fault (CommitLate segment a b e) = let q = a.requests in omega arith
   none_refused fault (CommitTooLarge segment a b g e) = let q = a.requests in omega arith
   none_refused fault (NumberRefused q b e) = omega arith
-  none_refused fault (CompactionCrowded k e m b g) = cc
-  none_refused fault (CompactionLate k started e m b g h) = cc
-  none_refused fault (AnotherList k looked found e a b g h) = cc
-  none_refused fault (BlockOwed position commit from to view owed (InReading misses window file asked e a b g h i) l m n o) = cc
-  none_refused fault (BlockOwed position commit from to view owed (InCompaction k e a b g h i) l m n o) = cc
+  none_refused fault (CompactionCrowded k e m a b g) = cc
+  none_refused fault (CompactionLate k started e m b a g h) = cc
+  none_refused fault (AnotherList k looked found e a i j b g h) = cc
+  none_refused fault (BlockOwed position owner from to view owed (InReading missed) l m n o) = let e = missed.stage in cc
+  none_refused fault (BlockOwed position owner from to view owed (InCompaction missed) l m n o) = let e = missed.stage in cc
   none_refused fault (MissedTooOften window owed e g) = cc
 
   settled_answer : (told : Told) → MayAnswer start alone s client now c (settled_doing d r) told → told ≡ told_of r
   settled_answer told (Fails m f) = absurd (cc)
-  settled_answer told (Settles answer e same) = let a : answer ≡ r = cc in same ∙ ap told_of a
+  settled_answer told (Decided answer e same) = let a : answer ≡ r = cc in same ∙ ap told_of a
   settled_answer told (AtOnce a) = let ready = a.ready in absurd (cc)
   settled_answer told (CountsCache hits misses cached ready first e same) = absurd (no_answer _ e)
   settled_answer told (ReadsViews h) = let g = h.goes_on in absurd (cc)

@@ -34,11 +34,11 @@ use Rattle.jv_model.specs.tree.FileBytes.{truncate, truncated, copy, copied, cop
 use Rattle.jv_model.specs.client.Pending.{PendingByte, Segment, first_segment, pending_of, without_range}
 use Rattle.jv_model.specs.client.Origins.{Owed}
 use Rattle.jv_model.specs.client.Profile.{profile, handle_list, handle_of}
-use Rattle.jv_model.specs.client.ModelClient.{ModelClient, OpenFile, View, Doing, OfFiles, OfAll, Stage, Cleaning, Sessions, Trash, Files, MoreBlocks, CleaningPart, Working, Reading, Missing, LookedAgain, Compacting, Cleans, Requesting, Replying, unmounted, with_stage, file_of, inode_in, inode_at, views_without}
+use Rattle.jv_model.specs.client.ModelClient.{ModelClient, OpenFile, View, Doing, OfFiles, OfAll, Stage, Cleaning, Sessions, Trash, Files, OneBlock, BlockRemoved, CleaningPart, Working, Reading, Missing, LookedAgain, Compacting, Cleans, Listed, Judged, Removing, Published, Replying, unmounted, with_stage, file_of, inode_in, inode_at, views_without}
 use Rattle.jv_model.specs.client.Submission.{submission, submitted, flush_of, by_limits, segment_of_files, is_flushed}
-use Rattle.jv_model.specs.journal.State.{removes_block, judges, State, Gift, NewSession, NewHandle, Nothing, with_client, set_client, given, replied, transacted, newly_sustained, next_entry, gift_of, after_transaction, is_refused, refusal_in, look_refusal, has_session, quieted, begun_quietly, flushing_on, cleaning_on, looked, compaction_looked, missed, committed_stage, answer_then, reply_of_answer, replaced, after_told, answered_client, is_of_another, after_step, of_doing, changed, effect, view_now, is_compaction, sees_first, first_cleaning}
+use Rattle.jv_model.specs.journal.State.{removes_block, after_judging, State, Gift, NewSession, NewHandle, Nothing, with_client, set_client, given, replied, transacted, newly_sustained, next_entry, gift_of, after_transaction, is_refused, refusal_in, look_refusal, has_session, quieted, begun_quietly, flushing_on, cleaning_on, looked, compaction_looked, missed, committed_stage, answer_then, reply_of_answer, replaced, after_told, answered_client, is_of_another, after_step, of_doing, changed, effect, view_now, is_compaction, sees_first, first_cleaning}
 use Rattle.jv_model.specs.journal.Reading.{asked_parts}
-use Rattle.jv_model.specs.journal.Steps.{Start, is_ready, transacts, Transaction, LooksAt, may_read_on, is_missing, CompactionLooks, First, Again, CompactionMisses, MissesBlock, change_entry, cleaning_in, CleansItem, DropsFile, MayStep, MayAnswer, Fails, Settles, AtOnce, CountsCache, ReadsViews, CleanedUp, HasCompacted, HasCollected, HasUploaded, Refuses, EndsCompaction, TooShort, HasReplaced, EndsUpload, Sent, FoundNone, told_of, is_failure, has_judged}
+use Rattle.jv_model.specs.journal.Steps.{Start, is_ready, transacts, Transaction, LooksAt, may_read_on, is_missing, CompactionLooks, First, Again, CompactionMisses, MissesBlock, change_entry, cleaning_in, CleansItem, DropsFile, ForgetsSlice, OfOneBlock, OfBlocks, MayStep, MayAnswer, Fails, Decided, AtOnce, CountsCache, ReadsViews, CleanedUp, HasCompacted, HasCollected, HasUploaded, Refuses, EndsCompaction, TooShort, HasReplaced, EndsUpload, Sent, FoundNone, told_of, is_failure, has_judged}
 use Rattle.jv_model.specs.journal.Past.{Setup, Past, at_start, begun_to, reached}
 use Rattle.jv_model.specs.journal.Legal.{Allowed, AllAllowed, Refuses as RefusesSubmission, LacksMemory as RefusalLacks}
 use Rattle.jv_model_laws.specs.Laws.{NothingPending, HasCommitted, flushed_handles, is_fine_answer}
@@ -125,7 +125,10 @@ module _ (does : Does) (flushed : Bool) where
   ok_looked (LookedAgain misses window owed) f h = f
   ok_looked (Compacting k) f h = f
   ok_looked (Cleans k) f h = f
-  ok_looked (Requesting requests) f h = f
+  ok_looked Listed f h = f
+  ok_looked Judged f h = f
+  ok_looked (Removing requests) f h = f
+  ok_looked Published f h = f
   ok_looked (Replying r) f h = h
 
   ok_compaction : (view : View) (stage : Stage) → IsTrue flushed → Good (compaction_looked view stage)
@@ -139,7 +142,10 @@ module _ (does : Does) (flushed : Bool) where
   ok_missed window owed (LookedAgain misses at before) f h = f
   ok_missed window owed (Compacting k) f h = f
   ok_missed window owed (Cleans k) f h = f
-  ok_missed window owed (Requesting requests) f h = f
+  ok_missed window owed Listed f h = f
+  ok_missed window owed Judged f h = f
+  ok_missed window owed (Removing requests) f h = f
+  ok_missed window owed Published f h = f
   ok_missed window owed (Replying r) f h = h
 
   ok_replaced : (stage : Stage) → Good stage → Good (replaced stage)
@@ -149,7 +155,10 @@ module _ (does : Does) (flushed : Bool) where
   ok_replaced (Missing misses at before) h = h
   ok_replaced (LookedAgain misses at before) h = h
   ok_replaced (Cleans k) h = h
-  ok_replaced (Requesting requests) h = h
+  ok_replaced Listed h = h
+  ok_replaced Judged h = h
+  ok_replaced (Removing requests) h = h
+  ok_replaced Published h = h
   ok_replaced (Replying r) h = h
 
 refusal_refused : (r : Reply) (b : Bool) → is_refused r ≡ b → IsTrue (is_refused (elim b [ true ↦ r | false ↦ reply.Refused NoSpace ]))
@@ -174,7 +183,8 @@ module _ (s : State) (client : ℕ) (c : ModelClient) (now : ℕ) (d : Doing) wh
   ok_begun (Reads offset len) f h = ok_if d.does F (sees_first c d (asked_parts offset len)) _ _ f (ok_refused d.does F d.stage _ (look_refused s.tree c _) h)
   ok_begun Truncates f h = ok_tree_refusal
   ok_begun Copies f h = ok_tree_refusal
-  ok_begun Compacts f h = ok_tree_refusal
+  ok_begun (Compacts None) f h = ok_tree_refusal
+  ok_begun (Compacts (Some inode)) f h = ok_refused d.does F d.stage _ (look_refused s.tree c _) h
   ok_begun DoesClean f h = ok_cleaning first_cleaning f
   ok_begun (Collects delete) f h = f
   ok_begun Uploads f h = f
@@ -186,6 +196,10 @@ module _ (s : State) (client : ℕ) (c : ModelClient) (now : ℕ) (d : Doing) wh
   ok_working true x y e h g = h e
   ok_working false x y e h g = g
 
+  ok_judging : (does : Does) → IsTrue F → StageOk d.does F (after_judging does)
+  ok_judging (Collects true) f = f
+  ok_judging _ f = f
+
   ok_quieted : (stage : Stage) → StageOk d.does F d.stage → StageOk d.does F stage → StageOk d.does F (quieted s client c now d stage)
   ok_quieted (Working quiets started) all h = ok_working F _ _ refl (λ f. ok_begun d.does f all) (ok_flushing quiets started)
   ok_quieted (Reading misses) all h = h
@@ -193,7 +207,10 @@ module _ (s : State) (client : ℕ) (c : ModelClient) (now : ℕ) (d : Doing) wh
   ok_quieted (LookedAgain misses window owed) all h = h
   ok_quieted (Compacting k) all h = ok_if d.does F (is_some k.missed) _ _ (ok_refused d.does F (Compacting k) _ (look_refused s.tree c _) h) h
   ok_quieted (Cleans k) all h = ok_cleaning k h
-  ok_quieted (Requesting requests) all h = ok_if d.does F (judges d.does requests && not (has_session s.tree c)) _ _ (IsRefusedReply refl) h
+  ok_quieted Listed all h = ok_if d.does F (has_session s.tree c) _ _ h (IsRefusedReply refl)
+  ok_quieted Judged all h = ok_judging d.does h
+  ok_quieted (Removing requests) all h = h
+  ok_quieted Published all h = h
   ok_quieted (Replying answer) all h = h
 
 -- what an entry of an operation needs committed
@@ -211,7 +228,10 @@ reading_flushed c d (Missing misses window owed) ok h = ok
 reading_flushed c d (LookedAgain misses window owed) ok h = ok
 reading_flushed c d (Compacting k) ok h = ok
 reading_flushed c d (Cleans k) ok h = ok
-reading_flushed c d (Requesting requests) ok h = ok
+reading_flushed c d Listed ok h = ok
+reading_flushed c d Judged ok h = ok
+reading_flushed c d (Removing requests) ok h = ok
+reading_flushed c d Published ok h = ok
 reading_flushed c d (Replying r) ok h = absurd (cc)
 
 pub cleaning_branch : (b : Bool) (k : Cleaning) → ◌≡◌ {A = Option Cleaning} (if b then Some first_cleaning else None) (Some k) → IsTrue b
@@ -225,7 +245,10 @@ cleaning_flushed c d (Missing misses window owed) k ok e = ok
 cleaning_flushed c d (LookedAgain misses window owed) k ok e = ok
 cleaning_flushed c d (Compacting k') k ok e = ok
 cleaning_flushed c d (Cleans k') k ok e = ok
-cleaning_flushed c d (Requesting requests) k ok e = ok
+cleaning_flushed c d Listed k ok e = ok
+cleaning_flushed c d Judged k ok e = ok
+cleaning_flushed c d (Removing requests) k ok e = ok
+cleaning_flushed c d Published k ok e = ok
 cleaning_flushed c d (Replying r) k ok e = absurd (cc)
 
 pub stage_flushed : (c : ModelClient) (d : Doing) (stage : Stage) → StageOk d.does (is_flushed d.flush c.pending) d.stage → d.stage ≡ stage → StageOk d.does (is_flushed d.flush c.pending) stage
@@ -247,9 +270,13 @@ module _ (s : State) (client now : ℕ) (start : Start) (c : ModelClient) (d : D
   item_flushed : (part : CleaningPart) → CleansItem s c d part → IsTrue (is_flushed d.flush c.pending)
   item_flushed part h = cleaning_flushed c d d.stage h.k ok h.stage
 
-  row_flushed : (table key : ℕ) (b : Bool) → MatchBool b (CleansItem s c d Files × DropsFile s key) ((table ≡ TABLE_OF_DEAD) × CleansItem s c d MoreBlocks) → IsTrue (is_flushed d.flush c.pending)
+  forget_flushed : ForgetsSlice s c d → IsTrue (is_flushed d.flush c.pending)
+  forget_flushed (OfOneBlock item) = item_flushed OneBlock item
+  forget_flushed (OfBlocks item) = item_flushed BlockRemoved item
+
+  row_flushed : (table key : ℕ) (b : Bool) → MatchBool b (CleansItem s c d Files × DropsFile s key) ((table ≡ TABLE_OF_DEAD) × ForgetsSlice s c d) → IsTrue (is_flushed d.flush c.pending)
   row_flushed table key true h = item_flushed Files h.0
-  row_flushed table key false h = item_flushed MoreBlocks h.1
+  row_flushed table key false h = forget_flushed h.1
 
 -- transactions
 
@@ -261,7 +288,7 @@ fine_transacts c d Transacts r h = tt
 fine_transacts c d Releases r h = tt
 fine_transacts c d Truncates r h = tt
 fine_transacts c d Copies r h = tt
-fine_transacts c d Compacts r h = tt
+fine_transacts c d (Compacts inode) r h = tt
 fine_transacts c d DoesClean r h = absurd (cc)
 fine_transacts c d (Collects delete) r h = tt
 fine_transacts c d Uploads r h = absurd (cc)
@@ -358,7 +385,7 @@ answer_fine c d Transacts r e = tt
 answer_fine c d Releases r e = tt
 answer_fine c d Truncates r e = tt
 answer_fine c d Copies r e = tt
-answer_fine c d Compacts r e = tt
+answer_fine c d (Compacts inode) r e = tt
 answer_fine c d DoesClean r e = absurd (cc)
 answer_fine c d (Collects delete) r e = tt
 answer_fine c d Uploads r e = absurd (cc)
@@ -529,7 +556,10 @@ settled_flushed does flushed r told fine e (IsRefusedReply h) = absurd (fine_not
 settled_flushed does flushed r told fine e (IsDoneReply f h) = f
 
 judged_flushed : (does : Does) (flushed : Bool) (stage : Stage) → StageOk does flushed stage → IsTrue (has_judged does stage) → IsTrue flushed
-judged_flushed does flushed (Requesting requests) ok h = ok
+judged_flushed does flushed Listed ok h = ok
+judged_flushed does flushed Judged ok h = ok
+judged_flushed does flushed (Removing requests) ok h = ok
+judged_flushed does flushed Published ok h = ok
 judged_flushed does flushed _ ok h = absurd (cc)
 
 module _ (limits : Limits) (start : Start) (alone : Bool) (s : State) (client now : ℕ) (c : ModelClient) (d : Doing) (told : Told) (fine : IsTrue (is_fine_answer (Answered told))) (h : Sound limits c.handles c.pending d) where
@@ -538,12 +568,12 @@ module _ (limits : Limits) (start : Start) (alone : Bool) (s : State) (client no
   compacted_flushed (HasReplaced k before after e r few same) = stage_flushed c d (Compacting k) h.stage e
 
   uploaded_flushed : EndsUpload alone s client c d told → IsTrue (is_flushed d.flush c.pending)
-  uploaded_flushed (Sent id index size e same) = stage_flushed c d (Requesting 1) h.stage e
+  uploaded_flushed (Sent id index size e same) = stage_flushed c d Published h.stage e
   uploaded_flushed (FoundNone ready m o same) = ready_flushed c d ready
 
   answer_flushed : MayAnswer start alone s client now c d told → IsTrue (is_flushed d.flush c.pending)
   answer_flushed (Fails m f) = absurd (fine_not_failure told fine f)
-  answer_flushed (Settles r e same) = settled_flushed d.does (is_flushed d.flush c.pending) r told fine same (stage_flushed c d (Replying r) h.stage e)
+  answer_flushed (Decided r e same) = settled_flushed d.does (is_flushed d.flush c.pending) r told fine same (stage_flushed c d (Replying r) h.stage e)
   answer_flushed (AtOnce a) = ready_flushed c d a.ready
   answer_flushed (CountsCache hits misses cached ready first e same) = ready_flushed c d ready
   answer_flushed (ReadsViews r) = reading_flushed c d d.stage h.stage (or_left _ _ r.goes_on)

@@ -24,11 +24,11 @@ use Rattle.jv_model.specs.tree.Trash.{due_purge}
 use Rattle.jv_model.specs.client.Pending.{without_range}
 use Rattle.jv_model.specs.client.Origins.{Owed}
 use Rattle.jv_model.specs.client.Profile.{profile, handle_of}
-use Rattle.jv_model.specs.client.ModelClient.{ModelClient, View, Doing, Stage, Cleaning, CleaningPart, Sessions, Trash, Files, Slices, Blocks, MoreBlocks, Working, Reading, Missing, LookedAgain, Compacting, Cleans, Requesting, Replying, unmounted, with_stage, session_of, views_without}
+use Rattle.jv_model.specs.client.ModelClient.{ModelClient, View, Doing, Stage, Cleaning, CleaningPart, Sessions, Trash, Files, Slices, SliceAsked, OneBlock, BlockRemoved, Working, Reading, Missing, LookedAgain, Compacting, Cleans, Listed, Judged, Removing, Published, Replying, unmounted, with_stage, session_of, views_without}
 use Rattle.jv_model.specs.client.Submission.{submission, submitted, by_limits, is_flushed}
-use Rattle.jv_model.specs.journal.State.{State, with_client, set_client, given, transacted, newly_sustained, next_entry, gift_of, after_transaction, has_session, quieted, begun_quietly, flushing_on, cleaning_on, judges, looked, compaction_looked, missed, committed_stage, answer_then, replaced, after_told, answered_client, is_of_another, after_expiry, after_purge, after_cleaning, after_step, of_doing, changed, effect, view_now, is_compaction, is_last, sees_first, first_cleaning}
+use Rattle.jv_model.specs.journal.State.{State, with_client, set_client, given, transacted, newly_sustained, next_entry, gift_of, after_transaction, has_session, quieted, begun_quietly, flushing_on, cleaning_on, after_judging, looked, compaction_looked, missed, committed_stage, answer_then, replaced, after_told, answered_client, is_of_another, after_expiry, after_purge, after_cleaning, after_step, of_doing, changed, effect, view_now, is_compaction, is_last, sees_first, first_cleaning}
 use Rattle.jv_model.specs.journal.Reading.{asked_parts}
-use Rattle.jv_model.specs.journal.Steps.{Start, is_ready, cleaning_in, CleansItem, DropsFile, MayStep, MayAnswer, Fails, Settles, AtOnce, CountsCache, ReadsViews, CleanedUp, HasCompacted, HasCollected, HasUploaded, Refuses, TooShort, HasReplaced, may_be_quiet, items, has_judged, told_of}
+use Rattle.jv_model.specs.journal.Steps.{Start, is_ready, cleaning_in, CleansItem, DropsFile, ForgetsSlice, OfOneBlock, OfBlocks, MayStep, MayAnswer, Fails, Decided, AtOnce, CountsCache, ReadsViews, CleanedUp, HasCompacted, HasCollected, HasUploaded, Refuses, TooShort, HasReplaced, may_be_quiet, items, has_judged, told_of}
 use Rattle.jv_model.specs.journal.Past.{Setup, Past, at_start, begun_to, reached}
 use Rattle.jv_model.specs.journal.Legal.{Allowed, AllAllowed, Refuses as RefusesSubmission, LacksMemory as RefusalLacks}
 use Rattle.jv_model.specs.journal.Looks.{entry_at}
@@ -50,8 +50,9 @@ FoundBy run journal client Sessions = Unit {0}
 FoundBy run journal client Trash = FoundSessions run journal client
 FoundBy run journal client Files = FoundNoneDue run journal client
 FoundBy run journal client Slices = FoundNoneDue run journal client
-FoundBy run journal client Blocks = FoundNoneDue run journal client
-FoundBy run journal client MoreBlocks = FoundNoneDue run journal client
+FoundBy run journal client SliceAsked = FoundNoneDue run journal client
+FoundBy run journal client OneBlock = FoundNoneDue run journal client
+FoundBy run journal client BlockRemoved = FoundNoneDue run journal client
 
 abbrev FoundAt : Setup → List Act → ℕ → Stage → Type 0
 FoundAt run journal client (Cleans k) = FoundBy run journal client k.part
@@ -123,8 +124,9 @@ module _ (run : Setup) (pre : List Act) (e : Act) where
   by_later client Trash on h = sessions_later client on h
   by_later client Files on h = none_later client on h
   by_later client Slices on h = none_later client on h
-  by_later client Blocks on h = none_later client on h
-  by_later client MoreBlocks on h = none_later client on h
+  by_later client SliceAsked on h = none_later client on h
+  by_later client OneBlock on h = none_later client on h
+  by_later client BlockRemoved on h = none_later client on h
 
   at_later : (client : ℕ) (stage : Stage) → GoesOn client e → FoundAt run pre client stage → FoundAt run more client stage
   at_later client (Cleans k) on h = by_later client k.part on h
@@ -225,7 +227,10 @@ module _ (run : Setup) (pre : List Act) (act : Act) (start : Start) (alone : Boo
     then_looked (LookedAgain misses window owed) h = tt
     then_looked (Compacting k) h = tt
     then_looked (Cleans k) h = kept (Cleans k) h
-    then_looked (Requesting requests) h = tt
+    then_looked Listed h = tt
+    then_looked Judged h = tt
+    then_looked (Removing requests) h = tt
+    then_looked Published h = tt
     then_looked (Replying r) h = tt
 
     then_missed : (window : ℕ) (owed : List Owed) (stage : Stage) → Before stage → Then (missed window owed stage)
@@ -235,7 +240,10 @@ module _ (run : Setup) (pre : List Act) (act : Act) (start : Start) (alone : Boo
     then_missed window owed (LookedAgain misses at before) h = tt
     then_missed window owed (Compacting k) h = tt
     then_missed window owed (Cleans k) h = kept (Cleans k) h
-    then_missed window owed (Requesting requests) h = tt
+    then_missed window owed Listed h = tt
+    then_missed window owed Judged h = tt
+    then_missed window owed (Removing requests) h = tt
+    then_missed window owed Published h = tt
     then_missed window owed (Replying r) h = tt
 
     then_replaced : (stage : Stage) → Before stage → Then (replaced stage)
@@ -245,7 +253,10 @@ module _ (run : Setup) (pre : List Act) (act : Act) (start : Start) (alone : Boo
     then_replaced (LookedAgain misses at before) h = tt
     then_replaced (Compacting k) h = tt
     then_replaced (Cleans k) h = kept (Cleans k) h
-    then_replaced (Requesting requests) h = tt
+    then_replaced Listed h = tt
+    then_replaced Judged h = tt
+    then_replaced (Removing requests) h = tt
+    then_replaced Published h = tt
     then_replaced (Replying r) h = tt
 
     -- items
@@ -269,7 +280,11 @@ module _ (run : Setup) (pre : List Act) (act : Act) (start : Start) (alone : Boo
     purge_found inode _ h may = let never = may.stage in absurd (cc)
 
     abbrev Row : ℕ → ℕ → Stage → Bool → Type 0
-    Row table key stage b = MatchBool b (CleansItem s c (record d { stage = stage }) Files × DropsFile s key) ((table ≡ TABLE_OF_DEAD) × CleansItem s c (record d { stage = stage }) MoreBlocks)
+    Row table key stage b = MatchBool b (CleansItem s c (record d { stage = stage }) Files × DropsFile s key) ((table ≡ TABLE_OF_DEAD) × ForgetsSlice s c (record d { stage = stage }))
+
+    found_forgetting : (k : Cleaning) → FoundBy run pre act.client k.part → ForgetsSlice s c (record d { stage = Cleans k }) → FoundNoneDue run pre act.client
+    found_forgetting k h (OfOneBlock item) = subst (FoundBy run pre act.client) (item_part s c d k OneBlock item) h
+    found_forgetting k h (OfBlocks item) = subst (FoundBy run pre act.client) (item_part s c d k BlockRemoved item) h
 
     then_row : (table key : ℕ) (k : Cleaning) (b : Bool) (x y : Cleaning) → x.part ≡ k.part → y.part ≡ Slices → FoundBy run pre act.client k.part
         → Row table key (Cleans k) b → Then (Cleans (if b then x else y))
@@ -277,16 +292,23 @@ module _ (run : Setup) (pre : List Act) (act : Act) (start : Start) (alone : Boo
         let at = item_part s c d k Files may.0 in
         subst (FoundBy run (pre ++ act ∷ []) act.client) (sym (e ∙ at)) (none_later run pre act act.client (λ own. on) (subst (FoundBy run pre act.client) at h))
     then_row table key k false x y e f h may =
-        let at = item_part s c d k MoreBlocks may.1 in
-        subst (FoundBy run (pre ++ act ∷ []) act.client) (sym f) (none_later run pre act act.client (λ own. on) (subst (FoundBy run pre act.client) at h))
+        subst (FoundBy run (pre ++ act ∷ []) act.client) (sym f) (none_later run pre act act.client (λ own. on) (found_forgetting k h may.1))
+
+    never_forgetting : (quiets started : ℕ) → ForgetsSlice s c (record d { stage = Working quiets started }) → ⊥
+    never_forgetting quiets started (OfOneBlock item) = let never = working_part s c d quiets started OneBlock item in cc
+    never_forgetting quiets started (OfBlocks item) = let never = working_part s c d quiets started BlockRemoved item in cc
+
+    none_forgotten : (stage : Stage) → cleaning_in c (record d { stage = stage }) ≡ None → ForgetsSlice s c (record d { stage = stage }) → ⊥
+    none_forgotten stage none (OfOneBlock item) = let e = item.stage in cc
+    none_forgotten stage none (OfBlocks item) = let e = item.stage in cc
 
     no_row : (table key quiets started : ℕ) (b : Bool) → Row table key (Working quiets started) b → ⊥
     no_row table key quiets started true may = let never = working_part s c d quiets started Files may.0 in cc
-    no_row table key quiets started false may = let never = working_part s c d quiets started MoreBlocks may.1 in cc
+    no_row table key quiets started false may = never_forgetting quiets started may.1
 
     no_other_row : (table key : ℕ) (stage : Stage) (b : Bool) → cleaning_in c (record d { stage = stage }) ≡ None → Row table key stage b → ⊥
     no_other_row table key stage true none may = let e = may.0.stage in cc
-    no_other_row table key stage false none may = let e = may.1.stage in cc
+    no_other_row table key stage false none may = none_forgotten stage none may.1
 
     row_found : (table key : ℕ) (stage : Stage) → Before stage → Row table key stage (table == TABLE_OF_DROPPED)
         → Own (after_cleaning s act.client table key (record d { stage = stage }))
@@ -315,8 +337,13 @@ module _ (run : Setup) (pre : List Act) (act : Act) (start : Start) (alone : Boo
     then_cleaning k Trash h may = then_if (has_session s.tree c || false) _ _ (λ e. hours_now (or_not _ (has_session s.tree c) (and_parts _ _ may).1 e) h) tt
     then_cleaning k Files h may = then_either (has_session s.tree c || false) _ _ (none_later run pre act act.client (λ own. on_quiet) h) tt
     then_cleaning k Slices h may = then_either (has_session s.tree c || false) _ _ (none_later run pre act act.client (λ own. on_quiet) h) tt
-    then_cleaning k Blocks h may = then_either (has_session s.tree c || true) _ _ (none_later run pre act act.client (λ own. on_quiet) h) tt
-    then_cleaning k MoreBlocks h may = then_either (has_session s.tree c || true) _ _ (none_later run pre act act.client (λ own. on_quiet) h) tt
+    then_cleaning k SliceAsked h may = then_either (has_session s.tree c || true) _ _ (none_later run pre act act.client (λ own. on_quiet) h) tt
+    then_cleaning k OneBlock h may = then_either (has_session s.tree c || true) _ _ (none_later run pre act act.client (λ own. on_quiet) h) tt
+    then_cleaning k BlockRemoved h may = then_either (has_session s.tree c || true) _ _ (none_later run pre act act.client (λ own. on_quiet) h) tt
+
+    then_judging : (does : Does) → Then (after_judging does)
+    then_judging (Collects true) = tt
+    then_judging _ = tt
 
     then_begun : (does : Does) (quiets started : ℕ) → Before d.stage → is_flushed d.flush c.pending ≡ true
         → IsTrue (may_be_quiet start s act.client act.at c (record d { does = does }) (Working quiets started))
@@ -328,7 +355,8 @@ module _ (run : Setup) (pre : List Act) (act : Act) (start : Start) (alone : Boo
     then_begun (Reads offset len) quiets started h f may = then_either (sees_first c d (asked_parts offset len)) _ _ tt (then_refused d.stage _ (kept on_quiet d.stage h))
     then_begun Truncates quiets started h f may = tt
     then_begun Copies quiets started h f may = tt
-    then_begun Compacts quiets started h f may = tt
+    then_begun (Compacts None) quiets started h f may = tt
+    then_begun (Compacts (Some inode)) quiets started h f may = then_refused d.stage _ (kept on_quiet d.stage h)
     then_begun DoesClean quiets started h f may =
         let first = subst (λ b. IsTrue (if b then (quiets == 0) && (not (is_some (due_session s.tree (session_of c) act.at)) || not (has_session s.tree c)) else true)) f may in
         then_if (has_session s.tree c || false) _ _ (λ e. sessions_now (or_not _ (has_session s.tree c) (and_parts _ _ first).1 e)) tt
@@ -343,7 +371,10 @@ module _ (run : Setup) (pre : List Act) (act : Act) (start : Start) (alone : Boo
     then_quieted (LookedAgain misses window owed) all h may = tt
     then_quieted (Compacting k) all h may = then_either (is_some k.missed) _ _ (then_refused (Compacting k) _ tt) tt
     then_quieted (Cleans k) all h may = then_cleaning k k.part h may
-    then_quieted (Requesting requests) all h may = then_either (judges d.does requests && not (has_session s.tree c)) _ _ tt tt
+    then_quieted Listed all h may = then_either (has_session s.tree c) _ _ tt tt
+    then_quieted Judged all h may = then_judging d.does
+    then_quieted (Removing requests) all h may = tt
+    then_quieted Published all h may = tt
     then_quieted (Replying answer) all h may = tt
 
   then_uploading : d.does ≡ Uploads → Then (begun_quietly s act.client c act.at d d.does)
@@ -493,12 +524,13 @@ all_found run journal may line = holds_on run (AllFound run) (found_submits run)
 -- the end of a cleaning
 
 judges_none : (stage : Stage) → IsTrue (has_judged DoesClean stage) → ⊥
-judges_none (Requesting requests) h = cc
+judges_none Judged h = cc
+judges_none (Removing requests) h = cc
 judges_none _ h = cc
 
 last_found : (run : Setup) (journal : List Act) (client : ℕ) (part : CleaningPart) → IsTrue (is_last part) → FoundBy run journal client part
     → FoundNoneDue run journal client
-last_found run journal client Blocks last h = h
+last_found run journal client SliceAsked last h = h
 last_found run journal client _ last h = absurd (cc)
 
 data OneHolds (a b : Bool) : Type 0 where
@@ -524,7 +556,7 @@ module _ (run : Setup) (journal : List Act) (start : Start) (alone : Bool) (s : 
 
   answer_ends : MayAnswer start alone s client now c d (Fine sessions trash files slices) → Ends
   answer_ends (Fails m f) = absurd (cc)
-  answer_ends (Settles r e same) = absurd (none_settled (is_flushed d.flush c.pending) r same (subst (StageOk DoesClean (is_flushed d.flush c.pending)) e ok))
+  answer_ends (Decided r e same) = absurd (none_settled (is_flushed d.flush c.pending) r same (subst (StageOk DoesClean (is_flushed d.flush c.pending)) e ok))
   answer_ends (AtOnce a) = let is = does in let never = a.same in absurd (cc)
   answer_ends (CountsCache hits misses cached ready first e same) = let is = does in absurd (cc)
   answer_ends (ReadsViews r) = let never = r.same in absurd (cc)

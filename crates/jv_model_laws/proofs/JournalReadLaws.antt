@@ -21,11 +21,11 @@ use Rattle.jv_model.specs.declared.profile.Does.{Does}
 use Rattle.jv_model.specs.declared.profile.Does.TheVariants.{Answers, Reads, Uploads}
 use Rattle.jv_model.specs.tree.Tree.{content_at}
 use Rattle.jv_model.specs.client.Profile.{profile, handle_of}
-use Rattle.jv_model.specs.client.ModelClient.{ModelClient, OpenFile, View, Doing, Stage, Replying, file_of, Cleans, Compacting, Requesting}
+use Rattle.jv_model.specs.client.ModelClient.{ModelClient, OpenFile, View, Doing, Stage, Replying, file_of, Cleans, Compacting, Listed, Judged, Removing, Published}
 use Rattle.jv_model.specs.client.Submission.{by_limits, is_flushed}
-use Rattle.jv_model.specs.journal.State.{State, or_empty, answer_then, reply_of_answer, is_cleaning, is_compaction}
+use Rattle.jv_model.specs.journal.State.{State, or_empty, answer_then, reply_of_answer, is_cleaning, is_collecting, is_compaction}
 use Rattle.jv_model.specs.journal.Reading.{Asked, asked_parts, bytes_between, is_fresh, cited_view, part_read, is_full, joined, read_on, reading}
-use Rattle.jv_model.specs.journal.Steps.{Start, MayStep, MayAnswer, Fails, Settles, AtOnce, CountsCache, ReadsViews, CleanedUp, HasCompacted, HasCollected, HasUploaded, Refuses, TooShort, HasReplaced, Sent, FoundNone, asked_of, file_in_use, may_read_on, is_ready, ReadsFresh, told_of, may_end_after, has_judged}
+use Rattle.jv_model.specs.journal.Steps.{Start, MayStep, MayAnswer, Fails, Decided, AtOnce, CountsCache, ReadsViews, CleanedUp, HasCompacted, HasCollected, HasUploaded, Refuses, TooShort, HasReplaced, Sent, FoundNone, asked_of, file_in_use, may_read_on, is_ready, ReadsFresh, told_of, has_judged}
 use Rattle.jv_model.specs.journal.Past.{Setup, Past, at_start, begun_to, reached, reply_of, decided_reply, told_reply}
 use Rattle.jv_model.specs.journal.Legal.{Refuses as RefusesSubmission, LacksMemory as RefusalLacks}
 use Rattle.jv_model.specs.journal.Looks.{IsFreshLook}
@@ -203,7 +203,7 @@ module _ (run : Setup) (journal : List Act) (limits : Limits) (start : Start) (a
 
   answer_read : DoesRead offset len d.does → MayAnswer start alone s client now c d told → Returned
   answer_read does (Fails m f) = absurd (cc)
-  answer_read does (Settles r e same) = settled_read r does same e (stage_flushed c d (Replying r) h.stage e)
+  answer_read does (Decided r e same) = settled_read r does same e (stage_flushed c d (Replying r) h.stage e)
   answer_read does (AtOnce a) = at_once does a.ready a.same
   answer_read does (CountsCache hits misses cached ready first e same) = absurd (cc)
   answer_read does (ReadsViews r) = views_read does r
@@ -256,10 +256,14 @@ module _ (limits : Limits) (start : Start) (alone : Bool) (s : State) (client no
   not_compacting does f (ReadsNothing none e) = let g = subst (λ x. IsTrue (is_compaction x)) e f in cc
   not_compacting does f (ReadsRange e) = let g = subst (λ x. IsTrue (is_compaction x)) e f in cc
 
+  not_collecting : (does : Does) → IsTrue (is_collecting does) → DoesRead offset len does → ⊥
+  not_collecting does j (ReadsNothing none f) = let g = subst (λ x. IsTrue (is_collecting x)) f j in cc
+  not_collecting does j (ReadsRange f) = let g = subst (λ x. IsTrue (is_collecting x)) f j in cc
+
   not_judging : (does : Does) (stage : Stage) → IsTrue (has_judged does stage) → DoesRead offset len does → ⊥
-  not_judging does (Requesting requests) j (ReadsNothing none f) = let g = subst (λ x. IsTrue (may_end_after x requests)) f j in cc
-  not_judging does (Requesting requests) j (ReadsRange f) = let g = subst (λ x. IsTrue (may_end_after x requests)) f j in cc
-  not_judging does _ j f = absurd (cc)
+  not_judging does Judged j reads = not_collecting does j reads
+  not_judging does (Removing requests) j reads = not_collecting does j reads
+  not_judging does _ j reads = absurd (cc)
 
   not_uploading : d.does ≡ Uploads → DoesRead offset len d.does → ⊥
   not_uploading e (ReadsNothing none f) = cc
@@ -287,7 +291,7 @@ module _ (limits : Limits) (start : Start) (alone : Bool) (s : State) (client no
 
   answer_cites : DoesRead offset len d.does → MayAnswer start alone s client now c d told → CitesLooks (Answered told)
   answer_cites does (Fails m f) = absurd (fine_not_failure told fine f)
-  answer_cites does (Settles r e same) = settled_cites r does same (stage_flushed c d (Replying r) h.stage e)
+  answer_cites does (Decided r e same) = settled_cites r does same (stage_flushed c d (Replying r) h.stage e)
   answer_cites does (AtOnce a) = at_once_cites does a.same
   answer_cites does (CountsCache hits misses cached ready first e same) = absurd (not_counting e does)
   answer_cites does (ReadsViews r) = cited r.first r.second (length r.bytes) told r.same

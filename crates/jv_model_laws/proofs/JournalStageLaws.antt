@@ -19,11 +19,11 @@ use Rattle.jv_model.specs.declared.profile.Does.TheVariants.{Answers, Mounts, Tr
 use Rattle.jv_model.specs.client.Pending.{without_range}
 use Rattle.jv_model.specs.client.Origins.{Owed}
 use Rattle.jv_model.specs.client.Profile.{profile, handle_of}
-use Rattle.jv_model.specs.client.ModelClient.{ModelClient, OpenFile, View, Doing, Stage, Cleaning, Files, MoreBlocks, Working, Reading, Missing, LookedAgain, Compacting, Cleans, Requesting, Replying, unmounted, with_stage, views_without, Sessions}
+use Rattle.jv_model.specs.client.ModelClient.{ModelClient, OpenFile, View, Doing, Stage, Cleaning, Files, Working, Reading, Missing, LookedAgain, Compacting, Cleans, Listed, Judged, Removing, Published, Replying, unmounted, with_stage, views_without, Sessions}
 use Rattle.jv_model.specs.client.Submission.{submission, submitted, by_limits, is_flushed}
-use Rattle.jv_model.specs.journal.State.{removes_block, judges, State, with_client, set_client, given, replied, transacted, newly_sustained, next_entry, gift_of, after_transaction, has_session, quieted, begun_quietly, flushing_on, looked, compaction_looked, missed, committed_stage, answer_then, replaced, after_told, answered_client, is_of_another, after_step, of_doing, changed, effect, view_now, is_compaction, is_cleaning, sees_first, first_cleaning}
+use Rattle.jv_model.specs.journal.State.{removes_block, after_judging, is_collecting, State, with_client, set_client, given, replied, transacted, newly_sustained, next_entry, gift_of, after_transaction, has_session, quieted, begun_quietly, flushing_on, looked, compaction_looked, missed, committed_stage, answer_then, replaced, after_told, answered_client, is_of_another, after_step, of_doing, changed, effect, view_now, is_compaction, is_cleaning, sees_first, first_cleaning}
 use Rattle.jv_model.specs.journal.Reading.{Asked, asked_parts}
-use Rattle.jv_model.specs.journal.Steps.{Start, asked_of, file_in_use, window_to_look, part_in_use, LooksAt, CompactionLooks, CompactionMisses, MissesBlock, cleaning_in, CleansItem, DropsFile, MayStep}
+use Rattle.jv_model.specs.journal.Steps.{Start, asked_of, file_in_use, window_to_look, part_in_use, LooksAt, CompactionLooks, CompactionMisses, MissesBlock, cleaning_in, CleansItem, DropsFile, ForgetsSlice, OfOneBlock, OfBlocks, MayStep}
 use Rattle.jv_model.specs.journal.Past.{Setup, Past, at_start, begun_to, reached}
 use Rattle.jv_model.specs.journal.Legal.{Allowed, AllAllowed, Refuses as RefusesSubmission, LacksMemory as RefusalLacks}
 use Rattle.jv_model_laws.specs.Laws.{CleansOnlyInClean, cleans}
@@ -35,10 +35,9 @@ abbrev pub is_reading : Does → Bool
 is_reading (Reads offset len) = true
 is_reading _ = false
 
-abbrev pub requests_alone : Does → Bool
-requests_alone (Collects delete) = true
-requests_alone Uploads = true
-requests_alone _ = false
+abbrev pub is_uploading : Does → Bool
+is_uploading Uploads = true
+is_uploading _ = false
 
 abbrev pub stage_fits : Does → Stage → Bool
 stage_fits does (Working quiets started) = true
@@ -47,7 +46,10 @@ stage_fits does (Missing misses window owed) = is_reading does
 stage_fits does (LookedAgain misses window owed) = is_reading does
 stage_fits does (Compacting k) = is_compaction does
 stage_fits does (Cleans k) = is_cleaning does
-stage_fits does (Requesting requests) = requests_alone does
+stage_fits does Listed = is_collecting does
+stage_fits does Judged = is_collecting does
+stage_fits does (Removing requests) = is_collecting does
+stage_fits does Published = is_uploading does
 stage_fits does (Replying r) = true
 
 abbrev pub FitsIf : Option Doing → Type 0
@@ -89,7 +91,10 @@ module _ (does : Does) where
   fit_replaced (Missing misses at before) h = h
   fit_replaced (LookedAgain misses at before) h = h
   fit_replaced (Cleans k) h = h
-  fit_replaced (Requesting requests) h = h
+  fit_replaced Listed h = h
+  fit_replaced Judged h = h
+  fit_replaced (Removing requests) h = h
+  fit_replaced Published h = h
   fit_replaced (Replying r) h = h
 
   fit_answer : (b : Bool) (o : Option Reply) → Fit (if b then elim o [ None ↦ Working 0 0 | Some answer ↦ Replying answer ] else Working 0 0)
@@ -108,7 +113,10 @@ module _ (does : Does) where
   fit_looked (LookedAgain misses window owed) h g = h
   fit_looked (Compacting k) h g = h
   fit_looked (Cleans k) h g = h
-  fit_looked (Requesting requests) h g = h
+  fit_looked Listed h g = h
+  fit_looked Judged h g = h
+  fit_looked (Removing requests) h g = h
+  fit_looked Published h g = h
   fit_looked (Replying r) h g = refl
 
   fit_missed : (window : ℕ) (owed : List Owed) (stage : Stage) → Fit stage → ((quiets started : ℕ) → stage ≡ Working quiets started → IsTrue (is_reading does)) → Fit (missed window owed stage)
@@ -118,7 +126,10 @@ module _ (does : Does) where
   fit_missed window owed (LookedAgain misses at before) h g = h
   fit_missed window owed (Compacting k) h g = h
   fit_missed window owed (Cleans k) h g = h
-  fit_missed window owed (Requesting requests) h g = h
+  fit_missed window owed Listed h g = h
+  fit_missed window owed Judged h g = h
+  fit_missed window owed (Removing requests) h g = h
+  fit_missed window owed Published h g = h
   fit_missed window owed (Replying r) h g = refl
 
 module _ (s : State) (client : ℕ) (c : ModelClient) (now : ℕ) (d : Doing) (h : IsTrue (stage_fits d.does d.stage)) where
@@ -130,10 +141,16 @@ module _ (s : State) (client : ℕ) (c : ModelClient) (now : ℕ) (d : Doing) (h
   fit_begun (Reads offset len) e = fit_if d.does (sees_first c d (asked_parts offset len)) _ _ (ap is_reading e) (fit_refused d.does d.stage _ h)
   fit_begun Truncates e = refl
   fit_begun Copies e = refl
-  fit_begun Compacts e = refl
+  fit_begun (Compacts None) e = refl
+  fit_begun (Compacts (Some inode)) e = fit_refused d.does d.stage _ h
   fit_begun DoesClean e = fit_if d.does (has_session s.tree c || removes_block Sessions) _ _ (ap is_cleaning e) refl
-  fit_begun (Collects delete) e = ap requests_alone e
-  fit_begun Uploads e = ap requests_alone e
+  fit_begun (Collects delete) e = ap is_collecting e
+  fit_begun Uploads e = ap is_uploading e
+
+  fit_judging : (does : Does) → IsTrue (is_collecting does) → IsTrue (stage_fits does (after_judging does))
+  fit_judging (Collects true) g = refl
+  fit_judging (Collects false) g = refl
+  fit_judging _ g = absurd (cc)
 
   fit_flushing : (quiets started : ℕ) → IsTrue (stage_fits d.does (flushing_on s c now quiets started))
   fit_flushing quiets started = fit_if d.does (quiets == 0) _ _ (fit_if d.does (has_session s.tree c) (Working 1 0) _ refl refl) (fit_if d.does (quiets == 1) (Working 2 now) (Working (quiets + 1) started) refl refl)
@@ -145,7 +162,10 @@ module _ (s : State) (client : ℕ) (c : ModelClient) (now : ℕ) (d : Doing) (h
   fit_quieted (LookedAgain misses window owed) g = g
   fit_quieted (Compacting k) g = fit_if d.does (is_some k.missed) _ _ (fit_refused d.does (Compacting k) _ g) g
   fit_quieted (Cleans k) g = fit_if d.does (has_session s.tree c || removes_block k.part) _ _ g refl
-  fit_quieted (Requesting requests) g = fit_if d.does (judges d.does requests && not (has_session s.tree c)) _ _ refl g
+  fit_quieted Listed g = fit_if d.does (has_session s.tree c) _ _ g refl
+  fit_quieted Judged g = fit_judging d.does g
+  fit_quieted (Removing requests) g = g
+  fit_quieted Published g = g
   fit_quieted (Replying answer) g = refl
 
 -- what an entry says of its operation
@@ -171,9 +191,13 @@ cleaning_fits c d (Working quiets started) k h e = cleaning_if d.does _ k e
 cleaning_fits c d (Cleans k') k h e = h
 cleaning_fits c d _ k h e = absurd (cc)
 
-row_cleans : (s : State) (c : ModelClient) (d : Doing) (table key : ℕ) (b : Bool) → IsTrue (stage_fits d.does d.stage) → MatchBool b (CleansItem s c d Files × DropsFile s key) ((table ≡ TABLE_OF_DEAD) × CleansItem s c d MoreBlocks) → IsTrue (is_cleaning d.does)
+forget_cleans : (s : State) (c : ModelClient) (d : Doing) → IsTrue (stage_fits d.does d.stage) → ForgetsSlice s c d → IsTrue (is_cleaning d.does)
+forget_cleans s c d h (OfOneBlock item) = cleaning_fits c d d.stage item.k h item.stage
+forget_cleans s c d h (OfBlocks item) = cleaning_fits c d d.stage item.k h item.stage
+
+row_cleans : (s : State) (c : ModelClient) (d : Doing) (table key : ℕ) (b : Bool) → IsTrue (stage_fits d.does d.stage) → MatchBool b (CleansItem s c d Files × DropsFile s key) ((table ≡ TABLE_OF_DEAD) × ForgetsSlice s c d) → IsTrue (is_cleaning d.does)
 row_cleans s c d table key true h may = cleaning_fits c d d.stage may.0.k h may.0.stage
-row_cleans s c d table key false h may = cleaning_fits c d d.stage may.1.k h may.1.stage
+row_cleans s c d table key false h may = forget_cleans s c d h may.1
 
 look_reads : (s : State) (client now : ℕ) (c : ModelClient) (d : Doing) (inode window : ℕ) (b : Bool) → MatchBool b (CompactionLooks s client now c d inode window) (LooksAt s c d inode window) → b ≡ false → (quiets started : ℕ) → d.stage ≡ Working quiets started → IsTrue (is_reading d.does)
 look_reads s client now c d inode window true may no_look quiets started e = absurd (cc)

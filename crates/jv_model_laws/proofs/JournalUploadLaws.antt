@@ -9,10 +9,10 @@ use Rattle.jv_model.specs.declared.op.Op.TheVariants as op
 use Rattle.jv_model.specs.declared.op.Reply.{Reply}
 use Rattle.jv_model.specs.declared.profile.Does.TheVariants.{Uploads}
 use Rattle.jv_model.specs.client.Profile.{profile}
-use Rattle.jv_model.specs.client.ModelClient.{ModelClient, Doing, Stage, Compacting, Cleans, Requesting}
+use Rattle.jv_model.specs.client.ModelClient.{ModelClient, Doing, Stage, Compacting, Cleans, Listed, Judged, Removing, Published}
 use Rattle.jv_model.specs.client.Submission.{by_limits, is_flushed}
 use Rattle.jv_model.specs.journal.State.{State}
-use Rattle.jv_model.specs.journal.Steps.{Start, MayStep, MayAnswer, Fails, Settles, AtOnce, CountsCache, ReadsViews, CleanedUp, HasCompacted, HasCollected, HasUploaded, Refuses, TooShort, HasReplaced, EndsUpload, Sent, FoundNone, has_judged, owes_none, told_of}
+use Rattle.jv_model.specs.journal.Steps.{Start, MayStep, MayAnswer, Fails, Decided, AtOnce, CountsCache, ReadsViews, CleanedUp, HasCompacted, HasCollected, HasUploaded, Refuses, TooShort, HasReplaced, EndsUpload, Sent, FoundNone, has_judged, owes_none, told_of}
 use Rattle.jv_model.specs.journal.Past.{Setup, Past, at_start, begun_to, reached}
 use Rattle.jv_model.specs.journal.Legal.{Refuses as RefusesSubmission, LacksMemory as RefusalLacks}
 use Rattle.jv_model_laws.specs.Laws.{UploadsFindAll}
@@ -23,7 +23,8 @@ use Rattle.jv_model_laws.proofs.JournalStageLaws.{stage_fits, FitsIf, all_fit}
 use Rattle.jv_model_laws.proofs.JournalOwedLaws.{none_is_owed}
 
 judges_none : (stage : Stage) → IsTrue (has_judged Uploads stage) → ⊥
-judges_none (Requesting requests) h = cc
+judges_none Judged h = cc
+judges_none (Removing requests) h = cc
 judges_none _ h = cc
 
 -- what is known of an upload in progress
@@ -46,7 +47,7 @@ module _ (start : Start) (s : State) (client now : ℕ) (c : ModelClient) (d : D
 
   finds_none : MayAnswer start true s client now c d (Fine 0 0 0 0) → IsTrue (owes_none s client)
   finds_none (Fails m f) = absurd (cc)
-  finds_none (Settles r e same) = absurd (none_settled (is_flushed d.flush c.pending) r same (subst (StageOk Uploads (is_flushed d.flush c.pending)) e u.settled))
+  finds_none (Decided r e same) = absurd (none_settled (is_flushed d.flush c.pending) r same (subst (StageOk Uploads (is_flushed d.flush c.pending)) e u.settled))
   finds_none (AtOnce a) = let does = u.does in let no = a.same in absurd (cc)
   finds_none (CountsCache hits misses cached ready first e same) = let no = u.does in absurd (cc)
   finds_none (ReadsViews r) = let no = r.same in absurd (cc)

@@ -1,5 +1,5 @@
 -- A step of a client's operation, on a line that runs it: its entries are allowed, and what they leave of the line.
-use Rattle.std.proofs.Common.{◌≡◌, ℕ, ◌+◌, ◌==◌, Bool, true, false, List, [], ◌∷◌, map, Option, None, Some, refl, sym, ap, subst, subst₂, ◌∙◌, add-zero}
+use Rattle.std.proofs.Common.{◌≡◌, ℕ, ◌+◌, ◌==◌, Bool, true, false, not, ◌||◌, IsTrue, List, [], ◌∷◌, map, Option, None, Some, refl, sym, ap, subst, subst₂, ◌∙◌, add-zero}
 use Rattle.jv_model.specs.declared.act.Act.{Act}
 use Rattle.jv_model.specs.declared.act.ActKind.{ActKind}
 use Rattle.jv_model.specs.declared.act.ActKind.TheVariants.{Mounted, Crashed, Ticked, Answered}
@@ -11,7 +11,7 @@ use Rattle.jv_model.specs.client.ModelClient.{ModelClient, Doing}
 use Rattle.jv_model.specs.journal.State.{State, of_doing, changed, effect}
 use Rattle.jv_model.specs.journal.Steps.{Start, IsEntry}
 use Rattle.jv_model.specs.journal.Past.{Past, Due, NoMore, ToAnswer, OneStep, lined, line_reply, reply_of, refusal_reply, requested, asks_clock, begins_in, ends_in_step, says_more}
-use Rattle.jv_model.specs.journal.Legal.{Allowed, OfLine, tick_of}
+use Rattle.jv_model.specs.journal.Legal.{Allowed, OfLine, is_behind_worker, tick_of}
 use Rattle.jv_model.specs.journal.Stepping.{entry_of, stepped, stepped_by, is_answer, answer_of, AllowsStep, GoesOn, AnswersAlone, AnswersAfter}
 use Rattle.jv_model.specs.script.ReplyText.{printed_line}
 use Rattle.jv_model_laws.proofs.JournalGrowthLaws.{others_kept}
@@ -81,16 +81,20 @@ IsEntryOf q client now kind b = IsEntry q.run.start (q.run.uploads == 0) q.state
 begins_on : (q : Past) (client now : ℕ) (kind : ActKind) (b : Bool) → IsEntryOf q client now kind b → begins_in (q.state.clients client) kind ≡ b
 begins_on q client now kind b h = begins q.run.start (q.run.uploads == 0) q.state client now kind b h
 
-may_run : (q : Past) (client now : ℕ) (kind : ActKind) (b : Bool) → IsEntryOf q client now kind b → OfLine q (entry_of q.line now client kind) (ToAnswer client)
-may_run q client now kind b h = record { own = refl; may = subst (IsEntryOf q client now kind) (sym (begins_on q client now kind b h)) h }
+-- no entry so far is an uploading thread's
+not_behind : (q : Past) (b : Bool) → IsAlone q → IsTrue (not (is_behind_worker q) || b)
+not_behind q b alone = subst (λ w. IsTrue (not w || b)) (sym (alone q.state.count)) refl
 
-may_begin : (q : Past) (client now : ℕ) (kind : ActKind) (due : Due) → RunsClient client due → IsEntryOf q client now kind true → OfLine q (entry_of q.line now client kind) due
-may_begin q client now kind due (ToItsEnd e) h = subst (OfLine q (entry_of q.line now client kind)) (sym e) (may_run q client now kind true h)
-may_begin q client now kind due (OneStepOnly e) h = subst (OfLine q (entry_of q.line now client kind)) (sym e) (record { own = refl; may = h })
+may_run : (q : Past) (client now : ℕ) (kind : ActKind) (b : Bool) → IsAlone q → IsEntryOf q client now kind b → OfLine q (entry_of q.line now client kind) (ToAnswer client)
+may_run q client now kind b alone h = record { own = refl; behind = not_behind q _ alone; may = subst (IsEntryOf q client now kind) (sym (begins_on q client now kind b h)) h }
 
-may_end : (q : Past) (client now : ℕ) (kind : ActKind) (due : Due) → RunsClient client due → IsEntryOf q client now kind false → OfLine q (entry_of q.line now client kind) (requested due)
-may_end q client now kind due (ToItsEnd e) h = subst (λ d. OfLine q (entry_of q.line now client kind) (requested d)) (sym e) (may_run q client now kind false h)
-may_end q client now kind due (OneStepOnly e) h = subst (λ d. OfLine q (entry_of q.line now client kind) (requested d)) (sym e) (record { own = refl; may = h })
+may_begin : (q : Past) (client now : ℕ) (kind : ActKind) (due : Due) → IsAlone q → RunsClient client due → IsEntryOf q client now kind true → OfLine q (entry_of q.line now client kind) due
+may_begin q client now kind due alone (ToItsEnd e) h = subst (OfLine q (entry_of q.line now client kind)) (sym e) (may_run q client now kind true alone h)
+may_begin q client now kind due alone (OneStepOnly e) h = subst (OfLine q (entry_of q.line now client kind)) (sym e) (record { own = refl; behind = not_behind q _ alone; may = h })
+
+may_end : (q : Past) (client now : ℕ) (kind : ActKind) (due : Due) → IsAlone q → RunsClient client due → IsEntryOf q client now kind false → OfLine q (entry_of q.line now client kind) (requested due)
+may_end q client now kind due alone (ToItsEnd e) h = subst (λ d. OfLine q (entry_of q.line now client kind) (requested d)) (sym e) (may_run q client now kind false alone h)
+may_end q client now kind due alone (OneStepOnly e) h = subst (λ d. OfLine q (entry_of q.line now client kind) (requested d)) (sym e) (record { own = refl; behind = not_behind q _ alone; may = h })
 
 asks_first : (q : Past) (client now : ℕ) (kind : ActKind) (due : Due) → RunsClient client due → q.due ≡ due → IsEntryOf q client now kind true → asks_clock q (entry_of q.line now client kind) ≡ true
 asks_first q client now kind due (ToItsEnd e) at h = ap (λ d. asks_clock (record q { due = d }) (entry_of q.line now client kind)) (at ∙ e) ∙ begins_on q client now kind true h
@@ -127,7 +131,7 @@ begin_allowed q client now kind due alone complete runs at moment h = record {
   line = refl;
   complete = complete;
   moment = moment_asked q (entry_of q.line now client kind) alone (asks_first q client now kind due runs at h) (now_of q now kind (aside_not q client now kind true h) moment);
-  stands = stands_on q (entry_of q.line now client kind) due alone at (may_begin q client now kind due runs h);
+  stands = stands_on q (entry_of q.line now client kind) due alone at (may_begin q client now kind due alone runs h);
 }
 
 end_allowed : (q : Past) (client now : ℕ) (kind : ActKind) (due : Due) → IsAlone q → q.complete ≡ true → RunsClient client due → q.due ≡ requested due → now ≡ q.at → IsEntryOf q client now kind false
@@ -136,7 +140,7 @@ end_allowed q client now kind due alone complete runs at moment h = record {
   line = refl;
   complete = complete;
   moment = moment_kept q (entry_of q.line now client kind) alone (asks_no_more q client now kind due runs at h) moment;
-  stands = stands_on q (entry_of q.line now client kind) (requested due) alone at (may_end q client now kind due runs h);
+  stands = stands_on q (entry_of q.line now client kind) (requested due) alone at (may_end q client now kind due alone runs h);
 }
 
 request_ran : (q : Past) (client now : ℕ) (kind : ActKind) (due : Due) → IsAlone q → q.complete ≡ true → RunsClient client due → q.due ≡ due → IsNow q q.ticks now → IsEntryOf q client now kind true → is_answer kind ≡ false

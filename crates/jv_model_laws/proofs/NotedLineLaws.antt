@@ -9,7 +9,7 @@ use Rattle.jv_model.specs.declared.fault.Fault.{Fault}
 use Rattle.jv_model.specs.declared.fault.Fault.TheVariants.{InProgress}
 use Rattle.jv_model.specs.declared.op.Op.{Op}
 use Rattle.jv_model.specs.declared.op.Reply.TheVariants.{Refused}
-use Rattle.jv_model.specs.client.ModelClient.{ModelClient, Doing, Stage, Working, Reading, Missing, LookedAgain, Compacting, Cleans, Requesting, Replying, unmounted}
+use Rattle.jv_model.specs.client.ModelClient.{ModelClient, Doing, Stage, Working, Reading, Missing, LookedAgain, Compacting, Cleans, Listed, Judged, Removing, Published, Replying, unmounted}
 use Rattle.jv_model.specs.client.Submission.{submission}
 use Rattle.jv_model.specs.journal.State.{State, answered_client, with_client, is_of_another, of_doing, effect}
 use Rattle.jv_model.specs.journal.Steps.{must_answer}
@@ -51,7 +51,10 @@ of_another d (Missing misses window owed) e = refl
 of_another d (LookedAgain misses window owed) e = refl
 of_another d (Compacting k) e = refl
 of_another d (Cleans k) e = refl
-of_another d (Requesting requests) e = refl
+of_another d Listed e = refl
+of_another d Judged e = refl
+of_another d (Removing requests) e = refl
+of_another d Published e = refl
 of_another d (Replying answer) e = absurd (cc)
 
 refused_stays : (c : ModelClient) (o : Op) (fault : Fault) (doing : Option Doing) → submission (record c { doing = doing }) o ≡ Some fault → ends_in_step (record c { doing = doing }) ≡ false

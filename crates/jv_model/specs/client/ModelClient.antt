@@ -38,14 +38,16 @@ pub record Compaction : Type 0 where
   pub has_replaced : Bool
 
 -- How far a cleaning is: first sessions, then the trash, then files, then slices. Once it asked for
--- a slice it has found none, or removes the blocks of one that it found, one by one.
+-- a slice it has found none, or removes the blocks of one that it found, one by one, and then its
+-- row.
 pub data CleaningPart : Type 0 where
   Sessions : CleaningPart
   Trash : CleaningPart
   Files : CleaningPart
   Slices : CleaningPart
-  Blocks : CleaningPart  -- a slice was asked for
-  MoreBlocks : CleaningPart  -- a block of it was removed
+  SliceAsked : CleaningPart
+  OneBlock : CleaningPart  -- one block of the slice was removed
+  BlockRemoved : CleaningPart  -- further requests: removals, the last of them maybe its row's
 
 pub record Cleaning : Type 0 where
   pub part : CleaningPart
@@ -63,7 +65,10 @@ pub data Stage : Type 0 where
   LookedAgain : (misses window : ℕ) → List Owed → Stage  -- the window was looked at again after that
   Compacting : Compaction → Stage
   Cleans : Cleaning → Stage
-  Requesting : (requests : ℕ) → Stage  -- requests of a collection or an upload
+  Listed : Stage  -- a collection listed a page of names
+  Judged : Stage  -- it judged which names of its first page, or of each one, are leaked
+  Removing : (requests : ℕ) → Stage  -- requests since: removals, and pages listed and judged
+  Published : Stage  -- an upload published a block
   Replying : Reply → Stage  -- its answer is decided, and comes in this same step
 
 -- the answer is decided, and comes in the same step

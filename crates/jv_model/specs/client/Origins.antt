@@ -57,16 +57,25 @@ pub record Owed : Type 0 where
   pub commit : ℕ
   pub client : ℕ
 
+-- what owes a byte that is in no object yet: a Commit, or what was there before the run
+pub data Owner : Type 0 where
+  ACommit : (entry : ℕ) → Owner
+  TheStart : Owner
+
+-- the number that an answer has for an owner: 0 for the start
+abbrev pub owner_number : Owner → ℕ
+owner_number (ACommit entry) = entry
+owner_number TheStart = 0
+
 -- whether that Commit is owed by another client than this one
 abbrev pub is_owed_by_another : ℕ → ℕ → Owed → Bool
 is_owed_by_another client commit owed = (owed.commit == commit) && not (owed.client == client)
 
--- the number of the Commit of another client, or 0 for a byte from before the run, that may be
--- missing for this client
-abbrev pub missing_commit : (ℕ → ℕ → List ℕ) → List Owed → ℕ → Origin → Option ℕ
-missing_commit shelved owed client (Start inode position) =
-    (if list_any (λ q. not (q == client)) (shelved inode position) then Some 0 else None)
-missing_commit shelved owed client Zero = None
-missing_commit shelved owed client (Committed entry) =
-    (if list_any (is_owed_by_another client entry) owed then Some entry else None)
-missing_commit shelved owed client Made = None
+-- what owes a byte that this client may miss, since other clients alone have its block
+abbrev pub missing_owner : (ℕ → ℕ → List ℕ) → List Owed → ℕ → Origin → Option Owner
+missing_owner shelved owed client (Start inode position) =
+    (if list_any (λ q. not (q == client)) (shelved inode position) then Some TheStart else None)
+missing_owner shelved owed client Zero = None
+missing_owner shelved owed client (Committed entry) =
+    (if list_any (is_owed_by_another client entry) owed then Some (ACommit entry) else None)
+missing_owner shelved owed client Made = None

@@ -1,6 +1,6 @@
 -- What each operation needs before its first step, what it commits first, and what it does then:
 -- one row an operation.
-use Rattle.std.specs.Prelude.{ℕ, ◌+◌, true, false, ◌||◌, ◌==◌, nat_le, if◌then◌else◌, List, [], ◌∷◌, length}
+use Rattle.std.specs.Prelude.{ℕ, ◌+◌, true, false, ◌||◌, ◌==◌, nat_le, if◌then◌else◌, List, [], ◌∷◌, length, None}
 use Rattle.jv_model.specs.declared.limits.TheConstants.{FILE_END}
 use Rattle.jv_model.specs.declared.op.Op.{Op}
 use Rattle.jv_model.specs.declared.op.Op.TheVariants as op
@@ -91,7 +91,7 @@ profile (op.Unlink path) = transaction
 profile (op.Rmdir path) = transaction
 profile (op.Link path to) = transaction
 profile (op.Rename path to how) = transaction
-profile (op.Compact path window) = of_mounted Compacts
+profile (op.Compact path window) = of_mounted (Compacts None)
 profile op.Clean = of_mounted Cleans
 profile (op.Gc delete) = of_mounted (Collects delete)
 profile op.Upload = of_any_client Uploads

@@ -65,9 +65,15 @@ pub data Drains (s : State) (client : ℕ) (kind : ActKind) : Type 0 where
   Ends : IsTrue (owes_none s client) → kind ≡ Answered (Fine 0 0 0 0) → Drains s client kind
   Fails : (told : Told) → IsTrue (is_failure told) → kind ≡ Answered told → Drains s client kind
 
--- an entry of an operation of the present line's client
+-- whether the last entry so far is an uploading thread's
+abbrev pub is_behind_worker : Past → Bool
+is_behind_worker p = p.run.by_worker p.state.count
+
+-- An entry of an operation of the present line's client. An answer that ends a step stands right
+-- behind the step's request.
 pub record OfClient (p : Past) (act : Act) (client : ℕ) (begins : Bool) : Type 0 where
   pub own : act.client ≡ client
+  pub behind : IsTrue (not (is_behind_worker p) || begins)
   pub may : IsEntry p.run.start (p.run.uploads == 0) p.state client act.at act.kind begins
 
 -- an entry of the present line
@@ -83,10 +89,25 @@ OfLine p act (CrashEntry client) = (act.client ≡ client) × (act.kind ≡ Cras
 OfLine p act (TickEntry by) = (act.client ≡ NO_CLIENT) × (act.kind ≡ Ticked by)
 OfLine p act (DrainEntries client) = (act.client ≡ NO_CLIENT) × Drains p.state client act.kind
 
--- an entry of an uploading thread, of which there are some, on a line of the script
+-- a run stops before a step: not between a step and its answer
+abbrev pub may_stop : Past → Bool
+may_stop p = elim p.due [
+  | NoMore ↦ true
+  | Refusal client fault ↦ true
+  | MayLack client ↦ true
+  | ToAnswer client ↦ not (ends_in_step (p.state.clients client))
+  | OneStep client ↦ true
+  | StepMade client ↦ not (ends_in_step (p.state.clients client))
+  | CrashEntry client ↦ true
+  | TickEntry by ↦ true
+  | DrainEntries client ↦ true
+]
+
+-- an entry of an uploading thread, of which there are some, on a line of the script, between two
+-- steps
 abbrev pub OfWorker : Past → Act → Type 0
 OfWorker p act = IsTrue (nat_lt 0 p.run.uploads) × (act.client ≡ NO_CLIENT)
-    × IsPublish p.state act.kind × IsTrue (nat_le p.line (length p.run.script))
+    × IsPublish p.state act.kind × IsTrue (nat_le p.line (length p.run.script)) × IsTrue (may_stop p)
 
 -- an entry may stand, its line being the present one
 pub record Allowed (p : Past) (act : Act) : Type 0 where
@@ -102,20 +123,6 @@ AllAllowed p (act ∷ acts) = Allowed (begun_to act.line p) act × AllAllowed (a
 -- with these statuses the line at which the run ended may lack entries
 abbrev pub may_be_cut : ℕ → Bool
 may_be_cut status = nat_le 4 status && nat_le status 6
-
--- a run stops before a step: not between a step and its answer
-abbrev pub may_stop : Past → Bool
-may_stop p = elim p.due [
-  | NoMore ↦ true
-  | Refusal client fault ↦ true
-  | MayLack client ↦ true
-  | ToAnswer client ↦ not (ends_in_step (p.state.clients client))
-  | OneStep client ↦ true
-  | StepMade client ↦ not (ends_in_step (p.state.clients client))
-  | CrashEntry client ↦ true
-  | TickEntry by ↦ true
-  | DrainEntries client ↦ true
-]
 
 -- every line has all its entries, but for one that was cut off
 abbrev pub ends_well : Setup → Past → Bool

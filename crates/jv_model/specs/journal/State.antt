@@ -1,6 +1,6 @@
 -- What a journal has reached, and what one more entry does to it: the tree, the clients, and whose
 -- blocks are owed. It knows no lines, clock or text.
-use Rattle.std.specs.Prelude.{ℕ, ◌+◌, ◌%◌, Bool, true, false, ◌&&◌, ◌||◌, not, ◌==◌, nat_lt, if◌then◌else◌, List, [], ◌∷◌, ◌++◌, map, filter, is_some, Option, None, Some, unwrap_or}
+use Rattle.std.specs.Prelude.{ℕ, ◌+◌, Bool, true, false, ◌&&◌, ◌||◌, not, ◌==◌, nat_lt, if◌then◌else◌, List, [], ◌∷◌, ◌++◌, map, filter, is_some, Option, None, Some, unwrap_or}
 use Rattle.jv_model.specs.declared.tables.TheConstants.{TABLE_OF_DROPPED}
 use Rattle.jv_model.specs.declared.limits.TheConstants.{TRASH_ROOT}
 use Rattle.jv_model.specs.declared.act.Act.{Act}
@@ -30,7 +30,7 @@ use Rattle.jv_model.specs.tree.Trash.{purged}
 use Rattle.jv_model.specs.client.Pending.{written, without_range, bytes_in_range, pending_of_others}
 use Rattle.jv_model.specs.client.Origins.{Marks, Owed, first_marks, marks_committed, marks_truncated, marks_copied, marks_compacted}
 use Rattle.jv_model.specs.client.Profile.{profile, handle_list, handle_of}
-use Rattle.jv_model.specs.client.ModelClient.{ModelClient, OpenFile, View, Doing, Stage, CleaningPart, Sessions, Trash, Files, Slices, Blocks, MoreBlocks, Cleaning, Working, Reading, Missing, LookedAgain, Compacting, Cleans, Requesting, Replying, unmounted, session_of, with_stage, with_file, file_of, free_handle, inode_at, held_inodes, is_last_of_removed, views_without}
+use Rattle.jv_model.specs.client.ModelClient.{ModelClient, OpenFile, View, Doing, Stage, CleaningPart, Sessions, Trash, Files, Slices, SliceAsked, OneBlock, BlockRemoved, Cleaning, Working, Reading, Missing, LookedAgain, Compacting, Cleans, Listed, Judged, Removing, Published, Replying, unmounted, session_of, with_stage, with_file, file_of, free_handle, inode_at, held_inodes, is_last_of_removed, views_without}
 use Rattle.jv_model.specs.client.Submission.{is_flushed}
 use Rattle.jv_model.specs.journal.Reading.{Asked, window_start, asked_parts, fresh_view}
 
@@ -188,8 +188,9 @@ refusal_in answer = elim (is_refused answer) [ true ↦ answer | false ↦ reply
 abbrev pub session_gone : ModelClient → Reply
 session_gone c = reply.Refused (Stale (Session (session_of c)))
 
+-- A client's session is there. Commands work as a client without one, which is never gone.
 abbrev pub has_session : Tree → ModelClient → Bool
-has_session t c = is_some (get t.sessions (session_of c))
+has_session t c = elim c.session [ None ↦ true | Some sid ↦ is_some (get t.sessions sid) ]
 
 -- A request of the flush: the first takes a number for the slice, in a transaction that needs the
 -- session; the others bring the blocks, from the moment of the second on.
@@ -203,9 +204,10 @@ abbrev pub next_part : CleaningPart → CleaningPart
 next_part Sessions = Trash
 next_part Trash = Files
 next_part Files = Slices
-next_part Slices = Blocks
-next_part Blocks = MoreBlocks
-next_part MoreBlocks = MoreBlocks
+next_part Slices = SliceAsked
+next_part SliceAsked = OneBlock
+next_part OneBlock = BlockRemoved
+next_part BlockRemoved = BlockRemoved
 
 -- no slice may have been left
 abbrev pub is_last : CleaningPart → Bool
@@ -213,20 +215,22 @@ is_last Sessions = false
 is_last Trash = false
 is_last Files = false
 is_last Slices = false
-is_last Blocks = true
-is_last MoreBlocks = false
+is_last SliceAsked = true
+is_last OneBlock = false
+is_last BlockRemoved = false
 
--- a request of this part removes a block
+-- a request of this part may remove a block
 abbrev pub removes_block : CleaningPart → Bool
 removes_block Sessions = false
 removes_block Trash = false
 removes_block Files = false
 removes_block Slices = false
-removes_block Blocks = true
-removes_block MoreBlocks = true
+removes_block SliceAsked = true
+removes_block OneBlock = true
+removes_block BlockRemoved = true
 
 -- A request of a cleaning that found nothing more in its part, or a slice, or that removed a block,
--- which needs no session.
+-- which needs no session. Whether one behind the first block was the row's is seen by its answer.
 abbrev pub cleaning_on : State → ModelClient → Cleaning → Stage
 cleaning_on s c k =
     (if has_session s.tree c || removes_block k.part
@@ -236,19 +240,15 @@ abbrev pub is_collecting : Does → Bool
 is_collecting (Collects delete) = true
 is_collecting _ = false
 
--- A collection lists a page of names and judges them in a transaction, which needs the session.
--- Where it removes none, every second request is such a transaction; else the second one is, and
--- others stand between removals.
-abbrev pub judges : Does → ℕ → Bool
-judges (Collects true) requests = requests == 1
-judges (Collects false) requests = requests % 2 == 1
-judges _ requests = false
+-- the transaction that judges the names of a page, which needs the session
+abbrev pub judged_on : State → ModelClient → Stage
+judged_on s c = (if has_session s.tree c then Judged else Replying (session_gone c))
 
--- a request of a collection or an upload
-abbrev pub requesting_on : State → ModelClient → Does → ℕ → Stage
-requesting_on s c does requests =
-    (if judges does requests && not (has_session s.tree c) then Replying (session_gone c)
-    else Requesting (requests + 1))
+-- Once the names of its page are judged, a collection lists the next page; one that removes what is
+-- leaked may remove first, which entries don't tell apart.
+abbrev pub after_judging : Does → Stage
+after_judging (Collects true) = Removing 1
+after_judging _ = Listed
 
 abbrev pub first_cleaning : Cleaning
 first_cleaning =
@@ -286,10 +286,12 @@ begun_quietly s client c now d (Reads offset len) =
 begun_quietly s client c now d Truncates =
     Replying (refusal_in (transacted s client now d.op).reply)
 begun_quietly s client c now d Copies = Replying (refusal_in (transacted s client now d.op).reply)
-begun_quietly s client c now d Compacts = Replying (refusal_in (transacted s client now d.op).reply)
+begun_quietly s client c now d (Compacts None) =
+    Replying (refusal_in (transacted s client now d.op).reply)
+begun_quietly s client c now d (Compacts (Some inode)) = refused_look s c inode d.stage
 begun_quietly s client c now d DoesClean = cleaning_on s c first_cleaning
-begun_quietly s client c now d (Collects delete) = Requesting 1
-begun_quietly s client c now d Uploads = Requesting 1
+begun_quietly s client c now d (Collects delete) = Listed
+begun_quietly s client c now d Uploads = Published
 
 -- a request that changed nothing of the tree
 abbrev pub quieted : State → ℕ → ModelClient → ℕ → Doing → Stage → Stage
@@ -304,7 +306,10 @@ quieted s client c now d (Compacting k) = (if is_some k.missed
     then refused_look s c k.view.inode (Compacting k)
     else Compacting (record k { quiets = now ∷ k.quiets }))
 quieted s client c now d (Cleans k) = cleaning_on s c k
-quieted s client c now d (Requesting requests) = requesting_on s c d.does requests
+quieted s client c now d Listed = judged_on s c
+quieted s client c now d Judged = after_judging d.does
+quieted s client c now d (Removing requests) = Removing (requests + 1)
+quieted s client c now d Published = Published
 quieted s client c now d (Replying answer) = Replying answer
 
 abbrev pub is_cleaning : Does → Bool
@@ -341,7 +346,10 @@ looked (Missing misses window owed) = LookedAgain (misses + 1) window owed
 looked (LookedAgain misses window owed) = Reading misses
 looked (Compacting k) = Compacting k
 looked (Cleans k) = Cleans k
-looked (Requesting requests) = Requesting requests
+looked Listed = Listed
+looked Judged = Judged
+looked (Removing requests) = Removing requests
+looked Published = Published
 looked (Replying answer) = Replying answer
 
 -- a look of a compaction, the first or the one after a missed block
@@ -357,7 +365,7 @@ compaction_looked view _ =
     })
 
 abbrev pub is_compaction : Does → Bool
-is_compaction Compacts = true
+is_compaction (Compacts inode) = true
 is_compaction _ = false
 
 -- the client once its operation looked at a window of a file
@@ -380,7 +388,10 @@ missed window owed (Missing misses at before) = Missing misses at before
 missed window owed (LookedAgain misses at before) = Missing misses window owed
 missed window owed (Compacting k) = Compacting (record k { missed = Some owed })
 missed window owed (Cleans k) = Cleans k
-missed window owed (Requesting requests) = Requesting requests
+missed window owed Listed = Listed
+missed window owed Judged = Judged
+missed window owed (Removing requests) = Removing requests
+missed window owed Published = Published
 missed window owed (Replying answer) = Replying answer
 
 -- changes of files
@@ -401,7 +412,7 @@ answer_then c d = elim d.does [
   | Reads offset len ↦ None
   | Truncates ↦ None
   | Copies ↦ None
-  | Compacts ↦ None
+  | Compacts inode ↦ None
   | DoesClean ↦ None
   | Collects delete ↦ None
   | Uploads ↦ None

@@ -1,6 +1,6 @@
 -- What an entry of a client's operation may be, by the state alone: the requests of the operation
 -- in their order, each with the operation's own numbers, and the answers with their causes.
-use Rattle.std.specs.Prelude.{◌≡◌, ℕ, ◌+◌, ◌%◌, ◌≤◌, ◌<◌, Bool, true, false, ◌&&◌, ◌||◌, not, ◌==◌, nat_le, nat_lt, if◌then◌else◌, IsTrue, MatchBool, IsSomeAnd, List, [], ◌∷◌, length, is_some, Option, None, Some, Result, Ok, Err}
+use Rattle.std.specs.Prelude.{◌≡◌, ℕ, ◌+◌, ◌≤◌, ◌<◌, Bool, true, false, ◌&&◌, ◌||◌, not, ◌==◌, nat_le, nat_lt, if◌then◌else◌, IsTrue, MatchBool, IsSomeAnd, List, [], ◌∷◌, length, is_some, Option, None, Some, Result, Ok, Err}
 use Rattle.std.specs.List.{list_any}
 use Rattle.std.specs.Option.{option_map}
 use Rattle.jv_model.specs.declared.tables.TheConstants.{TABLE_OF_DROPPED, TABLE_OF_DEAD}
@@ -30,9 +30,9 @@ use Rattle.jv_model.specs.tree.Reading.{file_inode}
 use Rattle.jv_model.specs.tree.Sessions.{due_session}
 use Rattle.jv_model.specs.tree.Trash.{due_purge}
 use Rattle.jv_model.specs.client.Pending.{Segment, bytes_in_range}
-use Rattle.jv_model.specs.client.Origins.{Owed, missing_commit}
+use Rattle.jv_model.specs.client.Origins.{Owed, Owner, missing_owner, owner_number}
 use Rattle.jv_model.specs.client.Profile.{handle_of}
-use Rattle.jv_model.specs.client.ModelClient.{ModelClient, OpenFile, View, Doing, Stage, CleaningPart, Sessions, Trash, Files, Slices, Blocks, MoreBlocks, Cleaning, Compaction, Working, Reading, Missing, LookedAgain, Compacting, Cleans, Requesting, Replying, session_of, file_of, inode_at}
+use Rattle.jv_model.specs.client.ModelClient.{ModelClient, OpenFile, View, Doing, Stage, CleaningPart, Sessions, Trash, Files, Slices, SliceAsked, OneBlock, BlockRemoved, Cleaning, Compaction, Working, Reading, Missing, LookedAgain, Compacting, Cleans, Listed, Judged, Removing, Published, Replying, session_of, file_of, inode_at}
 use Rattle.jv_model.specs.client.Submission.{next_segment, is_flushed}
 use Rattle.jv_model.specs.journal.State.{State, FileChangeKind, Written, Replaced, Ended, transacted, caller, has_session, look_refusal, sees_first, is_refused, is_cleaning, is_compaction, is_last, is_collecting, first_cleaning, answer_then, gift_of, Gift, NewSession, NewHandle, Nothing}
 use Rattle.jv_model.specs.journal.Reading.{Asked, window_start, asked_parts, fresh_view, part_to_look, shows_all, reading}
@@ -78,7 +78,7 @@ transacts c d = elim d.does [
   | Reads offset len ↦ false
   | Truncates ↦ false
   | Copies ↦ false
-  | Compacts ↦ false
+  | Compacts inode ↦ false
   | DoesClean ↦ false
   | Collects delete ↦ false
   | Uploads ↦ false
@@ -137,7 +137,10 @@ may_read_on c d = elim d.stage [
   | LookedAgain misses window owed ↦ nat_lt misses MAX_MISSES
   | Compacting k ↦ false
   | Cleans k ↦ false
-  | Requesting requests ↦ false
+  | Listed ↦ false
+  | Judged ↦ false
+  | Removing requests ↦ false
+  | Published ↦ false
   | Replying answer ↦ false
 ]
 
@@ -156,7 +159,10 @@ window_to_look c d file = elim d.stage [
       (part_to_look c.views (handle_of d.op) file (asked_of d.does))
   | Compacting k ↦ None
   | Cleans k ↦ None
-  | Requesting requests ↦ None
+  | Listed ↦ None
+  | Judged ↦ None
+  | Removing requests ↦ None
+  | Published ↦ None
   | Replying answer ↦ None
 ]
 
@@ -198,8 +204,8 @@ may_be_cleaned s view =
 -- away
 pub data MayBeGone (start : Start) (s : State) (client : ℕ) (view : View)
     (from to : ℕ) : Type 0 where
-  Owes : (position commit : ℕ) → from ≤ position → position < to
-      → missing_commit start.shelved s.owed client (view.origin position) ≡ Some commit
+  Owes : (position : ℕ) → (owner : Owner) → from ≤ position → position < to
+      → missing_owner start.shelved s.owed client (view.origin position) ≡ Some owner
       → MayBeGone start s client view from to
   MayBeCleaned : IsTrue (may_be_cleaned s view) → MayBeGone start s client view from to
 
@@ -225,22 +231,29 @@ pub record MissesBlock (start : Start) (s : State) (client : ℕ) (c : ModelClie
   pub fresh : fresh_view c.views (handle_of d.op) file window ≡ Some view
   pub gone : MayBeGone start s client view asked.from asked.to
 
--- the window that a compaction looks at first
-abbrev compaction_target : Tree → Caller → Op → Result (ℕ × ℕ) Fault
-compaction_target t who (op.Compact path window) =
+-- a file that a compaction is given, which may have no path
+abbrev given_file : Option Reply → ℕ → Result ℕ Fault
+given_file None inode = Ok inode
+given_file (Some refusal) inode = Err Invalid
+
+-- the window that a compaction looks at first: that of the inode that it is given, or of the file
+-- at its path
+abbrev compaction_target : Tree → ModelClient → Caller → Does → Op → Result (ℕ × ℕ) Fault
+compaction_target t c who (Compacts None) (op.Compact path window) =
     file_inode t who path >>= λ inode. Ok (inode, window)
-compaction_target t who o = Err Invalid
+compaction_target t c who (Compacts (Some inode)) (op.Compact path window) =
+    given_file (look_refusal t c inode) inode >>= λ inode. Ok (inode, window)
+compaction_target t c who does o = Err Invalid
 
 -- a block was missed, and the window wasn't looked at again yet
 abbrev pub has_to_look_again : Compaction → Bool
 has_to_look_again k = is_some k.missed && (k.view.entry == k.first)
 
--- A compaction looks at the window of its path's file first, and again after a block of it wasn't
--- found.
+-- A compaction looks at its window first, and again after a block of it wasn't found.
 pub data CompactionLooks (s : State) (client now : ℕ) (c : ModelClient) (d : Doing)
     (inode window : ℕ) : Type 0 where
   First : IsTrue (is_ready c d)
-      → compaction_target s.tree (caller c client now d.op) d.op ≡ Ok (inode, window)
+      → compaction_target s.tree c (caller c client now d.op) d.does d.op ≡ Ok (inode, window)
       → CompactionLooks s client now c d inode window
   Again : (k : Compaction) → d.stage ≡ Compacting k → IsTrue (has_to_look_again k)
       → inode ≡ k.view.inode → window ≡ k.view.window
@@ -311,7 +324,10 @@ cleaning_in c d = elim d.stage [
   | Missing misses window owed ↦ None
   | LookedAgain misses window owed ↦ None
   | Compacting k ↦ None
-  | Requesting requests ↦ None
+  | Listed ↦ None
+  | Judged ↦ None
+  | Removing requests ↦ None
+  | Published ↦ None
   | Replying answer ↦ None
 ]
 
@@ -329,10 +345,15 @@ pub record DropsFile (s : State) (inode : ℕ) : Type 0 where
   pub gone : node_at s.tree inode ≡ None
   pub once : is_among inode s.dropped ≡ false
 
+-- the row of a dead slice, behind its blocks
+pub data ForgetsSlice (s : State) (c : ModelClient) (d : Doing) : Type 0 where
+  OfOneBlock : CleansItem s c d OneBlock → ForgetsSlice s c d
+  OfBlocks : CleansItem s c d BlockRemoved → ForgetsSlice s c d
+
 abbrev pub CleansRow : State → ModelClient → Doing → ℕ → ℕ → Type 0
 CleansRow s c d table key =
     MatchBool (table == TABLE_OF_DROPPED) (CleansItem s c d Files × DropsFile s key)
-    ((table ≡ TABLE_OF_DEAD) × CleansItem s c d MoreBlocks)
+    ((table ≡ TABLE_OF_DEAD) × ForgetsSlice s c d)
 
 -- a request of a cleaning found nothing more in its part; blocks of slices are removed in any
 -- number
@@ -341,10 +362,16 @@ finds_none s c now Sessions = not (is_some (due_session s.tree (session_of c) no
 finds_none s c now Trash = not (is_some (due_purge s.tree now))
 finds_none s c now Files = true
 finds_none s c now Slices = true
-finds_none s c now Blocks = true
-finds_none s c now MoreBlocks = true
+finds_none s c now SliceAsked = true
+finds_none s c now OneBlock = true
+finds_none s c now BlockRemoved = true
 
 -- requests that changed nothing of the tree
+
+-- a compaction's first look is refused: by its path's walk, or as the inode that it is given is gone
+abbrev is_compaction_refused : State → ℕ → ℕ → ModelClient → Doing → Option ℕ → Bool
+is_compaction_refused s client now c d None = is_refused (transacted s client now d.op).reply
+is_compaction_refused s client now c d (Some inode) = is_some (look_refusal s.tree c inode)
 
 -- the first request after the flush
 abbrev may_begin_quietly : Start → State → ℕ → ℕ → ModelClient → Doing → Bool
@@ -357,7 +384,7 @@ may_begin_quietly start s client now c d = elim d.does [
       || is_some (look_refusal s.tree c (inode_at c (handle_of d.op)))
   | Truncates ↦ is_refused (transacted s client now d.op).reply || is_crowded start s
   | Copies ↦ is_refused (transacted s client now d.op).reply || is_crowded start s
-  | Compacts ↦ is_refused (transacted s client now d.op).reply
+  | Compacts given ↦ is_compaction_refused s client now c d given
   | DoesClean ↦ finds_none s c now Sessions || not (has_session s.tree c)
   | Collects delete ↦ true
   | Uploads ↦ true
@@ -375,7 +402,10 @@ may_be_quiet start s client now c d (Compacting k) =
     may_compact_on k || has_to_look_again k && is_some (look_refusal s.tree c k.view.inode)
 may_be_quiet start s client now c d (Cleans k) =
     nat_lt (items k) MAX_ITEMS && (finds_none s c now k.part || not (has_session s.tree c))
-may_be_quiet start s client now c d (Requesting requests) = is_collecting d.does
+may_be_quiet start s client now c d Listed = true
+may_be_quiet start s client now c d Judged = true
+may_be_quiet start s client now c d (Removing requests) = true
+may_be_quiet start s client now c d Published = false
 may_be_quiet start s client now c d (Replying answer) = false
 
 -- the client owes blocks of that commit
@@ -412,7 +442,10 @@ must_answer d = elim d.stage [
   | LookedAgain misses window owed ↦ nat_le MAX_MISSES misses
   | Compacting k ↦ k.has_replaced || is_some k.missed && not (has_to_look_again k)
   | Cleans k ↦ nat_le MAX_ITEMS (items k)
-  | Requesting requests ↦ not (is_collecting d.does)
+  | Listed ↦ false
+  | Judged ↦ false
+  | Removing requests ↦ false
+  | Published ↦ true
   | Replying answer ↦ true
 ]
 
@@ -441,7 +474,13 @@ told_of (reply.Uploaded None) = Fine 0 0 0 0
 told_of (reply.Uploaded (Some block)) = Fine block.id block.index block.size 1
 told_of (reply.CacheStats hits misses cached pending) = Fine hits misses cached pending
 
--- the session is gone at a transaction that needs it: all but the requests for blocks are
+-- whether the request that a cleaning just made may have been one for a slice's row
+abbrev may_forget : CleaningPart → Bool
+may_forget BlockRemoved = true
+may_forget _ = false
+
+-- Whether the request that was just made may have been a transaction that asks for the session, and
+-- for which its refusal isn't decided yet.
 abbrev asks_rows : ModelClient → Doing → Bool
 asks_rows c d = elim d.stage [
   | Working quiets started ↦ nat_le 3 quiets
@@ -452,8 +491,11 @@ asks_rows c d = elim d.stage [
   | Missing misses window owed ↦ false
   | LookedAgain misses window owed ↦ false
   | Compacting k ↦ may_compact_on k
-  | Cleans k ↦ true
-  | Requesting requests ↦ is_collecting d.does
+  | Cleans k ↦ may_forget k.part
+  | Listed ↦ false
+  | Judged ↦ false
+  | Removing requests ↦ nat_le 2 requests
+  | Published ↦ false
   | Replying answer ↦ false
 ]
 
@@ -466,7 +508,10 @@ inode_in_use c d = elim d.stage [
   | LookedAgain misses window owed ↦ None
   | Compacting k ↦ Some k.view.inode
   | Cleans k ↦ None
-  | Requesting requests ↦ None
+  | Listed ↦ None
+  | Judged ↦ None
+  | Removing requests ↦ None
+  | Published ↦ None
   | Replying answer ↦ None
 ]
 
@@ -491,19 +536,38 @@ commit_fits s now c segment =
     fits s.tree (committed s.tree now segment.inode segment.from
     (bytes_in_range segment.inode segment.from segment.len c.pending))
 
+-- A reading missed a block of a part that it asks for, and looked at its window again just now; what
+-- was owed when the block was missed.
+pub record ReadingMissed (c : ModelClient) (d : Doing) (view : View) (owed : List Owed)
+    (from to : ℕ) : Type 0 where
+  pub misses : ℕ
+  pub window : ℕ
+  pub file : OpenFile
+  pub asked : Asked
+  pub stage : d.stage ≡ LookedAgain misses window owed
+  pub opened : file_in_use c d ≡ Some file
+  pub part : part_in_use c (handle_of d.op) file (asked_of d.does) window ≡ Some asked
+  pub fresh : fresh_view c.views (handle_of d.op) file window ≡ Some view
+  pub begins : from ≡ asked.from
+  pub ends : to ≡ asked.to
+
+-- the same of a compaction, which asks for its whole window
+pub record CompactionMissed (d : Doing) (view : View) (owed : List Owed)
+    (from to : ℕ) : Type 0 where
+  pub k : Compaction
+  pub stage : d.stage ≡ Compacting k
+  pub missed : k.missed ≡ Some owed
+  pub later : k.first < k.view.entry
+  pub same : view ≡ k.view
+  pub begins : from ≡ window_start view.window
+  pub ends : to ≡ window_start (view.window + 1)
+
 -- A block was missed, and its window was looked at again just now: the view, what was owed when the
 -- block was missed, and the part of the file that is asked for.
 pub data IsMissed (c : ModelClient) (d : Doing) (view : View) (owed : List Owed)
     (from to : ℕ) : Type 0 where
-  InReading : (misses window : ℕ) → (file : OpenFile) → (asked : Asked)
-      → d.stage ≡ LookedAgain misses window owed → file_in_use c d ≡ Some file
-      → part_in_use c (handle_of d.op) file (asked_of d.does) window ≡ Some asked
-      → fresh_view c.views (handle_of d.op) file window ≡ Some view
-      → from ≡ asked.from → to ≡ asked.to → IsMissed c d view owed from to
-  InCompaction : (k : Compaction) → d.stage ≡ Compacting k → k.missed ≡ Some owed
-      → k.first < k.view.entry → view ≡ k.view
-      → from ≡ window_start view.window → to ≡ window_start (view.window + 1)
-      → IsMissed c d view owed from to
+  InReading : ReadingMissed c d view owed from to → IsMissed c d view owed from to
+  InCompaction : CompactionMissed d view owed from to → IsMissed c d view owed from to
 
 -- The refusal of a request that was just made, in this same step.
 pub data IsRefusedIn (start : Start) (s : State) (client now : ℕ) (c : ModelClient) (d : Doing)
@@ -523,32 +587,30 @@ pub data IsRefusedIn (start : Start) (s : State) (client now : ℕ) (c : ModelCl
   NumberRefused : quiets_in d.stage ≡ 1 → IsTrue (is_crowded start s) → fault ≡ NoSpace
       → IsRefusedIn start s client now c d fault
   CompactionCrowded : (k : Compaction) → d.stage ≡ Compacting k → IsTrue (may_compact_on k)
-      → IsTrue (is_crowded start s) → fault ≡ NoSpace
+      → IsTrue (has_session s.tree c) → IsTrue (is_crowded start s) → fault ≡ NoSpace
       → IsRefusedIn start s client now c d fault
   CompactionLate : (k : Compaction) → (started : ℕ) → d.stage ≡ Compacting k
       → IsTrue (may_compact_on k) → IsTrue (has_session s.tree c)
+      → IsTrue (is_some (node_at s.tree k.view.inode))
       → IsTrue (has_late_request started now k.quiets) → fault ≡ TimedOut started now
       → IsRefusedIn start s client now c d fault
   AnotherList : (k : Compaction) → (looked found : ℕ) → d.stage ≡ Compacting k
-      → k.has_replaced ≡ false → IsTrue (found_another s k)
+      → k.has_replaced ≡ false → IsTrue (has_session s.tree c)
+      → IsTrue (is_some (node_at s.tree k.view.inode)) → IsTrue (found_another s k)
       → IsTrue (not (is_some k.missed) || nat_lt k.first k.view.entry)
       → fault ≡ Contended (Lists looked found) → IsRefusedIn start s client now c d fault
-  BlockOwed : (position commit from to : ℕ) → (view : View) → (owed : List Owed)
+  BlockOwed : (position : ℕ) → (owner : Owner) → (from to : ℕ) → (view : View) → (owed : List Owed)
       → IsMissed c d view owed from to → from ≤ position → position < to
-      → missing_commit start.shelved owed client (view.origin position) ≡ Some commit
-      → fault ≡ TryAgain commit → IsRefusedIn start s client now c d fault
+      → missing_owner start.shelved owed client (view.origin position) ≡ Some owner
+      → fault ≡ TryAgain (owner_number owner) → IsRefusedIn start s client now c d fault
   MissedTooOften : (window : ℕ) → (owed : List Owed) → d.stage ≡ LookedAgain MAX_MISSES window owed
       → fault ≡ Contended (TooManyMisses MAX_MISSES)
       → IsRefusedIn start s client now c d fault
 
--- A collection has judged the page that it listed last, so that it may end.
-abbrev pub may_end_after : Does → ℕ → Bool
-may_end_after (Collects true) requests = nat_le 2 requests
-may_end_after (Collects false) requests = nat_le 2 requests && (requests % 2 == 0)
-may_end_after _ requests = false
-
+-- A collection may have judged the page that it listed last, so that it may end.
 abbrev pub has_judged : Does → Stage → Bool
-has_judged does (Requesting requests) = may_end_after does requests
+has_judged does Judged = is_collecting does
+has_judged does (Removing requests) = is_collecting does
 has_judged does _ = false
 
 -- no Commit of the client is owed
@@ -594,7 +656,7 @@ pub data EndsCompaction (d : Doing) (told : Told) : Type 0 where
 -- staged then
 pub data EndsUpload (alone : Bool) (s : State) (client : ℕ) (c : ModelClient) (d : Doing)
     (told : Told) : Type 0 where
-  Sent : (id index size : ℕ) → d.stage ≡ Requesting 1 → told ≡ Fine id index size 1
+  Sent : (id index size : ℕ) → d.stage ≡ Published → told ≡ Fine id index size 1
       → EndsUpload alone s client c d told
   FoundNone : IsTrue (is_ready c d) → d.moved ≡ false → IsTrue (not alone || owes_none s client)
       → told ≡ Fine 0 0 0 0 → EndsUpload alone s client c d told
@@ -604,7 +666,7 @@ pub data MayAnswer (start : Start) (alone : Bool) (s : State) (client now : ℕ)
     (d : Doing) (told : Told) : Type 0 where
   Fails : must_answer d ≡ false → IsTrue (is_failure told)
       → MayAnswer start alone s client now c d told
-  Settles : (answer : Reply) → d.stage ≡ Replying answer → told ≡ told_of answer
+  Decided : (answer : Reply) → d.stage ≡ Replying answer → told ≡ told_of answer
       → MayAnswer start alone s client now c d told
   AtOnce : AnswersAtOnce c d told → MayAnswer start alone s client now c d told
   CountsCache : (hits misses cached : ℕ) → IsTrue (is_ready c d) → d.moved ≡ false

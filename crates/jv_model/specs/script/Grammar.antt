@@ -1,6 +1,6 @@
 -- The whole grammar of a script: which line a text is, if it is one. A text is the bytes of a line
 -- without its line feed.
-use Rattle.std.specs.Prelude.{ℕ, ◌+◌, ◌%◌, Bool, true, false, ◌&&◌, not, ◌==◌, nat_lt, nat_le, if◌then◌else◌, List, [], ◌∷◌, ◌++◌, length, replicate, Option, None, Some, option_map, codes, bytes_eq, sum_by}
+use Rattle.std.specs.Prelude.{ℕ, ◌%◌, Bool, true, false, ◌&&◌, not, ◌==◌, nat_lt, nat_le, if◌then◌else◌, List, [], ◌∷◌, ◌++◌, length, replicate, Option, None, Some, option_map, codes, bytes_eq, sum_by}
 use Rattle.std.specs.List.{list_all, flat_map}
 use Rattle.jv_model.specs.declared.limits.TheConstants.{MAX_TICK, MAX_DATA, LAST_MOMENT}
 use Rattle.jv_model.specs.declared.options.TheConstants.{MAX_SHORT_NUMBER}

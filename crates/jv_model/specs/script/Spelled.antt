@@ -1,5 +1,5 @@
 -- What a line of a script can spell of the values that operations write.
-use Rattle.std.specs.Prelude.{ℕ, Bool, true, ◌&&◌, nat_lt, nat_le, length}
+use Rattle.std.specs.Prelude.{Bool, true, ◌&&◌, nat_lt, nat_le, length}
 use Rattle.jv_model.specs.declared.limits.TheConstants.{MAX_MODE}
 use Rattle.jv_model.specs.declared.op.Op.{Op}
 use Rattle.jv_model.specs.declared.op.Op.TheVariants as op

@@ -1,5 +1,5 @@
 -- For whom a transaction is made, and what comes of it.
-use Rattle.std.specs.Prelude.{ℕ, List, is_some, Result, Ok, Err}
+use Rattle.std.specs.Prelude.{ℕ, ◌||◌, ◌==◌, List, is_some, Result, Ok, Err}
 use Rattle.jv_model.specs.declared.fault.Fault.{Fault}
 use Rattle.jv_model.specs.declared.fault.Fault.TheVariants.{Stale}
 use Rattle.jv_model.specs.declared.fault.Gone.TheVariants.{Session}
@@ -38,6 +38,11 @@ done t = answered t Done
 -- a session is there
 abbrev pub session_there : Tree → ℕ → Result (Unit {0}) Fault
 session_there t sid = require (is_some (get t.sessions sid)) (Stale (Session sid))
+
+-- The same of a session that a command may go without: it cleans, collects and compacts as session
+-- 0, which is none and is never gone.
+abbrev pub session_if_any : Tree → ℕ → Result (Unit {0}) Fault
+session_if_any t sid = require ((sid == 0) || is_some (get t.sessions sid)) (Stale (Session sid))
 
 -- the caller's session is there
 abbrev pub in_session : Tree → Caller → Result (Unit {0}) Fault
