@@ -9,7 +9,7 @@ use Rattle.jv_model.specs.declared.basics.How.TheVariants.{Plain}
 use Rattle.jv_model.specs.declared.op.Line.TheVariants.{Do, Begin, Step, Run, Tick}
 use Rattle.jv_model.specs.declared.op.Op.TheVariants.{Mount, Lookup, Stat, Mkdir, Create, Open, Close, Flush, Read, Write, Copy, Readdir, Unlink, Rename, Compact, Clean, Gc}
 use Rattle.jv_model.specs.declared.setting.Setting.{Setting}
-use Rattle.jv_model.specs.journal.Steps.{Settles, AtOnce, ReadsViews, CleanedUp, HasCompacted, HasCollected, First, MayBeCleaned, HasReplaced, SessionGone, Refuses as IsRefusedBy}
+use Rattle.jv_model.specs.journal.Steps.{Decided, OfOneBlock, OfBlocks, AtOnce, ReadsViews, CleanedUp, HasCompacted, HasCollected, First, MayBeCleaned, HasReplaced, SessionGone, Refuses as IsRefusedBy}
 use Rattle.jv_model.specs.journal.Past.{Setup, text_of}
 use Rattle.jv_model.specs.journal.Legal.{Legal, Refuses}
 use Rattle.jv_model.proofs.ReplyTextExamples.{replies_on_literals}
@@ -99,55 +99,55 @@ unfolding journals_compute
 cleaned_block_is_legal = record {
   ends = refl;
   allowed =
-      record { line = refl; complete = refl; moment = refl; stands = record { own = refl; may = record { doing = _; busy = refl; begins_is = refl; may = record { ready = refl; transacts = refl; same = refl } } } }
-      ∴ record { line = refl; complete = refl; moment = refl; stands = record { own = refl; may = record { doing = _; busy = refl; begins_is = refl; may = Settles _ refl refl } } }
-      ∴ record { line = refl; complete = refl; moment = refl; stands = record { own = refl; may = record { doing = _; busy = refl; begins_is = refl; may = record { ready = refl; transacts = refl; same = refl } } } }
-      ∴ record { line = refl; complete = refl; moment = refl; stands = record { own = refl; may = record { doing = _; busy = refl; begins_is = refl; may = Settles _ refl refl } } }
-      ∴ record { line = refl; complete = refl; moment = refl; stands = record { own = refl; may = record { doing = _; busy = refl; begins_is = refl; may = record { ready = refl; transacts = refl; same = refl } } } }
-      ∴ record { line = refl; complete = refl; moment = refl; stands = record { own = refl; may = record { doing = _; busy = refl; begins_is = refl; may = Settles _ refl refl } } }
-      ∴ record { line = refl; complete = refl; moment = refl; stands = record { own = refl; may = record { doing = _; busy = refl; begins_is = refl; may = AtOnce (record { ready = refl; first = refl; same = refl }) } } }
-      ∴ record { line = refl; complete = refl; moment = refl; stands = record { own = refl; may = record { doing = _; busy = refl; begins_is = refl; may = refl } } }
-      ∴ record { line = refl; complete = refl; moment = refl; stands = record { own = refl; may = record { doing = _; busy = refl; begins_is = refl; may = refl } } }
-      ∴ record { line = refl; complete = refl; moment = refl; stands = record { own = refl; may = record { doing = _; busy = refl; begins_is = refl; may = refl } } }
-      ∴ record { line = refl; complete = refl; moment = refl; stands = record { own = refl; may = record { doing = _; busy = refl; begins_is = refl; may = record { requests = lit≤ tt; segment = refl; behind = refl; session = refl; file = refl; in_time = lit< tt; room = refl } } } }
-      ∴ record { line = refl; complete = refl; moment = refl; stands = record { own = refl; may = record { doing = _; busy = refl; begins_is = refl; may = Settles _ refl refl } } }
-      ∴ record { line = refl; complete = refl; moment = refl; stands = record { own = refl; may = record { doing = _; busy = refl; begins_is = refl; may = AtOnce (record { ready = refl; first = refl; same = refl }) } } }
-      ∴ record { line = refl; complete = refl; moment = refl; stands = record { own = refl; may = record { doing = _; busy = refl; begins_is = refl; may = refl } } }
-      ∴ record { line = refl; complete = refl; moment = refl; stands = record { own = refl; may = record { doing = _; busy = refl; begins_is = refl; may = refl } } }
-      ∴ record { line = refl; complete = refl; moment = refl; stands = record { own = refl; may = record { doing = _; busy = refl; begins_is = refl; may = record { requests = lit≤ tt; segment = refl; behind = refl; session = refl; file = refl; in_time = lit< tt; room = refl } } } }
-      ∴ record { line = refl; complete = refl; moment = refl; stands = record { own = refl; may = record { doing = _; busy = refl; begins_is = refl; may = Settles _ refl refl } } }
-      ∴ record { line = refl; complete = refl; moment = refl; stands = record { own = refl; may = record { doing = _; busy = refl; begins_is = refl; may = record { ready = refl; transacts = refl; same = refl } } } }
-      ∴ record { line = refl; complete = refl; moment = refl; stands = record { own = refl; may = record { doing = _; busy = refl; begins_is = refl; may = Settles _ refl refl } } }
-      ∴ record { line = refl; complete = refl; moment = refl; stands = record { own = refl; may = record { doing = _; busy = refl; begins_is = refl; may = record { goes_on = refl; file = (refl, refl); session = refl; there = refl } } } }
-      ∴ record { line = refl; complete = refl; moment = refl; stands = record { own = refl; may = record { doing = _; busy = refl; begins_is = refl; may = refl } } }
-      ∴ record { line = refl; complete = refl; moment = refl; stands = record { own = refl; may = record { doing = _; busy = refl; begins_is = refl; may = First refl refl } } }
-      ∴ record { line = refl; complete = refl; moment = refl; stands = record { own = refl; may = record { doing = _; busy = refl; begins_is = refl; may = refl } } }
-      ∴ record { line = refl; complete = refl; moment = refl; stands = record { own = refl; may = record { doing = _; busy = refl; begins_is = refl; may = refl } } }
-      ∴ record { line = refl; complete = refl; moment = refl; stands = record { own = refl; may = record { doing = _; busy = refl; begins_is = refl; may = refl } } }
-      ∴ record { line = refl; complete = refl; moment = refl; stands = record { own = refl; may = record { doing = _; busy = refl; begins_is = refl; may = refl } } }
-      ∴ record { line = refl; complete = refl; moment = refl; stands = record { own = refl; may = record { doing = _; busy = refl; begins_is = refl; may = refl } } }
-      ∴ record { line = refl; complete = refl; moment = refl; stands = record { own = refl; may = record { doing = _; busy = refl; begins_is = refl; may = refl } } }
-      ∴ record { line = refl; complete = refl; moment = refl; stands = record { own = refl; may = record { doing = _; busy = refl; begins_is = refl; may = refl } } }
-      ∴ record { line = refl; complete = refl; moment = refl; stands = record { own = refl; may = record { doing = _; busy = refl; begins_is = refl; may = record { k = _; stage = refl; goes_on = refl; own = (refl, refl); rises = lit≤ tt; ends = lit≤ tt; session = refl; there = refl; in_time = refl } } } }
-      ∴ record { line = refl; complete = refl; moment = refl; stands = record { own = refl; may = record { doing = _; busy = refl; begins_is = refl; may = HasCompacted (HasReplaced _ 2 1 refl refl (lit≤ tt) refl) } } }
-      ∴ record { line = refl; complete = refl; moment = refl; stands = record { own = refl; may = record { doing = _; busy = refl; begins_is = refl; may = refl } } }
-      ∴ record { line = refl; complete = refl; moment = refl; stands = record { own = refl; may = record { doing = _; busy = refl; begins_is = refl; may = refl } } }
-      ∴ record { line = refl; complete = refl; moment = refl; stands = record { own = refl; may = record { doing = _; busy = refl; begins_is = refl; may = refl } } }
-      ∴ record { line = refl; complete = refl; moment = refl; stands = record { own = refl; may = record { doing = _; busy = refl; begins_is = refl; may = refl } } }
-      ∴ record { line = refl; complete = refl; moment = refl; stands = record { own = refl; may = record { doing = _; busy = refl; begins_is = refl; may = refl } } }
-      ∴ record { line = refl; complete = refl; moment = refl; stands = record { own = refl; may = record { doing = _; busy = refl; begins_is = refl; may = refl } } }
-      ∴ record { line = refl; complete = refl; moment = refl; stands = record { own = refl; may = record { doing = _; busy = refl; begins_is = refl; may = (refl, record { k = _; stage = refl; at = refl; few = lit< tt; session = refl }) } } }
-      ∴ record { line = refl; complete = refl; moment = refl; stands = record { own = refl; may = record { doing = _; busy = refl; begins_is = refl; may = refl } } }
-      ∴ record { line = refl; complete = refl; moment = refl; stands = record { own = refl; may = record { doing = _; busy = refl; begins_is = refl; may = refl } } }
-      ∴ record { line = refl; complete = refl; moment = refl; stands = record { own = refl; may = record { doing = _; busy = refl; begins_is = refl; may = (refl, record { k = _; stage = refl; at = refl; few = lit< tt; session = refl }) } } }
-      ∴ record { line = refl; complete = refl; moment = refl; stands = record { own = refl; may = record { doing = _; busy = refl; begins_is = refl; may = refl } } }
-      ∴ record { line = refl; complete = refl; moment = refl; stands = record { own = refl; may = record { doing = _; busy = refl; begins_is = refl; may = CleanedUp (record { k = _; stage = refl; session = refl; over = refl; same = refl }) } } }
-      ∴ record { line = refl; complete = refl; moment = refl; stands = record { own = refl; may = record { doing = _; busy = refl; begins_is = refl; may = record { goes_on = refl; file = _; opened = refl; own = refl; asked = _; at = refl; view = _; fresh = refl; gone = MayBeCleaned refl } } } }
-      ∴ record { line = refl; complete = refl; moment = refl; stands = record { own = refl; may = record { doing = _; busy = refl; begins_is = refl; may = record { goes_on = refl; file = (refl, refl); session = refl; there = refl } } } }
-      ∴ record { line = refl; complete = refl; moment = refl; stands = record { own = refl; may = record { doing = _; busy = refl; begins_is = refl; may = refl } } }
-      ∴ record { line = refl; complete = refl; moment = refl; stands = record { own = refl; may = record { doing = _; busy = refl; begins_is = refl; may = refl } } }
-      ∴ record { line = refl; complete = refl; moment = refl; stands = record { own = refl; may = record { doing = _; busy = refl; begins_is = refl; may = refl } } }
-      ∴ record { line = refl; complete = refl; moment = refl; stands = record { own = refl; may = record { doing = _; busy = refl; begins_is = refl; may = ReadsViews (record { goes_on = refl; file = _; opened = refl; first = 45; second = 0; bytes = _; reads = refl; same = refl }) } } }
+      record { line = refl; complete = refl; moment = refl; stands = record { own = refl; behind = refl; may = record { doing = _; busy = refl; begins_is = refl; may = record { ready = refl; transacts = refl; same = refl } } } }
+      ∴ record { line = refl; complete = refl; moment = refl; stands = record { own = refl; behind = refl; may = record { doing = _; busy = refl; begins_is = refl; may = Decided _ refl refl } } }
+      ∴ record { line = refl; complete = refl; moment = refl; stands = record { own = refl; behind = refl; may = record { doing = _; busy = refl; begins_is = refl; may = record { ready = refl; transacts = refl; same = refl } } } }
+      ∴ record { line = refl; complete = refl; moment = refl; stands = record { own = refl; behind = refl; may = record { doing = _; busy = refl; begins_is = refl; may = Decided _ refl refl } } }
+      ∴ record { line = refl; complete = refl; moment = refl; stands = record { own = refl; behind = refl; may = record { doing = _; busy = refl; begins_is = refl; may = record { ready = refl; transacts = refl; same = refl } } } }
+      ∴ record { line = refl; complete = refl; moment = refl; stands = record { own = refl; behind = refl; may = record { doing = _; busy = refl; begins_is = refl; may = Decided _ refl refl } } }
+      ∴ record { line = refl; complete = refl; moment = refl; stands = record { own = refl; behind = refl; may = record { doing = _; busy = refl; begins_is = refl; may = AtOnce (record { ready = refl; first = refl; same = refl }) } } }
+      ∴ record { line = refl; complete = refl; moment = refl; stands = record { own = refl; behind = refl; may = record { doing = _; busy = refl; begins_is = refl; may = refl } } }
+      ∴ record { line = refl; complete = refl; moment = refl; stands = record { own = refl; behind = refl; may = record { doing = _; busy = refl; begins_is = refl; may = refl } } }
+      ∴ record { line = refl; complete = refl; moment = refl; stands = record { own = refl; behind = refl; may = record { doing = _; busy = refl; begins_is = refl; may = refl } } }
+      ∴ record { line = refl; complete = refl; moment = refl; stands = record { own = refl; behind = refl; may = record { doing = _; busy = refl; begins_is = refl; may = record { requests = lit≤ tt; segment = refl; behind = refl; session = refl; file = refl; in_time = lit< tt; room = refl } } } }
+      ∴ record { line = refl; complete = refl; moment = refl; stands = record { own = refl; behind = refl; may = record { doing = _; busy = refl; begins_is = refl; may = Decided _ refl refl } } }
+      ∴ record { line = refl; complete = refl; moment = refl; stands = record { own = refl; behind = refl; may = record { doing = _; busy = refl; begins_is = refl; may = AtOnce (record { ready = refl; first = refl; same = refl }) } } }
+      ∴ record { line = refl; complete = refl; moment = refl; stands = record { own = refl; behind = refl; may = record { doing = _; busy = refl; begins_is = refl; may = refl } } }
+      ∴ record { line = refl; complete = refl; moment = refl; stands = record { own = refl; behind = refl; may = record { doing = _; busy = refl; begins_is = refl; may = refl } } }
+      ∴ record { line = refl; complete = refl; moment = refl; stands = record { own = refl; behind = refl; may = record { doing = _; busy = refl; begins_is = refl; may = record { requests = lit≤ tt; segment = refl; behind = refl; session = refl; file = refl; in_time = lit< tt; room = refl } } } }
+      ∴ record { line = refl; complete = refl; moment = refl; stands = record { own = refl; behind = refl; may = record { doing = _; busy = refl; begins_is = refl; may = Decided _ refl refl } } }
+      ∴ record { line = refl; complete = refl; moment = refl; stands = record { own = refl; behind = refl; may = record { doing = _; busy = refl; begins_is = refl; may = record { ready = refl; transacts = refl; same = refl } } } }
+      ∴ record { line = refl; complete = refl; moment = refl; stands = record { own = refl; behind = refl; may = record { doing = _; busy = refl; begins_is = refl; may = Decided _ refl refl } } }
+      ∴ record { line = refl; complete = refl; moment = refl; stands = record { own = refl; behind = refl; may = record { doing = _; busy = refl; begins_is = refl; may = record { goes_on = refl; file = (refl, refl); session = refl; there = refl } } } }
+      ∴ record { line = refl; complete = refl; moment = refl; stands = record { own = refl; behind = refl; may = record { doing = _; busy = refl; begins_is = refl; may = refl } } }
+      ∴ record { line = refl; complete = refl; moment = refl; stands = record { own = refl; behind = refl; may = record { doing = _; busy = refl; begins_is = refl; may = First refl refl } } }
+      ∴ record { line = refl; complete = refl; moment = refl; stands = record { own = refl; behind = refl; may = record { doing = _; busy = refl; begins_is = refl; may = refl } } }
+      ∴ record { line = refl; complete = refl; moment = refl; stands = record { own = refl; behind = refl; may = record { doing = _; busy = refl; begins_is = refl; may = refl } } }
+      ∴ record { line = refl; complete = refl; moment = refl; stands = record { own = refl; behind = refl; may = record { doing = _; busy = refl; begins_is = refl; may = refl } } }
+      ∴ record { line = refl; complete = refl; moment = refl; stands = record { own = refl; behind = refl; may = record { doing = _; busy = refl; begins_is = refl; may = refl } } }
+      ∴ record { line = refl; complete = refl; moment = refl; stands = record { own = refl; behind = refl; may = record { doing = _; busy = refl; begins_is = refl; may = refl } } }
+      ∴ record { line = refl; complete = refl; moment = refl; stands = record { own = refl; behind = refl; may = record { doing = _; busy = refl; begins_is = refl; may = refl } } }
+      ∴ record { line = refl; complete = refl; moment = refl; stands = record { own = refl; behind = refl; may = record { doing = _; busy = refl; begins_is = refl; may = refl } } }
+      ∴ record { line = refl; complete = refl; moment = refl; stands = record { own = refl; behind = refl; may = record { doing = _; busy = refl; begins_is = refl; may = record { k = _; stage = refl; goes_on = refl; own = (refl, refl); rises = lit≤ tt; ends = lit≤ tt; session = refl; there = refl; in_time = refl } } } }
+      ∴ record { line = refl; complete = refl; moment = refl; stands = record { own = refl; behind = refl; may = record { doing = _; busy = refl; begins_is = refl; may = HasCompacted (HasReplaced _ 2 1 refl refl (lit≤ tt) refl) } } }
+      ∴ record { line = refl; complete = refl; moment = refl; stands = record { own = refl; behind = refl; may = record { doing = _; busy = refl; begins_is = refl; may = refl } } }
+      ∴ record { line = refl; complete = refl; moment = refl; stands = record { own = refl; behind = refl; may = record { doing = _; busy = refl; begins_is = refl; may = refl } } }
+      ∴ record { line = refl; complete = refl; moment = refl; stands = record { own = refl; behind = refl; may = record { doing = _; busy = refl; begins_is = refl; may = refl } } }
+      ∴ record { line = refl; complete = refl; moment = refl; stands = record { own = refl; behind = refl; may = record { doing = _; busy = refl; begins_is = refl; may = refl } } }
+      ∴ record { line = refl; complete = refl; moment = refl; stands = record { own = refl; behind = refl; may = record { doing = _; busy = refl; begins_is = refl; may = refl } } }
+      ∴ record { line = refl; complete = refl; moment = refl; stands = record { own = refl; behind = refl; may = record { doing = _; busy = refl; begins_is = refl; may = refl } } }
+      ∴ record { line = refl; complete = refl; moment = refl; stands = record { own = refl; behind = refl; may = record { doing = _; busy = refl; begins_is = refl; may = (refl, OfBlocks (record { k = _; stage = refl; at = refl; few = lit< tt; session = refl })) } } }
+      ∴ record { line = refl; complete = refl; moment = refl; stands = record { own = refl; behind = refl; may = record { doing = _; busy = refl; begins_is = refl; may = refl } } }
+      ∴ record { line = refl; complete = refl; moment = refl; stands = record { own = refl; behind = refl; may = record { doing = _; busy = refl; begins_is = refl; may = refl } } }
+      ∴ record { line = refl; complete = refl; moment = refl; stands = record { own = refl; behind = refl; may = record { doing = _; busy = refl; begins_is = refl; may = (refl, OfOneBlock (record { k = _; stage = refl; at = refl; few = lit< tt; session = refl })) } } }
+      ∴ record { line = refl; complete = refl; moment = refl; stands = record { own = refl; behind = refl; may = record { doing = _; busy = refl; begins_is = refl; may = refl } } }
+      ∴ record { line = refl; complete = refl; moment = refl; stands = record { own = refl; behind = refl; may = record { doing = _; busy = refl; begins_is = refl; may = CleanedUp (record { k = _; stage = refl; session = refl; over = refl; same = refl }) } } }
+      ∴ record { line = refl; complete = refl; moment = refl; stands = record { own = refl; behind = refl; may = record { doing = _; busy = refl; begins_is = refl; may = record { goes_on = refl; file = _; opened = refl; own = refl; asked = _; at = refl; view = _; fresh = refl; gone = MayBeCleaned refl } } } }
+      ∴ record { line = refl; complete = refl; moment = refl; stands = record { own = refl; behind = refl; may = record { doing = _; busy = refl; begins_is = refl; may = record { goes_on = refl; file = (refl, refl); session = refl; there = refl } } } }
+      ∴ record { line = refl; complete = refl; moment = refl; stands = record { own = refl; behind = refl; may = record { doing = _; busy = refl; begins_is = refl; may = refl } } }
+      ∴ record { line = refl; complete = refl; moment = refl; stands = record { own = refl; behind = refl; may = record { doing = _; busy = refl; begins_is = refl; may = refl } } }
+      ∴ record { line = refl; complete = refl; moment = refl; stands = record { own = refl; behind = refl; may = record { doing = _; busy = refl; begins_is = refl; may = refl } } }
+      ∴ record { line = refl; complete = refl; moment = refl; stands = record { own = refl; behind = refl; may = record { doing = _; busy = refl; begins_is = refl; may = ReadsViews (record { goes_on = refl; file = _; opened = refl; first = 45; second = 0; bytes = _; reads = refl; same = refl }) } } }
       ∴ tt;
 }
 
@@ -248,51 +248,51 @@ unfolding journals_compute
 sustained_is_legal = record {
   ends = refl;
   allowed =
-      record { line = refl; complete = refl; moment = refl; stands = record { own = refl; may = record { doing = _; busy = refl; begins_is = refl; may = record { ready = refl; transacts = refl; same = refl } } } }
-      ∴ record { line = refl; complete = refl; moment = refl; stands = record { own = refl; may = record { doing = _; busy = refl; begins_is = refl; may = Settles _ refl refl } } }
-      ∴ record { line = refl; complete = refl; moment = refl; stands = record { own = refl; may = record { doing = _; busy = refl; begins_is = refl; may = record { ready = refl; transacts = refl; same = refl } } } }
-      ∴ record { line = refl; complete = refl; moment = refl; stands = record { own = refl; may = record { doing = _; busy = refl; begins_is = refl; may = Settles _ refl refl } } }
-      ∴ record { line = refl; complete = refl; moment = refl; stands = record { own = refl; may = record { doing = _; busy = refl; begins_is = refl; may = record { ready = refl; transacts = refl; same = refl } } } }
-      ∴ record { line = refl; complete = refl; moment = refl; stands = record { own = refl; may = record { doing = _; busy = refl; begins_is = refl; may = Settles _ refl refl } } }
-      ∴ record { line = refl; complete = refl; moment = refl; stands = record { own = refl; may = record { doing = _; busy = refl; begins_is = refl; may = AtOnce (record { ready = refl; first = refl; same = refl }) } } }
-      ∴ record { line = refl; complete = refl; moment = refl; stands = record { own = refl; may = record { doing = _; busy = refl; begins_is = refl; may = refl } } }
-      ∴ record { line = refl; complete = refl; moment = refl; stands = record { own = refl; may = record { doing = _; busy = refl; begins_is = refl; may = refl } } }
-      ∴ record { line = refl; complete = refl; moment = refl; stands = record { own = refl; may = record { doing = _; busy = refl; begins_is = refl; may = record { requests = lit≤ tt; segment = refl; behind = refl; session = refl; file = refl; in_time = lit< tt; room = refl } } } }
-      ∴ record { line = refl; complete = refl; moment = refl; stands = record { own = refl; may = record { doing = _; busy = refl; begins_is = refl; may = Settles _ refl refl } } }
-      ∴ record { line = refl; complete = refl; moment = refl; stands = record { own = refl; may = record { doing = _; busy = refl; begins_is = refl; may = record { ready = refl; transacts = refl; same = refl } } } }
-      ∴ record { line = refl; complete = refl; moment = refl; stands = record { own = refl; may = record { doing = _; busy = refl; begins_is = refl; may = Settles _ refl refl } } }
-      ∴ record { line = refl; complete = refl; moment = refl; stands = record { own = refl; may = record { doing = _; busy = refl; begins_is = refl; may = record { ready = refl; transacts = refl; same = refl } } } }
-      ∴ record { line = refl; complete = refl; moment = refl; stands = record { own = refl; may = record { doing = _; busy = refl; begins_is = refl; may = Settles _ refl refl } } }
-      ∴ record { line = refl; complete = refl; moment = refl; stands = record { own = refl; may = record { doing = _; busy = refl; begins_is = refl; may = record { goes_on = refl; file = (refl, refl); session = refl; there = refl } } } }
-      ∴ record { line = refl; complete = refl; moment = refl; stands = record { own = refl; may = record { doing = _; busy = refl; begins_is = refl; may = refl } } }
-      ∴ record { line = refl; complete = refl; moment = refl; stands = record { own = refl; may = record { doing = _; busy = refl; begins_is = refl; may = ReadsViews (record { goes_on = refl; file = _; opened = refl; first = 16; second = 0; bytes = _; reads = refl; same = refl }) } } }
-      ∴ record { line = refl; complete = refl; moment = refl; stands = record { own = refl; may = record { doing = _; busy = refl; begins_is = refl; may = record { ready = refl; transacts = refl; same = refl } } } }
-      ∴ record { line = refl; complete = refl; moment = refl; stands = record { own = refl; may = record { doing = _; busy = refl; begins_is = refl; may = Settles _ refl refl } } }
-      ∴ record { line = refl; complete = refl; moment = refl; stands = record { own = refl; may = record { doing = _; busy = refl; begins_is = refl; may = record { ready = refl; transacts = refl; same = refl } } } }
-      ∴ record { line = refl; complete = refl; moment = refl; stands = record { own = refl; may = record { doing = _; busy = refl; begins_is = refl; may = Settles _ refl refl } } }
-      ∴ record { line = refl; complete = refl; moment = refl; stands = record { own = refl; may = record { doing = _; busy = refl; begins_is = refl; may = AtOnce (record { ready = refl; first = refl; same = refl }) } } }
-      ∴ record { line = refl; complete = refl; moment = refl; stands = record { own = refl; may = record { doing = _; busy = refl; begins_is = refl; may = refl } } }
-      ∴ record { line = refl; complete = refl; moment = refl; stands = record { own = refl; may = record { doing = _; busy = refl; begins_is = refl; may = refl } } }
-      ∴ record { line = refl; complete = refl; moment = refl; stands = record { own = refl; may = record { doing = _; busy = refl; begins_is = refl; may = record { requests = lit≤ tt; segment = refl; behind = refl; session = refl; file = refl; in_time = lit< tt; room = refl } } } }
-      ∴ record { line = refl; complete = refl; moment = refl; stands = record { own = refl; may = record { doing = _; busy = refl; begins_is = refl; may = Settles _ refl refl } } }
-      ∴ record { line = refl; complete = refl; moment = refl; stands = record { own = refl; may = record { doing = _; busy = refl; begins_is = refl; may = record { ready = refl; transacts = refl; same = refl } } } }
-      ∴ record { line = refl; complete = refl; moment = refl; stands = record { own = refl; may = record { doing = _; busy = refl; begins_is = refl; may = Settles _ refl refl } } }
-      ∴ record { line = refl; complete = refl; moment = refl; stands = record { own = refl; may = record { doing = _; busy = refl; begins_is = refl; may = refl } } }
-      ∴ record { line = refl; complete = refl; moment = refl; stands = record { own = refl; may = record { doing = _; busy = refl; begins_is = refl; may = Settles _ refl refl } } }
-      ∴ record { line = refl; complete = refl; moment = refl; stands = record { own = refl; may = record { doing = _; busy = refl; begins_is = refl; may = AtOnce (record { ready = refl; first = refl; same = refl }) } } }
-      ∴ record { line = refl; complete = refl; moment = refl; stands = record { own = refl; may = record { doing = _; busy = refl; begins_is = refl; may = refl } } }
-      ∴ record { line = refl; complete = refl; moment = refl; stands = record { own = refl; may = record { doing = _; busy = refl; begins_is = refl; may = refl } } }
-      ∴ record { line = refl; complete = refl; moment = refl; stands = record { own = refl; may = record { doing = _; busy = refl; begins_is = refl; may = (record { k = _; stage = refl; at = refl; few = lit< tt; session = refl }, record { was = lit< tt; gone = refl; once = refl }) } } }
-      ∴ record { line = refl; complete = refl; moment = refl; stands = record { own = refl; may = record { doing = _; busy = refl; begins_is = refl; may = (record { k = _; stage = refl; at = refl; few = lit< tt; session = refl }, record { was = lit< tt; gone = refl; once = refl }) } } }
-      ∴ record { line = refl; complete = refl; moment = refl; stands = record { own = refl; may = record { doing = _; busy = refl; begins_is = refl; may = refl } } }
-      ∴ record { line = refl; complete = refl; moment = refl; stands = record { own = refl; may = record { doing = _; busy = refl; begins_is = refl; may = refl } } }
-      ∴ record { line = refl; complete = refl; moment = refl; stands = record { own = refl; may = record { doing = _; busy = refl; begins_is = refl; may = refl } } }
-      ∴ record { line = refl; complete = refl; moment = refl; stands = record { own = refl; may = record { doing = _; busy = refl; begins_is = refl; may = (refl, record { k = _; stage = refl; at = refl; few = lit< tt; session = refl }) } } }
-      ∴ record { line = refl; complete = refl; moment = refl; stands = record { own = refl; may = record { doing = _; busy = refl; begins_is = refl; may = refl } } }
-      ∴ record { line = refl; complete = refl; moment = refl; stands = record { own = refl; may = record { doing = _; busy = refl; begins_is = refl; may = refl } } }
-      ∴ record { line = refl; complete = refl; moment = refl; stands = record { own = refl; may = record { doing = _; busy = refl; begins_is = refl; may = (refl, record { k = _; stage = refl; at = refl; few = lit< tt; session = refl }) } } }
-      ∴ record { line = refl; complete = refl; moment = refl; stands = record { own = refl; may = record { doing = _; busy = refl; begins_is = refl; may = refl } } }
-      ∴ record { line = refl; complete = refl; moment = refl; stands = record { own = refl; may = record { doing = _; busy = refl; begins_is = refl; may = CleanedUp (record { k = _; stage = refl; session = refl; over = refl; same = refl }) } } }
+      record { line = refl; complete = refl; moment = refl; stands = record { own = refl; behind = refl; may = record { doing = _; busy = refl; begins_is = refl; may = record { ready = refl; transacts = refl; same = refl } } } }
+      ∴ record { line = refl; complete = refl; moment = refl; stands = record { own = refl; behind = refl; may = record { doing = _; busy = refl; begins_is = refl; may = Decided _ refl refl } } }
+      ∴ record { line = refl; complete = refl; moment = refl; stands = record { own = refl; behind = refl; may = record { doing = _; busy = refl; begins_is = refl; may = record { ready = refl; transacts = refl; same = refl } } } }
+      ∴ record { line = refl; complete = refl; moment = refl; stands = record { own = refl; behind = refl; may = record { doing = _; busy = refl; begins_is = refl; may = Decided _ refl refl } } }
+      ∴ record { line = refl; complete = refl; moment = refl; stands = record { own = refl; behind = refl; may = record { doing = _; busy = refl; begins_is = refl; may = record { ready = refl; transacts = refl; same = refl } } } }
+      ∴ record { line = refl; complete = refl; moment = refl; stands = record { own = refl; behind = refl; may = record { doing = _; busy = refl; begins_is = refl; may = Decided _ refl refl } } }
+      ∴ record { line = refl; complete = refl; moment = refl; stands = record { own = refl; behind = refl; may = record { doing = _; busy = refl; begins_is = refl; may = AtOnce (record { ready = refl; first = refl; same = refl }) } } }
+      ∴ record { line = refl; complete = refl; moment = refl; stands = record { own = refl; behind = refl; may = record { doing = _; busy = refl; begins_is = refl; may = refl } } }
+      ∴ record { line = refl; complete = refl; moment = refl; stands = record { own = refl; behind = refl; may = record { doing = _; busy = refl; begins_is = refl; may = refl } } }
+      ∴ record { line = refl; complete = refl; moment = refl; stands = record { own = refl; behind = refl; may = record { doing = _; busy = refl; begins_is = refl; may = record { requests = lit≤ tt; segment = refl; behind = refl; session = refl; file = refl; in_time = lit< tt; room = refl } } } }
+      ∴ record { line = refl; complete = refl; moment = refl; stands = record { own = refl; behind = refl; may = record { doing = _; busy = refl; begins_is = refl; may = Decided _ refl refl } } }
+      ∴ record { line = refl; complete = refl; moment = refl; stands = record { own = refl; behind = refl; may = record { doing = _; busy = refl; begins_is = refl; may = record { ready = refl; transacts = refl; same = refl } } } }
+      ∴ record { line = refl; complete = refl; moment = refl; stands = record { own = refl; behind = refl; may = record { doing = _; busy = refl; begins_is = refl; may = Decided _ refl refl } } }
+      ∴ record { line = refl; complete = refl; moment = refl; stands = record { own = refl; behind = refl; may = record { doing = _; busy = refl; begins_is = refl; may = record { ready = refl; transacts = refl; same = refl } } } }
+      ∴ record { line = refl; complete = refl; moment = refl; stands = record { own = refl; behind = refl; may = record { doing = _; busy = refl; begins_is = refl; may = Decided _ refl refl } } }
+      ∴ record { line = refl; complete = refl; moment = refl; stands = record { own = refl; behind = refl; may = record { doing = _; busy = refl; begins_is = refl; may = record { goes_on = refl; file = (refl, refl); session = refl; there = refl } } } }
+      ∴ record { line = refl; complete = refl; moment = refl; stands = record { own = refl; behind = refl; may = record { doing = _; busy = refl; begins_is = refl; may = refl } } }
+      ∴ record { line = refl; complete = refl; moment = refl; stands = record { own = refl; behind = refl; may = record { doing = _; busy = refl; begins_is = refl; may = ReadsViews (record { goes_on = refl; file = _; opened = refl; first = 16; second = 0; bytes = _; reads = refl; same = refl }) } } }
+      ∴ record { line = refl; complete = refl; moment = refl; stands = record { own = refl; behind = refl; may = record { doing = _; busy = refl; begins_is = refl; may = record { ready = refl; transacts = refl; same = refl } } } }
+      ∴ record { line = refl; complete = refl; moment = refl; stands = record { own = refl; behind = refl; may = record { doing = _; busy = refl; begins_is = refl; may = Decided _ refl refl } } }
+      ∴ record { line = refl; complete = refl; moment = refl; stands = record { own = refl; behind = refl; may = record { doing = _; busy = refl; begins_is = refl; may = record { ready = refl; transacts = refl; same = refl } } } }
+      ∴ record { line = refl; complete = refl; moment = refl; stands = record { own = refl; behind = refl; may = record { doing = _; busy = refl; begins_is = refl; may = Decided _ refl refl } } }
+      ∴ record { line = refl; complete = refl; moment = refl; stands = record { own = refl; behind = refl; may = record { doing = _; busy = refl; begins_is = refl; may = AtOnce (record { ready = refl; first = refl; same = refl }) } } }
+      ∴ record { line = refl; complete = refl; moment = refl; stands = record { own = refl; behind = refl; may = record { doing = _; busy = refl; begins_is = refl; may = refl } } }
+      ∴ record { line = refl; complete = refl; moment = refl; stands = record { own = refl; behind = refl; may = record { doing = _; busy = refl; begins_is = refl; may = refl } } }
+      ∴ record { line = refl; complete = refl; moment = refl; stands = record { own = refl; behind = refl; may = record { doing = _; busy = refl; begins_is = refl; may = record { requests = lit≤ tt; segment = refl; behind = refl; session = refl; file = refl; in_time = lit< tt; room = refl } } } }
+      ∴ record { line = refl; complete = refl; moment = refl; stands = record { own = refl; behind = refl; may = record { doing = _; busy = refl; begins_is = refl; may = Decided _ refl refl } } }
+      ∴ record { line = refl; complete = refl; moment = refl; stands = record { own = refl; behind = refl; may = record { doing = _; busy = refl; begins_is = refl; may = record { ready = refl; transacts = refl; same = refl } } } }
+      ∴ record { line = refl; complete = refl; moment = refl; stands = record { own = refl; behind = refl; may = record { doing = _; busy = refl; begins_is = refl; may = Decided _ refl refl } } }
+      ∴ record { line = refl; complete = refl; moment = refl; stands = record { own = refl; behind = refl; may = record { doing = _; busy = refl; begins_is = refl; may = refl } } }
+      ∴ record { line = refl; complete = refl; moment = refl; stands = record { own = refl; behind = refl; may = record { doing = _; busy = refl; begins_is = refl; may = Decided _ refl refl } } }
+      ∴ record { line = refl; complete = refl; moment = refl; stands = record { own = refl; behind = refl; may = record { doing = _; busy = refl; begins_is = refl; may = AtOnce (record { ready = refl; first = refl; same = refl }) } } }
+      ∴ record { line = refl; complete = refl; moment = refl; stands = record { own = refl; behind = refl; may = record { doing = _; busy = refl; begins_is = refl; may = refl } } }
+      ∴ record { line = refl; complete = refl; moment = refl; stands = record { own = refl; behind = refl; may = record { doing = _; busy = refl; begins_is = refl; may = refl } } }
+      ∴ record { line = refl; complete = refl; moment = refl; stands = record { own = refl; behind = refl; may = record { doing = _; busy = refl; begins_is = refl; may = (record { k = _; stage = refl; at = refl; few = lit< tt; session = refl }, record { was = lit< tt; gone = refl; once = refl }) } } }
+      ∴ record { line = refl; complete = refl; moment = refl; stands = record { own = refl; behind = refl; may = record { doing = _; busy = refl; begins_is = refl; may = (record { k = _; stage = refl; at = refl; few = lit< tt; session = refl }, record { was = lit< tt; gone = refl; once = refl }) } } }
+      ∴ record { line = refl; complete = refl; moment = refl; stands = record { own = refl; behind = refl; may = record { doing = _; busy = refl; begins_is = refl; may = refl } } }
+      ∴ record { line = refl; complete = refl; moment = refl; stands = record { own = refl; behind = refl; may = record { doing = _; busy = refl; begins_is = refl; may = refl } } }
+      ∴ record { line = refl; complete = refl; moment = refl; stands = record { own = refl; behind = refl; may = record { doing = _; busy = refl; begins_is = refl; may = refl } } }
+      ∴ record { line = refl; complete = refl; moment = refl; stands = record { own = refl; behind = refl; may = record { doing = _; busy = refl; begins_is = refl; may = (refl, OfOneBlock (record { k = _; stage = refl; at = refl; few = lit< tt; session = refl })) } } }
+      ∴ record { line = refl; complete = refl; moment = refl; stands = record { own = refl; behind = refl; may = record { doing = _; busy = refl; begins_is = refl; may = refl } } }
+      ∴ record { line = refl; complete = refl; moment = refl; stands = record { own = refl; behind = refl; may = record { doing = _; busy = refl; begins_is = refl; may = refl } } }
+      ∴ record { line = refl; complete = refl; moment = refl; stands = record { own = refl; behind = refl; may = record { doing = _; busy = refl; begins_is = refl; may = (refl, OfOneBlock (record { k = _; stage = refl; at = refl; few = lit< tt; session = refl })) } } }
+      ∴ record { line = refl; complete = refl; moment = refl; stands = record { own = refl; behind = refl; may = record { doing = _; busy = refl; begins_is = refl; may = refl } } }
+      ∴ record { line = refl; complete = refl; moment = refl; stands = record { own = refl; behind = refl; may = record { doing = _; busy = refl; begins_is = refl; may = CleanedUp (record { k = _; stage = refl; session = refl; over = refl; same = refl }) } } }
       ∴ tt;
 }
 
@@ -375,36 +375,36 @@ unfolding journals_compute
 copied_is_legal = record {
   ends = refl;
   allowed =
-      record { line = refl; complete = refl; moment = refl; stands = record { own = refl; may = record { doing = _; busy = refl; begins_is = refl; may = record { ready = refl; transacts = refl; same = refl } } } }
-      ∴ record { line = refl; complete = refl; moment = refl; stands = record { own = refl; may = record { doing = _; busy = refl; begins_is = refl; may = Settles _ refl refl } } }
-      ∴ record { line = refl; complete = refl; moment = refl; stands = record { own = refl; may = record { doing = _; busy = refl; begins_is = refl; may = record { ready = refl; transacts = refl; same = refl } } } }
-      ∴ record { line = refl; complete = refl; moment = refl; stands = record { own = refl; may = record { doing = _; busy = refl; begins_is = refl; may = Settles _ refl refl } } }
-      ∴ record { line = refl; complete = refl; moment = refl; stands = record { own = refl; may = record { doing = _; busy = refl; begins_is = refl; may = AtOnce (record { ready = refl; first = refl; same = refl }) } } }
-      ∴ record { line = refl; complete = refl; moment = refl; stands = record { own = refl; may = record { doing = _; busy = refl; begins_is = refl; may = refl } } }
-      ∴ record { line = refl; complete = refl; moment = refl; stands = record { own = refl; may = record { doing = _; busy = refl; begins_is = refl; may = refl } } }
-      ∴ record { line = refl; complete = refl; moment = refl; stands = record { own = refl; may = record { doing = _; busy = refl; begins_is = refl; may = refl } } }
-      ∴ record { line = refl; complete = refl; moment = refl; stands = record { own = refl; may = record { doing = _; busy = refl; begins_is = refl; may = record { requests = lit≤ tt; segment = refl; behind = refl; session = refl; file = refl; in_time = lit< tt; room = refl } } } }
-      ∴ record { line = refl; complete = refl; moment = refl; stands = record { own = refl; may = record { doing = _; busy = refl; begins_is = refl; may = Settles _ refl refl } } }
-      ∴ record { line = refl; complete = refl; moment = refl; stands = record { own = refl; may = record { doing = _; busy = refl; begins_is = refl; may = record { ready = refl; transacts = refl; same = refl } } } }
-      ∴ record { line = refl; complete = refl; moment = refl; stands = record { own = refl; may = record { doing = _; busy = refl; begins_is = refl; may = Settles _ refl refl } } }
-      ∴ record { line = refl; complete = refl; moment = refl; stands = record { own = refl; may = record { doing = _; busy = refl; begins_is = refl; may = record { ready = refl; same = refl } } } }
-      ∴ record { line = refl; complete = refl; moment = refl; stands = record { own = refl; may = record { doing = _; busy = refl; begins_is = refl; may = Settles _ refl refl } } }
-      ∴ record { line = refl; complete = refl; moment = refl; stands = record { own = refl; may = record { doing = _; busy = refl; begins_is = refl; may = AtOnce (record { ready = refl; first = refl; same = refl }) } } }
-      ∴ record { line = refl; complete = refl; moment = refl; stands = record { own = refl; may = record { doing = _; busy = refl; begins_is = refl; may = record { ready = refl; transacts = refl; same = refl } } } }
-      ∴ record { line = refl; complete = refl; moment = refl; stands = record { own = refl; may = record { doing = _; busy = refl; begins_is = refl; may = Settles _ refl refl } } }
-      ∴ record { line = refl; complete = refl; moment = refl; stands = record { own = refl; may = record { doing = _; busy = refl; begins_is = refl; may = refl } } }
-      ∴ record { line = refl; complete = refl; moment = refl; stands = record { own = refl; may = record { doing = _; busy = refl; begins_is = refl; may = refl } } }
-      ∴ record { line = refl; complete = refl; moment = refl; stands = record { own = refl; may = record { doing = _; busy = refl; begins_is = refl; may = (record { k = _; stage = refl; at = refl; few = lit< tt; session = refl }, record { was = lit< tt; gone = refl; once = refl }) } } }
-      ∴ record { line = refl; complete = refl; moment = refl; stands = record { own = refl; may = record { doing = _; busy = refl; begins_is = refl; may = refl } } }
-      ∴ record { line = refl; complete = refl; moment = refl; stands = record { own = refl; may = record { doing = _; busy = refl; begins_is = refl; may = refl } } }
-      ∴ record { line = refl; complete = refl; moment = refl; stands = record { own = refl; may = record { doing = _; busy = refl; begins_is = refl; may = CleanedUp (record { k = _; stage = refl; session = refl; over = refl; same = refl }) } } }
+      record { line = refl; complete = refl; moment = refl; stands = record { own = refl; behind = refl; may = record { doing = _; busy = refl; begins_is = refl; may = record { ready = refl; transacts = refl; same = refl } } } }
+      ∴ record { line = refl; complete = refl; moment = refl; stands = record { own = refl; behind = refl; may = record { doing = _; busy = refl; begins_is = refl; may = Decided _ refl refl } } }
+      ∴ record { line = refl; complete = refl; moment = refl; stands = record { own = refl; behind = refl; may = record { doing = _; busy = refl; begins_is = refl; may = record { ready = refl; transacts = refl; same = refl } } } }
+      ∴ record { line = refl; complete = refl; moment = refl; stands = record { own = refl; behind = refl; may = record { doing = _; busy = refl; begins_is = refl; may = Decided _ refl refl } } }
+      ∴ record { line = refl; complete = refl; moment = refl; stands = record { own = refl; behind = refl; may = record { doing = _; busy = refl; begins_is = refl; may = AtOnce (record { ready = refl; first = refl; same = refl }) } } }
+      ∴ record { line = refl; complete = refl; moment = refl; stands = record { own = refl; behind = refl; may = record { doing = _; busy = refl; begins_is = refl; may = refl } } }
+      ∴ record { line = refl; complete = refl; moment = refl; stands = record { own = refl; behind = refl; may = record { doing = _; busy = refl; begins_is = refl; may = refl } } }
+      ∴ record { line = refl; complete = refl; moment = refl; stands = record { own = refl; behind = refl; may = record { doing = _; busy = refl; begins_is = refl; may = refl } } }
+      ∴ record { line = refl; complete = refl; moment = refl; stands = record { own = refl; behind = refl; may = record { doing = _; busy = refl; begins_is = refl; may = record { requests = lit≤ tt; segment = refl; behind = refl; session = refl; file = refl; in_time = lit< tt; room = refl } } } }
+      ∴ record { line = refl; complete = refl; moment = refl; stands = record { own = refl; behind = refl; may = record { doing = _; busy = refl; begins_is = refl; may = Decided _ refl refl } } }
+      ∴ record { line = refl; complete = refl; moment = refl; stands = record { own = refl; behind = refl; may = record { doing = _; busy = refl; begins_is = refl; may = record { ready = refl; transacts = refl; same = refl } } } }
+      ∴ record { line = refl; complete = refl; moment = refl; stands = record { own = refl; behind = refl; may = record { doing = _; busy = refl; begins_is = refl; may = Decided _ refl refl } } }
+      ∴ record { line = refl; complete = refl; moment = refl; stands = record { own = refl; behind = refl; may = record { doing = _; busy = refl; begins_is = refl; may = record { ready = refl; same = refl } } } }
+      ∴ record { line = refl; complete = refl; moment = refl; stands = record { own = refl; behind = refl; may = record { doing = _; busy = refl; begins_is = refl; may = Decided _ refl refl } } }
+      ∴ record { line = refl; complete = refl; moment = refl; stands = record { own = refl; behind = refl; may = record { doing = _; busy = refl; begins_is = refl; may = AtOnce (record { ready = refl; first = refl; same = refl }) } } }
+      ∴ record { line = refl; complete = refl; moment = refl; stands = record { own = refl; behind = refl; may = record { doing = _; busy = refl; begins_is = refl; may = record { ready = refl; transacts = refl; same = refl } } } }
+      ∴ record { line = refl; complete = refl; moment = refl; stands = record { own = refl; behind = refl; may = record { doing = _; busy = refl; begins_is = refl; may = Decided _ refl refl } } }
+      ∴ record { line = refl; complete = refl; moment = refl; stands = record { own = refl; behind = refl; may = record { doing = _; busy = refl; begins_is = refl; may = refl } } }
+      ∴ record { line = refl; complete = refl; moment = refl; stands = record { own = refl; behind = refl; may = record { doing = _; busy = refl; begins_is = refl; may = refl } } }
+      ∴ record { line = refl; complete = refl; moment = refl; stands = record { own = refl; behind = refl; may = record { doing = _; busy = refl; begins_is = refl; may = (record { k = _; stage = refl; at = refl; few = lit< tt; session = refl }, record { was = lit< tt; gone = refl; once = refl }) } } }
+      ∴ record { line = refl; complete = refl; moment = refl; stands = record { own = refl; behind = refl; may = record { doing = _; busy = refl; begins_is = refl; may = refl } } }
+      ∴ record { line = refl; complete = refl; moment = refl; stands = record { own = refl; behind = refl; may = record { doing = _; busy = refl; begins_is = refl; may = refl } } }
+      ∴ record { line = refl; complete = refl; moment = refl; stands = record { own = refl; behind = refl; may = record { doing = _; busy = refl; begins_is = refl; may = CleanedUp (record { k = _; stage = refl; session = refl; over = refl; same = refl }) } } }
       ∴ record { line = refl; complete = refl; moment = refl; stands = (refl, refl) }
-      ∴ record { line = refl; complete = refl; moment = refl; stands = record { own = refl; may = record { doing = _; busy = refl; begins_is = refl; may = refl } } }
-      ∴ record { line = refl; complete = refl; moment = refl; stands = record { own = refl; may = record { doing = _; busy = refl; begins_is = refl; may = refl } } }
-      ∴ record { line = refl; complete = refl; moment = refl; stands = record { own = refl; may = record { doing = _; busy = refl; begins_is = refl; may = HasCollected 0 0 refl refl } } }
-      ∴ record { line = refl; complete = refl; moment = refl; stands = record { own = refl; may = record { doing = _; busy = refl; begins_is = refl; may = record { goes_on = refl; file = (refl, refl); session = refl; there = refl } } } }
-      ∴ record { line = refl; complete = refl; moment = refl; stands = record { own = refl; may = record { doing = _; busy = refl; begins_is = refl; may = refl } } }
-      ∴ record { line = refl; complete = refl; moment = refl; stands = record { own = refl; may = record { doing = _; busy = refl; begins_is = refl; may = ReadsViews (record { goes_on = refl; file = _; opened = refl; first = 28; second = 0; bytes = _; reads = refl; same = refl }) } } }
+      ∴ record { line = refl; complete = refl; moment = refl; stands = record { own = refl; behind = refl; may = record { doing = _; busy = refl; begins_is = refl; may = refl } } }
+      ∴ record { line = refl; complete = refl; moment = refl; stands = record { own = refl; behind = refl; may = record { doing = _; busy = refl; begins_is = refl; may = refl } } }
+      ∴ record { line = refl; complete = refl; moment = refl; stands = record { own = refl; behind = refl; may = record { doing = _; busy = refl; begins_is = refl; may = HasCollected 0 0 refl refl } } }
+      ∴ record { line = refl; complete = refl; moment = refl; stands = record { own = refl; behind = refl; may = record { doing = _; busy = refl; begins_is = refl; may = record { goes_on = refl; file = (refl, refl); session = refl; there = refl } } } }
+      ∴ record { line = refl; complete = refl; moment = refl; stands = record { own = refl; behind = refl; may = record { doing = _; busy = refl; begins_is = refl; may = refl } } }
+      ∴ record { line = refl; complete = refl; moment = refl; stands = record { own = refl; behind = refl; may = record { doing = _; busy = refl; begins_is = refl; may = ReadsViews (record { goes_on = refl; file = _; opened = refl; first = 28; second = 0; bytes = _; reads = refl; same = refl }) } } }
       ∴ tt;
 }
 
@@ -491,37 +491,37 @@ unfolding journals_compute
 expired_cleaner_is_legal = record {
   ends = refl;
   allowed =
-      record { line = refl; complete = refl; moment = refl; stands = record { own = refl; may = record { doing = _; busy = refl; begins_is = refl; may = record { ready = refl; transacts = refl; same = refl } } } }
-      ∴ record { line = refl; complete = refl; moment = refl; stands = record { own = refl; may = record { doing = _; busy = refl; begins_is = refl; may = Settles _ refl refl } } }
-      ∴ record { line = refl; complete = refl; moment = refl; stands = record { own = refl; may = record { doing = _; busy = refl; begins_is = refl; may = record { ready = refl; transacts = refl; same = refl } } } }
-      ∴ record { line = refl; complete = refl; moment = refl; stands = record { own = refl; may = record { doing = _; busy = refl; begins_is = refl; may = Settles _ refl refl } } }
-      ∴ record { line = refl; complete = refl; moment = refl; stands = record { own = refl; may = record { doing = _; busy = refl; begins_is = refl; may = record { ready = refl; transacts = refl; same = refl } } } }
-      ∴ record { line = refl; complete = refl; moment = refl; stands = record { own = refl; may = record { doing = _; busy = refl; begins_is = refl; may = Settles _ refl refl } } }
-      ∴ record { line = refl; complete = refl; moment = refl; stands = record { own = refl; may = record { doing = _; busy = refl; begins_is = refl; may = AtOnce (record { ready = refl; first = refl; same = refl }) } } }
-      ∴ record { line = refl; complete = refl; moment = refl; stands = record { own = refl; may = record { doing = _; busy = refl; begins_is = refl; may = refl } } }
-      ∴ record { line = refl; complete = refl; moment = refl; stands = record { own = refl; may = record { doing = _; busy = refl; begins_is = refl; may = refl } } }
-      ∴ record { line = refl; complete = refl; moment = refl; stands = record { own = refl; may = record { doing = _; busy = refl; begins_is = refl; may = record { requests = lit≤ tt; segment = refl; behind = refl; session = refl; file = refl; in_time = lit< tt; room = refl } } } }
-      ∴ record { line = refl; complete = refl; moment = refl; stands = record { own = refl; may = record { doing = _; busy = refl; begins_is = refl; may = Settles _ refl refl } } }
-      ∴ record { line = refl; complete = refl; moment = refl; stands = record { own = refl; may = record { doing = _; busy = refl; begins_is = refl; may = record { ready = refl; transacts = refl; same = refl } } } }
-      ∴ record { line = refl; complete = refl; moment = refl; stands = record { own = refl; may = record { doing = _; busy = refl; begins_is = refl; may = Settles _ refl refl } } }
-      ∴ record { line = refl; complete = refl; moment = refl; stands = record { own = refl; may = record { doing = _; busy = refl; begins_is = refl; may = refl } } }
-      ∴ record { line = refl; complete = refl; moment = refl; stands = record { own = refl; may = record { doing = _; busy = refl; begins_is = refl; may = refl } } }
-      ∴ record { line = refl; complete = refl; moment = refl; stands = record { own = refl; may = record { doing = _; busy = refl; begins_is = refl; may = (record { k = _; stage = refl; at = refl; few = lit< tt; session = refl }, record { was = lit< tt; gone = refl; once = refl }) } } }
-      ∴ record { line = refl; complete = refl; moment = refl; stands = record { own = refl; may = record { doing = _; busy = refl; begins_is = refl; may = refl } } }
-      ∴ record { line = refl; complete = refl; moment = refl; stands = record { own = refl; may = record { doing = _; busy = refl; begins_is = refl; may = refl } } }
+      record { line = refl; complete = refl; moment = refl; stands = record { own = refl; behind = refl; may = record { doing = _; busy = refl; begins_is = refl; may = record { ready = refl; transacts = refl; same = refl } } } }
+      ∴ record { line = refl; complete = refl; moment = refl; stands = record { own = refl; behind = refl; may = record { doing = _; busy = refl; begins_is = refl; may = Decided _ refl refl } } }
+      ∴ record { line = refl; complete = refl; moment = refl; stands = record { own = refl; behind = refl; may = record { doing = _; busy = refl; begins_is = refl; may = record { ready = refl; transacts = refl; same = refl } } } }
+      ∴ record { line = refl; complete = refl; moment = refl; stands = record { own = refl; behind = refl; may = record { doing = _; busy = refl; begins_is = refl; may = Decided _ refl refl } } }
+      ∴ record { line = refl; complete = refl; moment = refl; stands = record { own = refl; behind = refl; may = record { doing = _; busy = refl; begins_is = refl; may = record { ready = refl; transacts = refl; same = refl } } } }
+      ∴ record { line = refl; complete = refl; moment = refl; stands = record { own = refl; behind = refl; may = record { doing = _; busy = refl; begins_is = refl; may = Decided _ refl refl } } }
+      ∴ record { line = refl; complete = refl; moment = refl; stands = record { own = refl; behind = refl; may = record { doing = _; busy = refl; begins_is = refl; may = AtOnce (record { ready = refl; first = refl; same = refl }) } } }
+      ∴ record { line = refl; complete = refl; moment = refl; stands = record { own = refl; behind = refl; may = record { doing = _; busy = refl; begins_is = refl; may = refl } } }
+      ∴ record { line = refl; complete = refl; moment = refl; stands = record { own = refl; behind = refl; may = record { doing = _; busy = refl; begins_is = refl; may = refl } } }
+      ∴ record { line = refl; complete = refl; moment = refl; stands = record { own = refl; behind = refl; may = record { doing = _; busy = refl; begins_is = refl; may = record { requests = lit≤ tt; segment = refl; behind = refl; session = refl; file = refl; in_time = lit< tt; room = refl } } } }
+      ∴ record { line = refl; complete = refl; moment = refl; stands = record { own = refl; behind = refl; may = record { doing = _; busy = refl; begins_is = refl; may = Decided _ refl refl } } }
+      ∴ record { line = refl; complete = refl; moment = refl; stands = record { own = refl; behind = refl; may = record { doing = _; busy = refl; begins_is = refl; may = record { ready = refl; transacts = refl; same = refl } } } }
+      ∴ record { line = refl; complete = refl; moment = refl; stands = record { own = refl; behind = refl; may = record { doing = _; busy = refl; begins_is = refl; may = Decided _ refl refl } } }
+      ∴ record { line = refl; complete = refl; moment = refl; stands = record { own = refl; behind = refl; may = record { doing = _; busy = refl; begins_is = refl; may = refl } } }
+      ∴ record { line = refl; complete = refl; moment = refl; stands = record { own = refl; behind = refl; may = record { doing = _; busy = refl; begins_is = refl; may = refl } } }
+      ∴ record { line = refl; complete = refl; moment = refl; stands = record { own = refl; behind = refl; may = record { doing = _; busy = refl; begins_is = refl; may = (record { k = _; stage = refl; at = refl; few = lit< tt; session = refl }, record { was = lit< tt; gone = refl; once = refl }) } } }
+      ∴ record { line = refl; complete = refl; moment = refl; stands = record { own = refl; behind = refl; may = record { doing = _; busy = refl; begins_is = refl; may = refl } } }
+      ∴ record { line = refl; complete = refl; moment = refl; stands = record { own = refl; behind = refl; may = record { doing = _; busy = refl; begins_is = refl; may = refl } } }
       ∴ record { line = refl; complete = refl; moment = refl; stands = (refl, refl) }
-      ∴ record { line = refl; complete = refl; moment = refl; stands = record { own = refl; may = record { doing = _; busy = refl; begins_is = refl; may = (record { k = _; stage = refl; at = refl; few = lit< tt; session = refl }, refl) } } }
-      ∴ record { line = refl; complete = refl; moment = refl; stands = record { own = refl; may = record { doing = _; busy = refl; begins_is = refl; may = refl } } }
-      ∴ record { line = refl; complete = refl; moment = refl; stands = record { own = refl; may = record { doing = _; busy = refl; begins_is = refl; may = refl } } }
-      ∴ record { line = refl; complete = refl; moment = refl; stands = record { own = refl; may = record { doing = _; busy = refl; begins_is = refl; may = refl } } }
-      ∴ record { line = refl; complete = refl; moment = refl; stands = record { own = refl; may = record { doing = _; busy = refl; begins_is = refl; may = refl } } }
-      ∴ record { line = refl; complete = refl; moment = refl; stands = record { own = refl; may = record { doing = _; busy = refl; begins_is = refl; may = refl } } }
-      ∴ record { line = refl; complete = refl; moment = refl; stands = record { own = refl; may = record { doing = _; busy = refl; begins_is = refl; may = (refl, record { k = _; stage = refl; at = refl; few = lit< tt; session = refl }) } } }
-      ∴ record { line = refl; complete = refl; moment = refl; stands = record { own = refl; may = record { doing = _; busy = refl; begins_is = refl; may = refl } } }
-      ∴ record { line = refl; complete = refl; moment = refl; stands = record { own = refl; may = record { doing = _; busy = refl; begins_is = refl; may = CleanedUp (record { k = _; stage = refl; session = refl; over = refl; same = refl }) } } }
-      ∴ record { line = refl; complete = refl; moment = refl; stands = record { own = refl; may = record { doing = _; busy = refl; begins_is = refl; may = refl } } }
-      ∴ record { line = refl; complete = refl; moment = refl; stands = record { own = refl; may = record { doing = _; busy = refl; begins_is = refl; may = refl } } }
-      ∴ record { line = refl; complete = refl; moment = refl; stands = record { own = refl; may = record { doing = _; busy = refl; begins_is = refl; may = IsRefusedBy _ refl (SessionGone refl refl refl) refl } } }
+      ∴ record { line = refl; complete = refl; moment = refl; stands = record { own = refl; behind = refl; may = record { doing = _; busy = refl; begins_is = refl; may = (record { k = _; stage = refl; at = refl; few = lit< tt; session = refl }, refl) } } }
+      ∴ record { line = refl; complete = refl; moment = refl; stands = record { own = refl; behind = refl; may = record { doing = _; busy = refl; begins_is = refl; may = refl } } }
+      ∴ record { line = refl; complete = refl; moment = refl; stands = record { own = refl; behind = refl; may = record { doing = _; busy = refl; begins_is = refl; may = refl } } }
+      ∴ record { line = refl; complete = refl; moment = refl; stands = record { own = refl; behind = refl; may = record { doing = _; busy = refl; begins_is = refl; may = refl } } }
+      ∴ record { line = refl; complete = refl; moment = refl; stands = record { own = refl; behind = refl; may = record { doing = _; busy = refl; begins_is = refl; may = refl } } }
+      ∴ record { line = refl; complete = refl; moment = refl; stands = record { own = refl; behind = refl; may = record { doing = _; busy = refl; begins_is = refl; may = refl } } }
+      ∴ record { line = refl; complete = refl; moment = refl; stands = record { own = refl; behind = refl; may = record { doing = _; busy = refl; begins_is = refl; may = (refl, OfOneBlock (record { k = _; stage = refl; at = refl; few = lit< tt; session = refl })) } } }
+      ∴ record { line = refl; complete = refl; moment = refl; stands = record { own = refl; behind = refl; may = record { doing = _; busy = refl; begins_is = refl; may = refl } } }
+      ∴ record { line = refl; complete = refl; moment = refl; stands = record { own = refl; behind = refl; may = record { doing = _; busy = refl; begins_is = refl; may = CleanedUp (record { k = _; stage = refl; session = refl; over = refl; same = refl }) } } }
+      ∴ record { line = refl; complete = refl; moment = refl; stands = record { own = refl; behind = refl; may = record { doing = _; busy = refl; begins_is = refl; may = refl } } }
+      ∴ record { line = refl; complete = refl; moment = refl; stands = record { own = refl; behind = refl; may = record { doing = _; busy = refl; begins_is = refl; may = refl } } }
+      ∴ record { line = refl; complete = refl; moment = refl; stands = record { own = refl; behind = refl; may = record { doing = _; busy = refl; begins_is = refl; may = IsRefusedBy _ refl (SessionGone refl refl refl) refl } } }
       ∴ record { line = refl; complete = refl; moment = refl; stands = (refl, Refuses refl) }
       ∴ tt;
 }
@@ -585,20 +585,20 @@ unfolding journals_compute
 expired_collector_is_legal = record {
   ends = refl;
   allowed =
-      record { line = refl; complete = refl; moment = refl; stands = record { own = refl; may = record { doing = _; busy = refl; begins_is = refl; may = record { ready = refl; transacts = refl; same = refl } } } }
-      ∴ record { line = refl; complete = refl; moment = refl; stands = record { own = refl; may = record { doing = _; busy = refl; begins_is = refl; may = Settles _ refl refl } } }
-      ∴ record { line = refl; complete = refl; moment = refl; stands = record { own = refl; may = record { doing = _; busy = refl; begins_is = refl; may = record { ready = refl; transacts = refl; same = refl } } } }
-      ∴ record { line = refl; complete = refl; moment = refl; stands = record { own = refl; may = record { doing = _; busy = refl; begins_is = refl; may = Settles _ refl refl } } }
-      ∴ record { line = refl; complete = refl; moment = refl; stands = record { own = refl; may = record { doing = _; busy = refl; begins_is = refl; may = refl } } }
+      record { line = refl; complete = refl; moment = refl; stands = record { own = refl; behind = refl; may = record { doing = _; busy = refl; begins_is = refl; may = record { ready = refl; transacts = refl; same = refl } } } }
+      ∴ record { line = refl; complete = refl; moment = refl; stands = record { own = refl; behind = refl; may = record { doing = _; busy = refl; begins_is = refl; may = Decided _ refl refl } } }
+      ∴ record { line = refl; complete = refl; moment = refl; stands = record { own = refl; behind = refl; may = record { doing = _; busy = refl; begins_is = refl; may = record { ready = refl; transacts = refl; same = refl } } } }
+      ∴ record { line = refl; complete = refl; moment = refl; stands = record { own = refl; behind = refl; may = record { doing = _; busy = refl; begins_is = refl; may = Decided _ refl refl } } }
+      ∴ record { line = refl; complete = refl; moment = refl; stands = record { own = refl; behind = refl; may = record { doing = _; busy = refl; begins_is = refl; may = refl } } }
       ∴ record { line = refl; complete = refl; moment = refl; stands = (refl, refl) }
-      ∴ record { line = refl; complete = refl; moment = refl; stands = record { own = refl; may = record { doing = _; busy = refl; begins_is = refl; may = (record { k = _; stage = refl; at = refl; few = lit< tt; session = refl }, refl) } } }
-      ∴ record { line = refl; complete = refl; moment = refl; stands = record { own = refl; may = record { doing = _; busy = refl; begins_is = refl; may = refl } } }
-      ∴ record { line = refl; complete = refl; moment = refl; stands = record { own = refl; may = record { doing = _; busy = refl; begins_is = refl; may = refl } } }
-      ∴ record { line = refl; complete = refl; moment = refl; stands = record { own = refl; may = record { doing = _; busy = refl; begins_is = refl; may = refl } } }
-      ∴ record { line = refl; complete = refl; moment = refl; stands = record { own = refl; may = record { doing = _; busy = refl; begins_is = refl; may = refl } } }
-      ∴ record { line = refl; complete = refl; moment = refl; stands = record { own = refl; may = record { doing = _; busy = refl; begins_is = refl; may = CleanedUp (record { k = _; stage = refl; session = refl; over = refl; same = refl }) } } }
-      ∴ record { line = refl; complete = refl; moment = refl; stands = record { own = refl; may = record { doing = _; busy = refl; begins_is = refl; may = refl } } }
-      ∴ record { line = refl; complete = refl; moment = refl; stands = record { own = refl; may = record { doing = _; busy = refl; begins_is = refl; may = Settles _ refl refl } } }
+      ∴ record { line = refl; complete = refl; moment = refl; stands = record { own = refl; behind = refl; may = record { doing = _; busy = refl; begins_is = refl; may = (record { k = _; stage = refl; at = refl; few = lit< tt; session = refl }, refl) } } }
+      ∴ record { line = refl; complete = refl; moment = refl; stands = record { own = refl; behind = refl; may = record { doing = _; busy = refl; begins_is = refl; may = refl } } }
+      ∴ record { line = refl; complete = refl; moment = refl; stands = record { own = refl; behind = refl; may = record { doing = _; busy = refl; begins_is = refl; may = refl } } }
+      ∴ record { line = refl; complete = refl; moment = refl; stands = record { own = refl; behind = refl; may = record { doing = _; busy = refl; begins_is = refl; may = refl } } }
+      ∴ record { line = refl; complete = refl; moment = refl; stands = record { own = refl; behind = refl; may = record { doing = _; busy = refl; begins_is = refl; may = refl } } }
+      ∴ record { line = refl; complete = refl; moment = refl; stands = record { own = refl; behind = refl; may = record { doing = _; busy = refl; begins_is = refl; may = CleanedUp (record { k = _; stage = refl; session = refl; over = refl; same = refl }) } } }
+      ∴ record { line = refl; complete = refl; moment = refl; stands = record { own = refl; behind = refl; may = record { doing = _; busy = refl; begins_is = refl; may = refl } } }
+      ∴ record { line = refl; complete = refl; moment = refl; stands = record { own = refl; behind = refl; may = record { doing = _; busy = refl; begins_is = refl; may = Decided _ refl refl } } }
       ∴ tt;
 }
 
@@ -686,45 +686,45 @@ unfolding journals_compute
 trash_is_legal = record {
   ends = refl;
   allowed =
-      record { line = refl; complete = refl; moment = refl; stands = record { own = refl; may = record { doing = _; busy = refl; begins_is = refl; may = record { ready = refl; transacts = refl; same = refl } } } }
-      ∴ record { line = refl; complete = refl; moment = refl; stands = record { own = refl; may = record { doing = _; busy = refl; begins_is = refl; may = Settles _ refl refl } } }
-      ∴ record { line = refl; complete = refl; moment = refl; stands = record { own = refl; may = record { doing = _; busy = refl; begins_is = refl; may = record { ready = refl; transacts = refl; same = refl } } } }
-      ∴ record { line = refl; complete = refl; moment = refl; stands = record { own = refl; may = record { doing = _; busy = refl; begins_is = refl; may = Settles _ refl refl } } }
-      ∴ record { line = refl; complete = refl; moment = refl; stands = record { own = refl; may = record { doing = _; busy = refl; begins_is = refl; may = AtOnce (record { ready = refl; first = refl; same = refl }) } } }
-      ∴ record { line = refl; complete = refl; moment = refl; stands = record { own = refl; may = record { doing = _; busy = refl; begins_is = refl; may = record { ready = refl; transacts = refl; same = refl } } } }
-      ∴ record { line = refl; complete = refl; moment = refl; stands = record { own = refl; may = record { doing = _; busy = refl; begins_is = refl; may = Settles _ refl refl } } }
-      ∴ record { line = refl; complete = refl; moment = refl; stands = record { own = refl; may = record { doing = _; busy = refl; begins_is = refl; may = record { ready = refl; transacts = refl; same = refl } } } }
-      ∴ record { line = refl; complete = refl; moment = refl; stands = record { own = refl; may = record { doing = _; busy = refl; begins_is = refl; may = Settles _ refl refl } } }
-      ∴ record { line = refl; complete = refl; moment = refl; stands = record { own = refl; may = record { doing = _; busy = refl; begins_is = refl; may = record { ready = refl; transacts = refl; same = refl } } } }
-      ∴ record { line = refl; complete = refl; moment = refl; stands = record { own = refl; may = record { doing = _; busy = refl; begins_is = refl; may = Settles _ refl refl } } }
-      ∴ record { line = refl; complete = refl; moment = refl; stands = record { own = refl; may = record { doing = _; busy = refl; begins_is = refl; may = record { ready = refl; transacts = refl; same = refl } } } }
-      ∴ record { line = refl; complete = refl; moment = refl; stands = record { own = refl; may = record { doing = _; busy = refl; begins_is = refl; may = Settles _ refl refl } } }
-      ∴ record { line = refl; complete = refl; moment = refl; stands = record { own = refl; may = record { doing = _; busy = refl; begins_is = refl; may = record { ready = refl; transacts = refl; same = refl } } } }
-      ∴ record { line = refl; complete = refl; moment = refl; stands = record { own = refl; may = record { doing = _; busy = refl; begins_is = refl; may = Settles _ refl refl } } }
-      ∴ record { line = refl; complete = refl; moment = refl; stands = record { own = refl; may = record { doing = _; busy = refl; begins_is = refl; may = record { ready = refl; transacts = refl; same = refl } } } }
-      ∴ record { line = refl; complete = refl; moment = refl; stands = record { own = refl; may = record { doing = _; busy = refl; begins_is = refl; may = Settles _ refl refl } } }
-      ∴ record { line = refl; complete = refl; moment = refl; stands = record { own = refl; may = record { doing = _; busy = refl; begins_is = refl; may = record { ready = refl; transacts = refl; same = refl } } } }
-      ∴ record { line = refl; complete = refl; moment = refl; stands = record { own = refl; may = record { doing = _; busy = refl; begins_is = refl; may = Settles _ refl refl } } }
-      ∴ record { line = refl; complete = refl; moment = refl; stands = record { own = refl; may = record { doing = _; busy = refl; begins_is = refl; may = AtOnce (record { ready = refl; first = refl; same = refl }) } } }
-      ∴ record { line = refl; complete = refl; moment = refl; stands = record { own = refl; may = record { doing = _; busy = refl; begins_is = refl; may = record { ready = refl; transacts = refl; same = refl } } } }
-      ∴ record { line = refl; complete = refl; moment = refl; stands = record { own = refl; may = record { doing = _; busy = refl; begins_is = refl; may = Settles _ refl refl } } }
-      ∴ record { line = refl; complete = refl; moment = refl; stands = record { own = refl; may = record { doing = _; busy = refl; begins_is = refl; may = record { ready = refl; transacts = refl; same = refl } } } }
-      ∴ record { line = refl; complete = refl; moment = refl; stands = record { own = refl; may = record { doing = _; busy = refl; begins_is = refl; may = Settles _ refl refl } } }
+      record { line = refl; complete = refl; moment = refl; stands = record { own = refl; behind = refl; may = record { doing = _; busy = refl; begins_is = refl; may = record { ready = refl; transacts = refl; same = refl } } } }
+      ∴ record { line = refl; complete = refl; moment = refl; stands = record { own = refl; behind = refl; may = record { doing = _; busy = refl; begins_is = refl; may = Decided _ refl refl } } }
+      ∴ record { line = refl; complete = refl; moment = refl; stands = record { own = refl; behind = refl; may = record { doing = _; busy = refl; begins_is = refl; may = record { ready = refl; transacts = refl; same = refl } } } }
+      ∴ record { line = refl; complete = refl; moment = refl; stands = record { own = refl; behind = refl; may = record { doing = _; busy = refl; begins_is = refl; may = Decided _ refl refl } } }
+      ∴ record { line = refl; complete = refl; moment = refl; stands = record { own = refl; behind = refl; may = record { doing = _; busy = refl; begins_is = refl; may = AtOnce (record { ready = refl; first = refl; same = refl }) } } }
+      ∴ record { line = refl; complete = refl; moment = refl; stands = record { own = refl; behind = refl; may = record { doing = _; busy = refl; begins_is = refl; may = record { ready = refl; transacts = refl; same = refl } } } }
+      ∴ record { line = refl; complete = refl; moment = refl; stands = record { own = refl; behind = refl; may = record { doing = _; busy = refl; begins_is = refl; may = Decided _ refl refl } } }
+      ∴ record { line = refl; complete = refl; moment = refl; stands = record { own = refl; behind = refl; may = record { doing = _; busy = refl; begins_is = refl; may = record { ready = refl; transacts = refl; same = refl } } } }
+      ∴ record { line = refl; complete = refl; moment = refl; stands = record { own = refl; behind = refl; may = record { doing = _; busy = refl; begins_is = refl; may = Decided _ refl refl } } }
+      ∴ record { line = refl; complete = refl; moment = refl; stands = record { own = refl; behind = refl; may = record { doing = _; busy = refl; begins_is = refl; may = record { ready = refl; transacts = refl; same = refl } } } }
+      ∴ record { line = refl; complete = refl; moment = refl; stands = record { own = refl; behind = refl; may = record { doing = _; busy = refl; begins_is = refl; may = Decided _ refl refl } } }
+      ∴ record { line = refl; complete = refl; moment = refl; stands = record { own = refl; behind = refl; may = record { doing = _; busy = refl; begins_is = refl; may = record { ready = refl; transacts = refl; same = refl } } } }
+      ∴ record { line = refl; complete = refl; moment = refl; stands = record { own = refl; behind = refl; may = record { doing = _; busy = refl; begins_is = refl; may = Decided _ refl refl } } }
+      ∴ record { line = refl; complete = refl; moment = refl; stands = record { own = refl; behind = refl; may = record { doing = _; busy = refl; begins_is = refl; may = record { ready = refl; transacts = refl; same = refl } } } }
+      ∴ record { line = refl; complete = refl; moment = refl; stands = record { own = refl; behind = refl; may = record { doing = _; busy = refl; begins_is = refl; may = Decided _ refl refl } } }
+      ∴ record { line = refl; complete = refl; moment = refl; stands = record { own = refl; behind = refl; may = record { doing = _; busy = refl; begins_is = refl; may = record { ready = refl; transacts = refl; same = refl } } } }
+      ∴ record { line = refl; complete = refl; moment = refl; stands = record { own = refl; behind = refl; may = record { doing = _; busy = refl; begins_is = refl; may = Decided _ refl refl } } }
+      ∴ record { line = refl; complete = refl; moment = refl; stands = record { own = refl; behind = refl; may = record { doing = _; busy = refl; begins_is = refl; may = record { ready = refl; transacts = refl; same = refl } } } }
+      ∴ record { line = refl; complete = refl; moment = refl; stands = record { own = refl; behind = refl; may = record { doing = _; busy = refl; begins_is = refl; may = Decided _ refl refl } } }
+      ∴ record { line = refl; complete = refl; moment = refl; stands = record { own = refl; behind = refl; may = record { doing = _; busy = refl; begins_is = refl; may = AtOnce (record { ready = refl; first = refl; same = refl }) } } }
+      ∴ record { line = refl; complete = refl; moment = refl; stands = record { own = refl; behind = refl; may = record { doing = _; busy = refl; begins_is = refl; may = record { ready = refl; transacts = refl; same = refl } } } }
+      ∴ record { line = refl; complete = refl; moment = refl; stands = record { own = refl; behind = refl; may = record { doing = _; busy = refl; begins_is = refl; may = Decided _ refl refl } } }
+      ∴ record { line = refl; complete = refl; moment = refl; stands = record { own = refl; behind = refl; may = record { doing = _; busy = refl; begins_is = refl; may = record { ready = refl; transacts = refl; same = refl } } } }
+      ∴ record { line = refl; complete = refl; moment = refl; stands = record { own = refl; behind = refl; may = record { doing = _; busy = refl; begins_is = refl; may = Decided _ refl refl } } }
       ∴ record { line = refl; complete = refl; moment = refl; stands = (refl, refl) }
-      ∴ record { line = refl; complete = refl; moment = refl; stands = record { own = refl; may = record { doing = _; busy = refl; begins_is = refl; may = refl } } }
-      ∴ record { line = refl; complete = refl; moment = refl; stands = record { own = refl; may = record { doing = _; busy = refl; begins_is = refl; may = refl } } }
-      ∴ record { line = refl; complete = refl; moment = refl; stands = record { own = refl; may = record { doing = _; busy = refl; begins_is = refl; may = refl } } }
-      ∴ record { line = refl; complete = refl; moment = refl; stands = record { own = refl; may = record { doing = _; busy = refl; begins_is = refl; may = refl } } }
-      ∴ record { line = refl; complete = refl; moment = refl; stands = record { own = refl; may = record { doing = _; busy = refl; begins_is = refl; may = CleanedUp (record { k = _; stage = refl; session = refl; over = refl; same = refl }) } } }
+      ∴ record { line = refl; complete = refl; moment = refl; stands = record { own = refl; behind = refl; may = record { doing = _; busy = refl; begins_is = refl; may = refl } } }
+      ∴ record { line = refl; complete = refl; moment = refl; stands = record { own = refl; behind = refl; may = record { doing = _; busy = refl; begins_is = refl; may = refl } } }
+      ∴ record { line = refl; complete = refl; moment = refl; stands = record { own = refl; behind = refl; may = record { doing = _; busy = refl; begins_is = refl; may = refl } } }
+      ∴ record { line = refl; complete = refl; moment = refl; stands = record { own = refl; behind = refl; may = record { doing = _; busy = refl; begins_is = refl; may = refl } } }
+      ∴ record { line = refl; complete = refl; moment = refl; stands = record { own = refl; behind = refl; may = record { doing = _; busy = refl; begins_is = refl; may = CleanedUp (record { k = _; stage = refl; session = refl; over = refl; same = refl }) } } }
       ∴ record { line = refl; complete = refl; moment = refl; stands = (refl, refl) }
-      ∴ record { line = refl; complete = refl; moment = refl; stands = record { own = refl; may = record { doing = _; busy = refl; begins_is = refl; may = refl } } }
-      ∴ record { line = refl; complete = refl; moment = refl; stands = record { own = refl; may = record { doing = _; busy = refl; begins_is = refl; may = (record { k = _; stage = refl; at = refl; few = lit< tt; session = refl }, refl) } } }
-      ∴ record { line = refl; complete = refl; moment = refl; stands = record { own = refl; may = record { doing = _; busy = refl; begins_is = refl; may = (record { k = _; stage = refl; at = refl; few = lit< tt; session = refl }, refl) } } }
-      ∴ record { line = refl; complete = refl; moment = refl; stands = record { own = refl; may = record { doing = _; busy = refl; begins_is = refl; may = refl } } }
-      ∴ record { line = refl; complete = refl; moment = refl; stands = record { own = refl; may = record { doing = _; busy = refl; begins_is = refl; may = (record { k = _; stage = refl; at = refl; few = lit< tt; session = refl }, record { was = lit< tt; gone = refl; once = refl }) } } }
-      ∴ record { line = refl; complete = refl; moment = refl; stands = record { own = refl; may = record { doing = _; busy = refl; begins_is = refl; may = refl } } }
-      ∴ record { line = refl; complete = refl; moment = refl; stands = record { own = refl; may = record { doing = _; busy = refl; begins_is = refl; may = refl } } }
-      ∴ record { line = refl; complete = refl; moment = refl; stands = record { own = refl; may = record { doing = _; busy = refl; begins_is = refl; may = CleanedUp (record { k = _; stage = refl; session = refl; over = refl; same = refl }) } } }
+      ∴ record { line = refl; complete = refl; moment = refl; stands = record { own = refl; behind = refl; may = record { doing = _; busy = refl; begins_is = refl; may = refl } } }
+      ∴ record { line = refl; complete = refl; moment = refl; stands = record { own = refl; behind = refl; may = record { doing = _; busy = refl; begins_is = refl; may = (record { k = _; stage = refl; at = refl; few = lit< tt; session = refl }, refl) } } }
+      ∴ record { line = refl; complete = refl; moment = refl; stands = record { own = refl; behind = refl; may = record { doing = _; busy = refl; begins_is = refl; may = (record { k = _; stage = refl; at = refl; few = lit< tt; session = refl }, refl) } } }
+      ∴ record { line = refl; complete = refl; moment = refl; stands = record { own = refl; behind = refl; may = record { doing = _; busy = refl; begins_is = refl; may = refl } } }
+      ∴ record { line = refl; complete = refl; moment = refl; stands = record { own = refl; behind = refl; may = record { doing = _; busy = refl; begins_is = refl; may = (record { k = _; stage = refl; at = refl; few = lit< tt; session = refl }, record { was = lit< tt; gone = refl; once = refl }) } } }
+      ∴ record { line = refl; complete = refl; moment = refl; stands = record { own = refl; behind = refl; may = record { doing = _; busy = refl; begins_is = refl; may = refl } } }
+      ∴ record { line = refl; complete = refl; moment = refl; stands = record { own = refl; behind = refl; may = record { doing = _; busy = refl; begins_is = refl; may = refl } } }
+      ∴ record { line = refl; complete = refl; moment = refl; stands = record { own = refl; behind = refl; may = record { doing = _; busy = refl; begins_is = refl; may = CleanedUp (record { k = _; stage = refl; session = refl; over = refl; same = refl }) } } }
       ∴ tt;
 }
 

@@ -1,5 +1,5 @@
 -- What an entry needs, in the form in which closed examples of journals that may not be use it.
-use Rattle.std.proofs.Common.{◌≡◌, ◌≤◌, ◌<◌, ◌+◌, ℕ, Bool, true, false, ◌&&◌, ◌||◌, ◌==◌, nat_lt, IsTrue, Option, None, Some, List, [], ◌∷◌, ◌++◌, length, refl, sym, arith, ap, ◌∙◌, subst}
+use Rattle.std.proofs.Common.{◌≡◌, ◌≤◌, ◌<◌, ◌+◌, ℕ, Bool, true, false, ◌&&◌, ◌==◌, nat_lt, IsTrue, Option, None, Some, List, [], ◌∷◌, ◌++◌, length, refl, sym, arith, ap, ◌∙◌, subst}
 use Rattle.std.specs.List.{list_any}
 use Rattle.std.specs.Option.{option_map}
 use Rattle.jv_model.specs.declared.lifetimes.TheConstants.{UPLOAD_LIFE}
@@ -15,12 +15,12 @@ use Rattle.jv_model.specs.declared.op.Reply.{Reply}
 use Rattle.jv_model.specs.declared.profile.Answer.TheVariants.{CacheStats}
 use Rattle.jv_model.specs.declared.profile.Does.{Does}
 use Rattle.jv_model.specs.declared.profile.Does.TheVariants.{Answers, Compacts, Collects, Uploads}
-use Rattle.jv_model.specs.client.ModelClient.{ModelClient, Compaction, Doing, OpenFile, View, Flush, Stage, Working, LookedAgain, Compacting, Requesting, Replying, is_replying, Cleans}
-use Rattle.jv_model.specs.client.Origins.{Origin, Start as AtStart, Zero, Committed, Made, missing_commit}
+use Rattle.jv_model.specs.client.ModelClient.{ModelClient, Compaction, Doing, OpenFile, View, Flush, Stage, Working, LookedAgain, Compacting, Judged, Removing, Replying, is_replying, Cleans}
+use Rattle.jv_model.specs.client.Origins.{Origin, Start as AtStart, Zero, Committed, Made, missing_owner}
 use Rattle.jv_model.specs.client.Profile.{handle_of}
 use Rattle.jv_model.specs.journal.Reading.{fresh_view, reading}
 use Rattle.jv_model.specs.journal.State.{State, FileChange, answer_then}
-use Rattle.jv_model.specs.journal.Steps.{Start, IsEntry, MayStep, MayAnswer, Fails, Settles, AtOnce, CountsCache, ReadsViews, CleanedUp, HasCompacted, TooShort, HasReplaced, HasCollected, HasUploaded, Sent, FoundNone, Refuses}
+use Rattle.jv_model.specs.journal.Steps.{Start, IsEntry, MayStep, MayAnswer, Fails, Decided, AtOnce, CountsCache, ReadsViews, CleanedUp, HasCompacted, TooShort, HasReplaced, HasCollected, HasUploaded, Sent, FoundNone, Refuses}
 use Rattle.jv_model.specs.journal.Steps.{IsRefusedIn, SessionGone, InodeGone, CommitLate, CommitTooLarge, NumberRefused, CompactionCrowded, CompactionLate, AnotherList, BlockOwed, MissedTooOften, InReading, InCompaction}
 use Rattle.jv_model.specs.journal.Steps.{AnswersAtOnce, ReadsFresh, MayBeGone, Owes, MayBeCleaned, MissesBlock, may_be_cleaned, asked_of, file_in_use, begins_step, told_of, is_failure, has_judged, is_working}
 use Rattle.jv_model.specs.journal.Past.{Past, begun_to, advance, past}
@@ -56,7 +56,8 @@ first_number (Fine a b c d) = a
 first_number _ = 0
 
 judged_is_over : (does : Does) (stage : Stage) → IsTrue (has_judged does stage) → is_working stage ≡ false
-judged_is_over does (Requesting requests) judged = refl
+judged_is_over does Judged judged = refl
+judged_is_over does (Removing requests) judged = refl
 judged_is_over does _ judged = absurd (cc)
 
 -- operations that are answered in numbers which aren't those of the tree
@@ -70,7 +71,7 @@ has_own_numbers _ = false
 pub fine_at_once : {start : Start} {alone : Bool} {s : State} {client now : ℕ} {c : ModelClient} {d : Doing} {m n k l : ℕ}
     → is_working d.stage ≡ true → has_own_numbers d.does ≡ false → MayAnswer start alone s client now c d (Fine m n k l) → AnswersAtOnce c d (Fine m n k l)
 fine_at_once work own (Fails must fails) = absurd (cc)
-fine_at_once work own (Settles answer stage e) = let no = sym work ∙ ap is_working stage in absurd (cc)
+fine_at_once work own (Decided answer stage e) = let no = sym work ∙ ap is_working stage in absurd (cc)
 fine_at_once work own (AtOnce h) = h
 fine_at_once work own (CountsCache hits misses cached ready first does e) = let no = sym own ∙ ap has_own_numbers does in absurd (cc)
 fine_at_once work own (ReadsViews h) = let no = h.same in absurd (cc)
@@ -85,7 +86,7 @@ fine_at_once work own (Refuses fault moved h e) = absurd (cc)
 pub looks_are_read : {start : Start} {alone : Bool} {s : State} {client now : ℕ} {c : ModelClient} {d : Doing} {first second len : ℕ}
     → is_replying d.stage ≡ false → answer_then c d ≡ None → MayAnswer start alone s client now c d (Looks first second len) → ReadsFresh c d (Looks first second len)
 looks_are_read unsettled none (Fails must fails) = absurd (cc)
-looks_are_read unsettled none (Settles answer stage e) = let no = sym unsettled ∙ ap is_replying stage in absurd (cc)
+looks_are_read unsettled none (Decided answer stage e) = let no = sym unsettled ∙ ap is_replying stage in absurd (cc)
 looks_are_read unsettled none (AtOnce h) = let no = sym (ap (option_map told_of) none) ∙ h.same in absurd (cc)
 looks_are_read unsettled none (CountsCache hits misses cached ready first does e) = absurd (cc)
 looks_are_read unsettled none (ReadsViews h) = h
@@ -110,7 +111,7 @@ pub refused_by_cause : {start : Start} {alone : Bool} {s : State} {client now : 
     → is_failure (ToldRefused fault) ≡ false → is_replying d.stage ≡ false → is_refusal (option_map told_of (answer_then c d)) ≡ false
     → MayAnswer start alone s client now c d (ToldRefused fault) → IsRefusedIn start s client now c d fault
 refused_by_cause plain unsettled done (Fails must fails) = let no = sym plain ∙ fails in absurd (cc)
-refused_by_cause plain unsettled done (Settles answer stage e) = let no = sym unsettled ∙ ap is_replying stage in absurd (cc)
+refused_by_cause plain unsettled done (Decided answer stage e) = let no = sym unsettled ∙ ap is_replying stage in absurd (cc)
 refused_by_cause plain unsettled done (AtOnce h) = let no = sym done ∙ ap is_refusal h.same in absurd (cc)
 refused_by_cause plain unsettled done (CountsCache hits misses cached ready first does e) = absurd (cc)
 refused_by_cause plain unsettled done (ReadsViews h) = let no = h.same in absurd (cc)
@@ -138,8 +139,8 @@ try_again_after_look unlooked (NumberRefused first crowded e) = absurd (cc)
 try_again_after_look unlooked (CompactionCrowded k stage on here crowded e) = absurd (cc)
 try_again_after_look unlooked (CompactionLate k started stage on here there late e) = absurd (cc)
 try_again_after_look unlooked (AnotherList k looked found stage unchanged here there other again e) = absurd (cc)
-try_again_after_look unlooked (BlockOwed position number from to view owed (InReading misses window file asked stage file_is part fresh first last) begins ends commit e) = let yes = sym unlooked ∙ ap may_have_looked stage in absurd (cc)
-try_again_after_look unlooked (BlockOwed position number from to view owed (InCompaction k stage missed later view_is first last) begins ends commit e) = let yes = sym unlooked ∙ ap may_have_looked stage in absurd (cc)
+try_again_after_look unlooked (BlockOwed position owner from to view owed (InReading missed) begins ends owes e) = let yes = sym unlooked ∙ ap may_have_looked missed.stage in absurd (cc)
+try_again_after_look unlooked (BlockOwed position owner from to view owed (InCompaction missed) begins ends owes e) = let yes = sym unlooked ∙ ap may_have_looked missed.stage in absurd (cc)
 try_again_after_look unlooked (MissedTooOften window owed stage e) = absurd (cc)
 
 abbrev pub is_cleans : Stage → Bool
@@ -161,7 +162,7 @@ timed_out_late (NumberRefused first crowded e) = absurd (cc)
 timed_out_late (CompactionCrowded k stage on here crowded e) = absurd (cc)
 timed_out_late (CompactionLate k first stage on here there late e) = let no = ap is_compacting stage in absurd (cc)
 timed_out_late (AnotherList k looked found stage unchanged here there other again e) = absurd (cc)
-timed_out_late (BlockOwed position number from to view owed missed begins ends commit e) = absurd (cc)
+timed_out_late (BlockOwed position owner from to view owed missed begins ends owes e) = absurd (cc)
 timed_out_late (MissedTooOften window owed stage e) = absurd (cc)
 
 abbrev compaction_in : Compaction → Stage → Compaction
@@ -193,14 +194,14 @@ refused_for_a_change (CompactionCrowded j stage on here crowded e) = absurd (cc)
 refused_for_a_change (CompactionLate j started stage on here there late e) = absurd (cc)
 refused_for_a_change {s = s} {k = k} (AnotherList j looked found stage unchanged here there other again e) =
     subst (λ (x : Compaction). IsTrue (any_changed_after s x.first)) (sym (ap (compaction_in k) stage)) (any_implied _ _ (λ change. and_middle (change.inode == j.view.inode) (nat_lt j.first change.entry) _) s.changes other)
-refused_for_a_change (BlockOwed position number from to view owed missed begins ends commit e) = absurd (cc)
+refused_for_a_change (BlockOwed position owner from to view owed missed begins ends owes e) = absurd (cc)
 refused_for_a_change (MissedTooOften window owed stage e) = absurd (cc)
 
 -- a compaction that replaced nothing is done only where the list had fewer than two records
-pub compaction_is_short : {start : Start} {alone : Bool} {s : State} {client now : ℕ} {c : ModelClient} {o : Op} {flush : Flush} {moved : Bool} {k : Compaction} {m n p q : ℕ}
-    → k.has_replaced ≡ false → MayAnswer start alone s client now c (record { op = o; does = Compacts; flush = flush; stage = Compacting k; moved = moved }) (Fine m n p q) → m < 2
+pub compaction_is_short : {start : Start} {alone : Bool} {s : State} {client now : ℕ} {c : ModelClient} {o : Op} {given : Option ℕ} {flush : Flush} {moved : Bool} {k : Compaction} {m n p q : ℕ}
+    → k.has_replaced ≡ false → MayAnswer start alone s client now c (record { op = o; does = Compacts given; flush = flush; stage = Compacting k; moved = moved }) (Fine m n p q) → m < 2
 compaction_is_short same (Fails must fails) = absurd (cc)
-compaction_is_short same (Settles answer stage e) = let never = ap is_replying stage in absurd (cc)
+compaction_is_short same (Decided answer stage e) = let never = ap is_replying stage in absurd (cc)
 compaction_is_short same (AtOnce h) = let never = h.same in absurd (cc)
 compaction_is_short same (CountsCache hits misses cached ready first does e) = absurd (cc)
 compaction_is_short same (ReadsViews h) = let never = h.same in absurd (cc)
@@ -246,7 +247,7 @@ read_returns {c = c} {d = d} {first} {second} unsettled none answer =
     }
 
 -- where nothing was owed, a block is missing only because it was cleaned away
-no_bytes_missing : (client : ℕ) (origin : Origin) → missing_commit (λ inode position. []) [] client origin ≡ None
+no_bytes_missing : (client : ℕ) (origin : Origin) → missing_owner (λ inode position. []) [] client origin ≡ None
 no_bytes_missing client (AtStart inode position) = refl
 no_bytes_missing client Zero = refl
 no_bytes_missing client (Committed entry) = refl
@@ -254,10 +255,10 @@ no_bytes_missing client Made = refl
 
 pub gone_by_cleaning : {start : Start} {s : State} {client : ℕ} {view : View} {from to : ℕ} → start.shelved ≡ (λ inode position. []) → s.owed ≡ []
     → MayBeGone start s client view from to → IsTrue (may_be_cleaned s view)
-gone_by_cleaning {start} {s} {client} {view} shelved owed (Owes position commit begins ends missing) =
-    let none : missing_commit start.shelved s.owed client (view.origin position) ≡ None
-    = ap (λ shelves. missing_commit shelves s.owed client (view.origin position)) shelved
-    ∙ ap (λ others. missing_commit (λ inode at. []) others client (view.origin position)) owed
+gone_by_cleaning {start} {s} {client} {view} shelved owed (Owes position owner begins ends missing) =
+    let none : missing_owner start.shelved s.owed client (view.origin position) ≡ None
+    = ap (λ shelves. missing_owner shelves s.owed client (view.origin position)) shelved
+    ∙ ap (λ others. missing_owner (λ inode at. []) others client (view.origin position)) owed
     ∙ no_bytes_missing client (view.origin position) in
     let never = sym none ∙ missing in
     absurd (cc)
@@ -288,8 +289,8 @@ settled_not_refused (NumberRefused first crowded e) = absurd (omega (arith, firs
 settled_not_refused (CompactionCrowded k stage on here crowded e) = let never = ap is_replying stage in absurd (cc)
 settled_not_refused (CompactionLate k first stage on here there late e) = let never = ap is_replying stage in absurd (cc)
 settled_not_refused (AnotherList k looked found stage unchanged here there other again e) = let never = ap is_replying stage in absurd (cc)
-settled_not_refused (BlockOwed position number from to view owed (InReading misses window file asked stage file_is part fresh first last) begins ends commit e) = let never = ap is_replying stage in absurd (cc)
-settled_not_refused (BlockOwed position number from to view owed (InCompaction k stage missed later view_is first last) begins ends commit e) = let never = ap is_replying stage in absurd (cc)
+settled_not_refused (BlockOwed position owner from to view owed (InReading missed) begins ends owes e) = let never = ap is_replying missed.stage in absurd (cc)
+settled_not_refused (BlockOwed position owner from to view owed (InCompaction missed) begins ends owes e) = let never = ap is_replying missed.stage in absurd (cc)
 settled_not_refused (MissedTooOften window owed stage e) = let never = ap is_replying stage in absurd (cc)
 
 abbrev reply_in : Reply → Stage → Reply
@@ -300,7 +301,7 @@ reply_in other _ = other
 pub settled_is_told : {start : Start} {alone : Bool} {s : State} {client now : ℕ} {c : ModelClient} {o : Op} {does : Does} {flush : Flush} {moved : Bool} {answer : Reply} {told : Told}
     → is_stats does ≡ false → MayAnswer start alone s client now c (record { op = o; does = does; flush = flush; stage = Replying answer; moved = moved }) told → told ≡ told_of answer
 settled_is_told other (Fails must fails) = absurd (cc)
-settled_is_told {answer = answer} other (Settles reply stage e) = e ∙ ap told_of (ap (reply_in answer) (sym stage))
+settled_is_told {answer = answer} other (Decided reply stage e) = e ∙ ap told_of (ap (reply_in answer) (sym stage))
 settled_is_told other (AtOnce h) = let never = h.ready in absurd (cc)
 settled_is_told other (CountsCache hits misses cached ready first does e) = let never = sym other ∙ ap is_stats does in absurd (cc)
 settled_is_told other (ReadsViews h) = let never = h.goes_on in absurd (cc)

@@ -8,7 +8,8 @@ use Rattle.jv_model.specs.declared.fault.Fault.TheVariants.{TryAgain, TimedOut}
 use Rattle.jv_model.specs.declared.op.Op.{Op}
 use Rattle.jv_model.specs.declared.op.Line.TheVariants.{Do, Begin, Step, Tick, Drain}
 use Rattle.jv_model.specs.declared.op.Op.TheVariants.{Mount, Create, Open, Close, Flush, Read, Write, Upload}
-use Rattle.jv_model.specs.journal.Steps.{Start, MayAnswer, owes_none, is_owed_by, Fails, Settles, AtOnce, CountsCache, ReadsViews, CleanedUp, HasCompacted, HasCollected, HasUploaded, Owes, Sent, FoundNone, TooShort, HasReplaced, BlockOwed, InReading, Refuses as IsRefusedBy}
+use Rattle.jv_model.specs.client.Origins.{ACommit}
+use Rattle.jv_model.specs.journal.Steps.{Start, MayAnswer, owes_none, is_owed_by, Fails, Decided, AtOnce, CountsCache, ReadsViews, CleanedUp, HasCompacted, HasCollected, HasUploaded, Owes, Sent, FoundNone, TooShort, HasReplaced, BlockOwed, InReading, Refuses as IsRefusedBy}
 use Rattle.jv_model.specs.declared.profile.Does.TheVariants.{Uploads}
 use Rattle.jv_model.specs.client.ModelClient.{ModelClient, Working, is_replying, Flush as ToFlush}
 use Rattle.jv_model.specs.journal.State.{State}
@@ -25,7 +26,7 @@ says_none _ = false
 none_is_owed : {start : Start} {s : State} {client now : ℕ} {c : ModelClient} {o : Op} {flush : ToFlush} → MayAnswer start true s client now c (record { op = o; does = Uploads; flush = flush; stage = Working 0 0; moved = false }) (Fine 0 0 0 0)
     → owes_none s client ≡ false → ⊥
 none_is_owed (Fails must fails) owed = absurd (cc)
-none_is_owed (Settles answer stage e) owed = let never = ap is_replying stage in absurd (cc)
+none_is_owed (Decided answer stage e) owed = let never = ap is_replying stage in absurd (cc)
 none_is_owed (AtOnce h) owed = let never = h.same in absurd (cc)
 none_is_owed (CountsCache hits misses cached ready first does e) owed = absurd (cc)
 none_is_owed (ReadsViews h) owed = let never = h.same in absurd (cc)
@@ -73,15 +74,15 @@ late_commit_journal =
 late_commit_is_allowed : AllAllowed (at_start late_commit_run) late_commit_journal
 unfolding journals_compute
 late_commit_is_allowed =
-    record { line = refl; complete = refl; moment = refl; stands = record { own = refl; may = record { doing = _; busy = refl; begins_is = refl; may = record { ready = refl; transacts = refl; same = refl } } } }
-    ∴ record { line = refl; complete = refl; moment = refl; stands = record { own = refl; may = record { doing = _; busy = refl; begins_is = refl; may = Settles _ refl refl } } }
-    ∴ record { line = refl; complete = refl; moment = refl; stands = record { own = refl; may = record { doing = _; busy = refl; begins_is = refl; may = record { ready = refl; transacts = refl; same = refl } } } }
-    ∴ record { line = refl; complete = refl; moment = refl; stands = record { own = refl; may = record { doing = _; busy = refl; begins_is = refl; may = Settles _ refl refl } } }
-    ∴ record { line = refl; complete = refl; moment = refl; stands = record { own = refl; may = record { doing = _; busy = refl; begins_is = refl; may = AtOnce (record { ready = refl; first = refl; same = refl }) } } }
-    ∴ record { line = refl; complete = refl; moment = refl; stands = record { own = refl; may = record { doing = _; busy = refl; begins_is = refl; may = refl } } }
-    ∴ record { line = refl; complete = refl; moment = refl; stands = record { own = refl; may = record { doing = _; busy = refl; begins_is = refl; may = refl } } }
+    record { line = refl; complete = refl; moment = refl; stands = record { own = refl; behind = refl; may = record { doing = _; busy = refl; begins_is = refl; may = record { ready = refl; transacts = refl; same = refl } } } }
+    ∴ record { line = refl; complete = refl; moment = refl; stands = record { own = refl; behind = refl; may = record { doing = _; busy = refl; begins_is = refl; may = Decided _ refl refl } } }
+    ∴ record { line = refl; complete = refl; moment = refl; stands = record { own = refl; behind = refl; may = record { doing = _; busy = refl; begins_is = refl; may = record { ready = refl; transacts = refl; same = refl } } } }
+    ∴ record { line = refl; complete = refl; moment = refl; stands = record { own = refl; behind = refl; may = record { doing = _; busy = refl; begins_is = refl; may = Decided _ refl refl } } }
+    ∴ record { line = refl; complete = refl; moment = refl; stands = record { own = refl; behind = refl; may = record { doing = _; busy = refl; begins_is = refl; may = AtOnce (record { ready = refl; first = refl; same = refl }) } } }
+    ∴ record { line = refl; complete = refl; moment = refl; stands = record { own = refl; behind = refl; may = record { doing = _; busy = refl; begins_is = refl; may = refl } } }
+    ∴ record { line = refl; complete = refl; moment = refl; stands = record { own = refl; behind = refl; may = record { doing = _; busy = refl; begins_is = refl; may = refl } } }
     ∴ record { line = refl; complete = refl; moment = refl; stands = (refl, refl) }
-    ∴ record { line = refl; complete = refl; moment = refl; stands = record { own = refl; may = record { doing = _; busy = refl; begins_is = refl; may = refl } } }
+    ∴ record { line = refl; complete = refl; moment = refl; stands = record { own = refl; behind = refl; may = record { doing = _; busy = refl; begins_is = refl; may = refl } } }
     ∴ tt
 
 -- The same 3,600 seconds after.
@@ -113,13 +114,13 @@ later_commit_journal =
 later_commit_is_allowed : AllAllowed (at_start later_commit_run) later_commit_journal
 unfolding journals_compute
 later_commit_is_allowed =
-    record { line = refl; complete = refl; moment = refl; stands = record { own = refl; may = record { doing = _; busy = refl; begins_is = refl; may = record { ready = refl; transacts = refl; same = refl } } } }
-    ∴ record { line = refl; complete = refl; moment = refl; stands = record { own = refl; may = record { doing = _; busy = refl; begins_is = refl; may = Settles _ refl refl } } }
-    ∴ record { line = refl; complete = refl; moment = refl; stands = record { own = refl; may = record { doing = _; busy = refl; begins_is = refl; may = record { ready = refl; transacts = refl; same = refl } } } }
-    ∴ record { line = refl; complete = refl; moment = refl; stands = record { own = refl; may = record { doing = _; busy = refl; begins_is = refl; may = Settles _ refl refl } } }
-    ∴ record { line = refl; complete = refl; moment = refl; stands = record { own = refl; may = record { doing = _; busy = refl; begins_is = refl; may = AtOnce (record { ready = refl; first = refl; same = refl }) } } }
-    ∴ record { line = refl; complete = refl; moment = refl; stands = record { own = refl; may = record { doing = _; busy = refl; begins_is = refl; may = refl } } }
-    ∴ record { line = refl; complete = refl; moment = refl; stands = record { own = refl; may = record { doing = _; busy = refl; begins_is = refl; may = refl } } }
+    record { line = refl; complete = refl; moment = refl; stands = record { own = refl; behind = refl; may = record { doing = _; busy = refl; begins_is = refl; may = record { ready = refl; transacts = refl; same = refl } } } }
+    ∴ record { line = refl; complete = refl; moment = refl; stands = record { own = refl; behind = refl; may = record { doing = _; busy = refl; begins_is = refl; may = Decided _ refl refl } } }
+    ∴ record { line = refl; complete = refl; moment = refl; stands = record { own = refl; behind = refl; may = record { doing = _; busy = refl; begins_is = refl; may = record { ready = refl; transacts = refl; same = refl } } } }
+    ∴ record { line = refl; complete = refl; moment = refl; stands = record { own = refl; behind = refl; may = record { doing = _; busy = refl; begins_is = refl; may = Decided _ refl refl } } }
+    ∴ record { line = refl; complete = refl; moment = refl; stands = record { own = refl; behind = refl; may = record { doing = _; busy = refl; begins_is = refl; may = AtOnce (record { ready = refl; first = refl; same = refl }) } } }
+    ∴ record { line = refl; complete = refl; moment = refl; stands = record { own = refl; behind = refl; may = record { doing = _; busy = refl; begins_is = refl; may = refl } } }
+    ∴ record { line = refl; complete = refl; moment = refl; stands = record { own = refl; behind = refl; may = record { doing = _; busy = refl; begins_is = refl; may = refl } } }
     ∴ record { line = refl; complete = refl; moment = refl; stands = (refl, refl) }
     ∴ tt
 
@@ -182,27 +183,27 @@ kept_block_journal =
 kept_block_is_allowed : AllAllowed (at_start kept_block_run) kept_block_journal
 unfolding journals_compute
 kept_block_is_allowed =
-    record { line = refl; complete = refl; moment = refl; stands = record { own = refl; may = record { doing = _; busy = refl; begins_is = refl; may = record { ready = refl; transacts = refl; same = refl } } } }
-    ∴ record { line = refl; complete = refl; moment = refl; stands = record { own = refl; may = record { doing = _; busy = refl; begins_is = refl; may = Settles _ refl refl } } }
-    ∴ record { line = refl; complete = refl; moment = refl; stands = record { own = refl; may = record { doing = _; busy = refl; begins_is = refl; may = record { ready = refl; transacts = refl; same = refl } } } }
-    ∴ record { line = refl; complete = refl; moment = refl; stands = record { own = refl; may = record { doing = _; busy = refl; begins_is = refl; may = Settles _ refl refl } } }
-    ∴ record { line = refl; complete = refl; moment = refl; stands = record { own = refl; may = record { doing = _; busy = refl; begins_is = refl; may = record { ready = refl; transacts = refl; same = refl } } } }
-    ∴ record { line = refl; complete = refl; moment = refl; stands = record { own = refl; may = record { doing = _; busy = refl; begins_is = refl; may = Settles _ refl refl } } }
-    ∴ record { line = refl; complete = refl; moment = refl; stands = record { own = refl; may = record { doing = _; busy = refl; begins_is = refl; may = AtOnce (record { ready = refl; first = refl; same = refl }) } } }
-    ∴ record { line = refl; complete = refl; moment = refl; stands = record { own = refl; may = record { doing = _; busy = refl; begins_is = refl; may = refl } } }
-    ∴ record { line = refl; complete = refl; moment = refl; stands = record { own = refl; may = record { doing = _; busy = refl; begins_is = refl; may = refl } } }
-    ∴ record { line = refl; complete = refl; moment = refl; stands = record { own = refl; may = record { doing = _; busy = refl; begins_is = refl; may = record { requests = lit≤ tt; segment = refl; behind = refl; session = refl; file = refl; in_time = lit< tt; room = refl } } } }
-    ∴ record { line = refl; complete = refl; moment = refl; stands = record { own = refl; may = record { doing = _; busy = refl; begins_is = refl; may = Settles _ refl refl } } }
-    ∴ record { line = refl; complete = refl; moment = refl; stands = record { own = refl; may = record { doing = _; busy = refl; begins_is = refl; may = record { ready = refl; transacts = refl; same = refl } } } }
-    ∴ record { line = refl; complete = refl; moment = refl; stands = record { own = refl; may = record { doing = _; busy = refl; begins_is = refl; may = Settles _ refl refl } } }
-    ∴ record { line = refl; complete = refl; moment = refl; stands = record { own = refl; may = record { doing = _; busy = refl; begins_is = refl; may = record { goes_on = refl; file = (refl, refl); session = refl; there = refl } } } }
-    ∴ record { line = refl; complete = refl; moment = refl; stands = record { own = refl; may = record { doing = _; busy = refl; begins_is = refl; may = record { goes_on = refl; file = _; opened = refl; own = refl; asked = _; at = refl; view = _; fresh = refl; gone = Owes 0 10 (lit≤ tt) (lit< tt) refl } } } }
-    ∴ record { line = refl; complete = refl; moment = refl; stands = record { own = refl; may = record { doing = _; busy = refl; begins_is = refl; may = record { goes_on = refl; file = (refl, refl); session = refl; there = refl } } } }
-    ∴ record { line = refl; complete = refl; moment = refl; stands = record { own = refl; may = record { doing = _; busy = refl; begins_is = refl; may = IsRefusedBy _ refl (BlockOwed 0 10 _ _ _ _ (InReading _ _ _ _ refl refl refl refl refl refl) (lit≤ tt) (lit< tt) refl refl) refl } } }
-    ∴ record { line = refl; complete = refl; moment = refl; stands = record { own = refl; may = record { doing = _; busy = refl; begins_is = refl; may = HasUploaded refl (FoundNone refl refl refl refl) } } }
+    record { line = refl; complete = refl; moment = refl; stands = record { own = refl; behind = refl; may = record { doing = _; busy = refl; begins_is = refl; may = record { ready = refl; transacts = refl; same = refl } } } }
+    ∴ record { line = refl; complete = refl; moment = refl; stands = record { own = refl; behind = refl; may = record { doing = _; busy = refl; begins_is = refl; may = Decided _ refl refl } } }
+    ∴ record { line = refl; complete = refl; moment = refl; stands = record { own = refl; behind = refl; may = record { doing = _; busy = refl; begins_is = refl; may = record { ready = refl; transacts = refl; same = refl } } } }
+    ∴ record { line = refl; complete = refl; moment = refl; stands = record { own = refl; behind = refl; may = record { doing = _; busy = refl; begins_is = refl; may = Decided _ refl refl } } }
+    ∴ record { line = refl; complete = refl; moment = refl; stands = record { own = refl; behind = refl; may = record { doing = _; busy = refl; begins_is = refl; may = record { ready = refl; transacts = refl; same = refl } } } }
+    ∴ record { line = refl; complete = refl; moment = refl; stands = record { own = refl; behind = refl; may = record { doing = _; busy = refl; begins_is = refl; may = Decided _ refl refl } } }
+    ∴ record { line = refl; complete = refl; moment = refl; stands = record { own = refl; behind = refl; may = record { doing = _; busy = refl; begins_is = refl; may = AtOnce (record { ready = refl; first = refl; same = refl }) } } }
+    ∴ record { line = refl; complete = refl; moment = refl; stands = record { own = refl; behind = refl; may = record { doing = _; busy = refl; begins_is = refl; may = refl } } }
+    ∴ record { line = refl; complete = refl; moment = refl; stands = record { own = refl; behind = refl; may = record { doing = _; busy = refl; begins_is = refl; may = refl } } }
+    ∴ record { line = refl; complete = refl; moment = refl; stands = record { own = refl; behind = refl; may = record { doing = _; busy = refl; begins_is = refl; may = record { requests = lit≤ tt; segment = refl; behind = refl; session = refl; file = refl; in_time = lit< tt; room = refl } } } }
+    ∴ record { line = refl; complete = refl; moment = refl; stands = record { own = refl; behind = refl; may = record { doing = _; busy = refl; begins_is = refl; may = Decided _ refl refl } } }
+    ∴ record { line = refl; complete = refl; moment = refl; stands = record { own = refl; behind = refl; may = record { doing = _; busy = refl; begins_is = refl; may = record { ready = refl; transacts = refl; same = refl } } } }
+    ∴ record { line = refl; complete = refl; moment = refl; stands = record { own = refl; behind = refl; may = record { doing = _; busy = refl; begins_is = refl; may = Decided _ refl refl } } }
+    ∴ record { line = refl; complete = refl; moment = refl; stands = record { own = refl; behind = refl; may = record { doing = _; busy = refl; begins_is = refl; may = record { goes_on = refl; file = (refl, refl); session = refl; there = refl } } } }
+    ∴ record { line = refl; complete = refl; moment = refl; stands = record { own = refl; behind = refl; may = record { doing = _; busy = refl; begins_is = refl; may = record { goes_on = refl; file = _; opened = refl; own = refl; asked = _; at = refl; view = _; fresh = refl; gone = Owes 0 (ACommit 10) (lit≤ tt) (lit< tt) refl } } } }
+    ∴ record { line = refl; complete = refl; moment = refl; stands = record { own = refl; behind = refl; may = record { doing = _; busy = refl; begins_is = refl; may = record { goes_on = refl; file = (refl, refl); session = refl; there = refl } } } }
+    ∴ record { line = refl; complete = refl; moment = refl; stands = record { own = refl; behind = refl; may = record { doing = _; busy = refl; begins_is = refl; may = IsRefusedBy _ refl (BlockOwed 0 (ACommit 10) _ _ _ _ (InReading (record { misses = _; window = _; file = _; asked = _; stage = refl; opened = refl; part = refl; fresh = refl; begins = refl; ends = refl })) (lit≤ tt) (lit< tt) refl refl) refl } } }
+    ∴ record { line = refl; complete = refl; moment = refl; stands = record { own = refl; behind = refl; may = record { doing = _; busy = refl; begins_is = refl; may = HasUploaded refl (FoundNone refl refl refl refl) } } }
     ∴ record { line = refl; complete = refl; moment = refl; stands = (refl, Ends refl refl) }
-    ∴ record { line = refl; complete = refl; moment = refl; stands = record { own = refl; may = record { doing = _; busy = refl; begins_is = refl; may = record { ready = refl; uploads = refl; owed = refl } } } }
-    ∴ record { line = refl; complete = refl; moment = refl; stands = record { own = refl; may = record { doing = _; busy = refl; begins_is = refl; may = HasUploaded refl (Sent 1 0 4 refl refl) } } }
+    ∴ record { line = refl; complete = refl; moment = refl; stands = record { own = refl; behind = refl; may = record { doing = _; busy = refl; begins_is = refl; may = record { ready = refl; uploads = refl; owed = refl } } } }
+    ∴ record { line = refl; complete = refl; moment = refl; stands = record { own = refl; behind = refl; may = record { doing = _; busy = refl; begins_is = refl; may = HasUploaded refl (Sent 1 0 4 refl refl) } } }
     ∴ tt
 
 -- a block said to be kept back, without another look

@@ -21,7 +21,7 @@ use Rattle.jv_model.specs.declared.profile.Does.{Does}
 use Rattle.jv_model.specs.declared.profile.Does.TheVariants.{Answers, Reads, Uploads}
 use Rattle.jv_model.specs.tree.Tree.{content_at}
 use Rattle.jv_model.specs.client.Profile.{profile, handle_of}
-use Rattle.jv_model.specs.client.ModelClient.{ModelClient, OpenFile, View, Doing, Stage, Replying, file_of, Cleans, Compacting, Listed, Judged, Removing, Published}
+use Rattle.jv_model.specs.client.ModelClient.{ModelClient, OpenFile, View, Doing, Stage, Replying, file_of, Cleans, Compacting, Judged, Removing}
 use Rattle.jv_model.specs.client.Submission.{by_limits, is_flushed}
 use Rattle.jv_model.specs.journal.State.{State, or_empty, answer_then, reply_of_answer, is_cleaning, is_collecting, is_compaction}
 use Rattle.jv_model.specs.journal.Reading.{Asked, asked_parts, bytes_between, is_fresh, cited_view, part_read, is_full, joined, read_on, reading}

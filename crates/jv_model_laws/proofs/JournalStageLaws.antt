@@ -1,5 +1,5 @@
 -- What an operation's stage says of the operation.
-use Rattle.std.proofs.Common.{◌≡◌, ℕ, ◌+◌, Bool, true, false, ◌&&◌, ◌==◌, if◌then◌else◌, IsTrue, IsSomeAnd, MatchBool, inl, inr, List, [], ◌∷◌, ◌++◌, is_some, Option, None, Some, refl, sym, ap, subst, ◌∙◌, ◌||◌, not}
+use Rattle.std.proofs.Common.{◌≡◌, ℕ, ◌+◌, Bool, true, false, ◌&&◌, ◌==◌, if◌then◌else◌, IsTrue, IsSomeAnd, MatchBool, inl, inr, List, [], ◌∷◌, ◌++◌, is_some, Option, None, Some, refl, sym, ap, subst, ◌∙◌, ◌||◌}
 use Rattle.std.proofs.lemmas.Bool.Decides.{eqb_tells}
 use Rattle.jv_model.specs.declared.tables.TheConstants.{TABLE_OF_DEAD, TABLE_OF_DROPPED}
 use Rattle.jv_model.specs.declared.act.TheConstants.{NO_CLIENT}

@@ -9,7 +9,7 @@ use Rattle.jv_model.specs.declared.op.Op.TheVariants as op
 use Rattle.jv_model.specs.declared.op.Reply.{Reply}
 use Rattle.jv_model.specs.declared.profile.Does.TheVariants.{Uploads}
 use Rattle.jv_model.specs.client.Profile.{profile}
-use Rattle.jv_model.specs.client.ModelClient.{ModelClient, Doing, Stage, Compacting, Cleans, Listed, Judged, Removing, Published}
+use Rattle.jv_model.specs.client.ModelClient.{ModelClient, Doing, Stage, Compacting, Cleans, Judged, Removing}
 use Rattle.jv_model.specs.client.Submission.{by_limits, is_flushed}
 use Rattle.jv_model.specs.journal.State.{State}
 use Rattle.jv_model.specs.journal.Steps.{Start, MayStep, MayAnswer, Fails, Decided, AtOnce, CountsCache, ReadsViews, CleanedUp, HasCompacted, HasCollected, HasUploaded, Refuses, TooShort, HasReplaced, EndsUpload, Sent, FoundNone, has_judged, owes_none, told_of}

@@ -20,7 +20,7 @@ use Rattle.jv_model.specs.client.ModelClient.{ModelClient, Doing, Working, Reply
 use Rattle.jv_model.specs.client.Profile.{handle_of}
 use Rattle.jv_model.specs.client.Submission.{is_flushed}
 use Rattle.jv_model.specs.journal.State.{State, after_told, caller, is_refused, refusal_in, transacted, without_views}
-use Rattle.jv_model.specs.journal.Steps.{Start, Settles, change_entry, is_crowded}
+use Rattle.jv_model.specs.journal.Steps.{Start, Decided, change_entry, is_crowded}
 use Rattle.jv_model_steps.specs.IsStep.{IsStep, at_stage}
 use Rattle.jv_model_steps.specs.Stages.{changes_files}
 use Rattle.jv_model_steps.proofs.ReadyLaws.{ready-at, quiet-changes, quieted-changes}
@@ -87,7 +87,7 @@ module _ (start : Start) (alone : Bool) (s : State) (client now : ℕ) (d : Doin
       })
       after rest s.copied (leaves-truncated s client now d busy inode len)
       (record d { stage = Replying reply.Done; moved = true }) (Fine 0 0 0 0) reply.Done refl refl refl refl
-      (Settles reply.Done refl refl))
+      (Decided reply.Done refl refl))
 
   -- a copy that it doesn't refuse
   pub copied-step : (source from target to len count : ℕ) → d.op ≡ op.Copy source from target to len
@@ -111,7 +111,7 @@ module _ (start : Start) (alone : Bool) (s : State) (client now : ℕ) (d : Doin
       })
       after rest (s.copied + count) (leaves-copied s client now d busy first from second to count)
       (record d { stage = Replying (reply.Count count); moved = true }) (Fine count 0 0 0) (reply.Count count)
-      refl refl refl refl (Settles (reply.Count count) refl refl))
+      refl refl refl refl (Decided (reply.Count count) refl refl))
 
   -- either one is refused, by the tree or since a stored number is near its end
   module _ (changes : changes_files d.does ≡ true) where
@@ -129,7 +129,7 @@ module _ (start : Start) (alone : Bool) (s : State) (client now : ℕ) (d : Doin
         s.tree (at_stage refused_stage d mine) s.copied
         (leaves-quiet s client now d busy refused_stage
         (quieted-changes s client now mine d started at flushed d.does changes refl ∙ ap Replying refusal))
-        settling told (reply.Refused fault) refl refl calm refl (Settles (reply.Refused fault) refl refl))
+        settling told (reply.Refused fault) refl refl calm refl (Decided (reply.Refused fault) refl refl))
 
     pub change-refused : (fault : Fault) → IsCalm fault → done_reply ≡ reply.Refused fault → IsRefused fault
     change-refused fault calm refused =

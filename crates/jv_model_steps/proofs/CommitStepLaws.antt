@@ -23,7 +23,7 @@ use Rattle.jv_model.specs.client.Submission.{next_segment}
 use Rattle.jv_model.specs.client.ModelClient.{ModelClient, Doing, Stage, Working, Replying, is_last_of_removed}
 use Rattle.jv_model.specs.journal.State.{State, after_told, answer_then, committed_stage, finished, has_session}
 use Rattle.jv_model.specs.journal.State.{with_client, without_committed}
-use Rattle.jv_model.specs.journal.Steps.{Start, Commits, Settles, is_failure, told_of}
+use Rattle.jv_model.specs.journal.Steps.{Start, Commits, Decided, is_failure, told_of}
 use Rattle.jv_model_steps.specs.Leaves.{Leaves}
 use Rattle.jv_model_steps.specs.IsStep.{IsStep, at_stage}
 use Rattle.jv_model_steps.proofs.StepFormLaws.{leaves-one, requested, step-answered, step-on, with_stage-doing}
@@ -179,7 +179,7 @@ module _ (start : Start) (alone : Bool) (s : State) (client now : ℕ) (d : Doin
         (step-answered s client now d busy start alone kind refl commits grown (at_stage stage d rest) s.copied
         (commit-leaves stage (stage-over rest d (Some said) over same))
         after (told_of said) said refl refl (fine-no_failure said fine) refl
-        (Settles said refl refl))
+        (Decided said refl refl))
 
     -- the same, for each operation that is answered then
 

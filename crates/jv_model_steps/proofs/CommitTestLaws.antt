@@ -9,6 +9,7 @@ use Rattle.jv_model.specs.declared.fault.Fault.{Fault}
 use Rattle.jv_model.specs.declared.fault.Fault.TheVariants.{NoSpace, Stale, TimedOut}
 use Rattle.jv_model.specs.declared.fault.Gone.TheVariants.{Session, Node as GoneNode}
 use Rattle.jv_model.specs.declared.op.Reply.TheVariants.{Done}
+use Rattle.jv_model.specs.FiniteMap.{get}
 use Rattle.jv_model.specs.tree.Attempt.{◌>>=◌, require, some_or}
 use Rattle.jv_model.specs.tree.Caller.{Outcome, done}
 use Rattle.jv_model.specs.tree.Tree.{Tree, Content, Node, content_at, content_in, fits, node_at}
@@ -20,6 +21,7 @@ use Rattle.jv_model.specs.journal.State.{State, has_session}
 use Rattle.jv_model.specs.journal.Steps.{Start, Commits, is_crowded}
 use Rattle.jv_model_steps.specs.RefusesCommit.{RefusesCommit, Late, NoFile, NoRoom, NoSession}
 use Rattle.jv_model_steps.proofs.CommitStepLaws.{commits-may}
+use Rattle.jv_model_steps.proofs.SessionLaws.{has_session-mounted}
 
 -- the same as the outcome of a transaction, which has its tree or its refusal
 
@@ -43,7 +45,8 @@ node-there : (o : Option Node) (content : Content) → content_in o ≡ Some con
 node-there None content e = absurd (cc e)
 node-there (Some node) content e = refl
 
-module _ (s : State) (now : ℕ) (c : ModelClient) (segment : Segment) (started : ℕ) where
+module _ (s : State) (now : ℕ) (c : ModelClient) (mounted : IsTrue (is_some c.session)) (segment : Segment)
+    (started : ℕ) where
   abbrev bytes : List ℕ
   bytes = bytes_in_range segment.inode segment.from segment.len c.pending
 
@@ -85,8 +88,8 @@ module _ (s : State) (now : ℕ) (c : ModelClient) (segment : Segment) (started 
       → commit_of (session_of c) segment.inode segment.from bytes started now s.tree ≡ Ok left
       → IsAllowed × (left ≡ left_by)
   tests-allow left e =
-      allowed_by (has_session s.tree c) (content_at s.tree segment.inode) (nat_lt now (started + UPLOAD_LIFE))
-      (fits s.tree left_by) left refl refl refl refl e
+      allowed_by (is_some (get s.tree.sessions (session_of c))) (content_at s.tree segment.inode) (nat_lt now (started + UPLOAD_LIFE))
+      (fits s.tree left_by) left (has_session-mounted s.tree c mounted) refl refl refl e
 
   -- the commit may stand
   pub tests-commit : (d : Doing) (quiets : ℕ) (left : Tree)
@@ -129,5 +132,5 @@ module _ (s : State) (now : ℕ) (c : ModelClient) (segment : Segment) (started 
         → (content_at s.tree segment.inode ≡ None → node_at s.tree segment.inode ≡ None)
         → RefusesCommit start s now c segment started fault
     tests-refuse fault e file =
-        refused_by (has_session s.tree c) (content_at s.tree segment.inode) (nat_lt now (started + UPLOAD_LIFE))
-        (fits s.tree left_by) fault refl refl refl refl file e
+        refused_by (is_some (get s.tree.sessions (session_of c))) (content_at s.tree segment.inode) (nat_lt now (started + UPLOAD_LIFE))
+        (fits s.tree left_by) fault (has_session-mounted s.tree c mounted) refl refl refl file e

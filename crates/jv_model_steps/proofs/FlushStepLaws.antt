@@ -16,7 +16,7 @@ use Rattle.jv_model.specs.client.Submission.{next_segment}
 use Rattle.jv_model.specs.client.ModelClient.{ModelClient, Doing, Stage, Working, Replying, unmounted, session_of}
 use Rattle.jv_model.specs.journal.State.{State, after_told, begun_quietly, flushing_on, has_session, is_of_another}
 use Rattle.jv_model.specs.journal.State.{quieted, refused_as, session_gone, with_client}
-use Rattle.jv_model.specs.journal.Steps.{Start, MayAnswer, NumberRefused, Refuses, Settles, is_crowded, is_failure}
+use Rattle.jv_model.specs.journal.Steps.{Start, MayAnswer, NumberRefused, Refuses, Decided, is_crowded, is_failure}
 use Rattle.jv_model.specs.journal.Steps.{may_be_quiet}
 use Rattle.jv_model.specs.journal.Past.{reply_of}
 use Rattle.jv_model_steps.specs.Leaves.{Leaves}
@@ -137,7 +137,7 @@ module _ (start : Start) (alone : Bool) (s : State) (client now : ℕ) (d : Doin
       flush-refused start alone s client now d busy segment next 0 started at
       (Replying (session_gone (s.clients client))) (ap asks_by gone)
       (Stale (Session (session_of (s.clients client)))) refl refl refl
-      (Settles (session_gone (s.clients client)) refl refl)
+      (Decided (session_gone (s.clients client)) refl refl)
 
   -- there are no more numbers, or no more records
   pub number-crowded : IsTrue (has_session s.tree (s.clients client)) → IsTrue (is_crowded start s)

@@ -10,6 +10,7 @@ pub mod LookStepLaws
 pub mod ReadStepLaws
 pub mod ReadyLaws
 pub mod RefusalStepLaws
+pub mod SessionLaws
 pub mod StepFormLaws
 pub mod TransactionStepLaws
 pub mod TreeChangeLaws

@@ -19,7 +19,7 @@ use Rattle.jv_model.specs.client.Profile.{handle_of}
 use Rattle.jv_model.specs.journal.State.{State, after_told, has_session, is_compaction, look_refusal, looked}
 use Rattle.jv_model.specs.journal.State.{quieted, sees_first, is_of_another, with_look, sees}
 use Rattle.jv_model.specs.journal.Steps.{Start, IsRefusedIn, SessionGone, InodeGone, LooksAt, CompactionLooks}
-use Rattle.jv_model.specs.journal.Steps.{MayStep, MayAnswer, Refuses, Settles, file_in_use, is_missing}
+use Rattle.jv_model.specs.journal.Steps.{MayStep, MayAnswer, Refuses, Decided, file_in_use, is_missing}
 use Rattle.jv_model.specs.journal.Steps.{may_be_quiet, may_read_on, window_to_look}
 use Rattle.jv_model.specs.journal.Past.{reply_of}
 use Rattle.jv_model.specs.journal.Reading.{Asked, asked_parts, fresh_view, part_to_look}
@@ -172,7 +172,7 @@ module _ (start : Start) (alone : Bool) (s : State) (client now : ℕ) (d : Doin
         -- where it has none
         refused-settles : IsQuietTo (Replying (reply.Refused (Stale gone))) → IsRefused gone
         refused-settles quiet = refused-after (Replying (reply.Refused (Stale gone))) quiet refl refl
-            (Settles (reply.Refused (Stale gone)) refl refl)
+            (Decided (reply.Refused (Stale gone)) refl refl)
 
         own-refusal : look_refusal s.tree mine (inode_at mine (handle_of d.op)) ≡ Some (reply.Refused (Stale gone))
         own-refusal = ap (look_refusal s.tree mine) (ap inode_in opened) ∙ refusal

@@ -18,7 +18,7 @@ use Rattle.jv_model.specs.client.ModelClient.{session_of}
 use Rattle.jv_model.specs.client.Submission.{is_flushed}
 use Rattle.jv_model.specs.journal.State.{State, Gift, NewSession, NewHandle, Nothing, after_told, after_transaction}
 use Rattle.jv_model.specs.journal.State.{gift_of, newly_sustained, transacted, with_client}
-use Rattle.jv_model.specs.journal.Steps.{Start, MayStep, Settles, Transaction, entry_of_gift, is_failure, told_of}
+use Rattle.jv_model.specs.journal.Steps.{Start, MayStep, Decided, Transaction, entry_of_gift, is_failure, told_of}
 use Rattle.jv_model.specs.journal.Steps.{transacts}
 use Rattle.jv_model.specs.journal.Stepping.{is_answer}
 use Rattle.jv_model.proofs.ClientsLaws.{doing_given}
@@ -115,7 +115,7 @@ module _ (start : Start) (alone : Bool) (s : State) (client now : ℕ) (d : Doin
         (step-answered s client now d busy start alone kind (asks-by_gift (gift_of out.reply))
         (may-by_gift s client now d busy start alone mine (gift_of out.reply) may) out.tree
         (at_stage settling d (handed s d out mine)) s.copied leaves-transaction after told out.reply
-        refl refl calm refl (Settles out.reply refl refl))
+        refl refl calm refl (Decided out.reply refl refl))
 
   -- one that the tree refuses
   module _ (fault : Fault) where
