@@ -428,7 +428,7 @@ copied_prints = refl
 
 -- The session of a client that cleans up is expired by another one, between a slice that it found and the removal of its
 -- block: the removal needs no session, and what comes after it is refused.
-abbrev expired_cleaner_run : Setup
+abbrev pub expired_cleaner_run : Setup
 expired_cleaner_run = run_of (
     Do 0 (Mount false)
     ∷ Do 1 (Mount false)
@@ -450,7 +450,7 @@ expired_cleaner_run = run_of (
     ∷ []
     )
 
-abbrev expired_cleaner_journal : List Act
+abbrev pub expired_cleaner_journal : List Act
 expired_cleaner_journal =
     entry 1 0 (Mounted 1)
     ∷ entry 1 0 (Answered (Fine 1 0 0 0))

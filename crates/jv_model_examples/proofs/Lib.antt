@@ -14,6 +14,7 @@ pub mod RefusedChangesExamples
 pub mod RefusedCleaningsExamples
 pub mod RefusedCommitsExamples
 pub mod RefusedJournalsExamples
+pub mod RefusedOrderExamples
 pub mod RefusedReadsExamples
 pub mod RefusedStepsExamples
 pub mod RemovingExamples

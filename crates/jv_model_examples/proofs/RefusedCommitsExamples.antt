@@ -139,7 +139,7 @@ commit_too_late more all =
     let step = own_step h.stands.may refl in let early = step.in_time in absurd (omega (arith, early))
 
 -- A block that a client keeps, which another one misses.
-abbrev kept_block_run : Setup
+abbrev pub kept_block_run : Setup
 kept_block_run = run_of (
     Do 0 (Mount true)
     ∷ Do 1 (Mount false)
@@ -155,7 +155,7 @@ kept_block_run = run_of (
     ∷ []
     )
 
-abbrev kept_block_journal : List Act
+abbrev pub kept_block_journal : List Act
 kept_block_journal =
     entry 1 0 (Mounted 1)
     ∷ entry 1 0 (Answered (Fine 1 0 0 0))

@@ -481,7 +481,7 @@ may_forget _ = false
 
 -- Whether the request that was just made may have been a transaction that asks for the session, and
 -- for which its refusal isn't decided yet.
-abbrev asks_rows : ModelClient → Doing → Bool
+abbrev pub asks_rows : ModelClient → Doing → Bool
 asks_rows c d = elim d.stage [
   | Working quiets started ↦ nat_le 3 quiets
   | Reading misses ↦ elim (file_in_use c d) [
