@@ -1,5 +1,5 @@
 -- The lists of a file, one after another by their windows.
-use Rattle.std.specs.Prelude.{◌≡◌, ◌≢◌, ℕ, ◌<◌, ◌^◌, Bool, true, ◌==◌, ◌&&◌, nat_lt, if◌then◌else◌, List, [], length, Option, None, Some, Result, Ok, Err, IfOk, IfErr, IfSome, IsTrue}
+use Rattle.std.specs.Prelude.{◌≡◌, ◌≢◌, ℕ, ◌<◌, ◌^◌, Bool, true, ◌==◌, nat_lt, if◌then◌else◌, List, [], length, Option, None, Some, Result, Ok, Err, IfOk, IfErr, IfSome, IsTrue}
 use Rattle.std.specs.Int.{w32, from_be_bytes}
 use Rattle.std.specs.Option.{option_map}
 use Rattle.jv_model.specs.declared.tables.TheConstants.{TABLE_OF_LISTS}

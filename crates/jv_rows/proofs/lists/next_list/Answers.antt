@@ -1,4 +1,4 @@
-use Rattle.std.proofs.Common.{◌≡◌, ◌-◌, ℕ, [], take, refl, ap, sym, ◌∙◌}
+use Rattle.std.proofs.Common.{◌-◌, ℕ, take, ap, sym, ◌∙◌}
 use Rattle.std.proofs.lemmas.List.{append-nil}
 use Rattle.std.proofs.lemmas.Result.{err_from_is_err_and}
 use Rattle.jv_rows.proofs.ListsLaws.{finds-unread, finds-last, finds-none}
