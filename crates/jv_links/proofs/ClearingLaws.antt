@@ -102,13 +102,15 @@ module _ (who : Caller) (place : EntryKey) (inode : ℕ) (was : List Change) (be
 
   -- no session keeps it
   pub clear-says_none : SaysCleared who place inode true was before (Ok None)
-  clear-says_none known at bytes t m r = (λ i.
-      ap (λ (u : Tree). is_sustained u who.sid i && not (is_sustained t who.sid i))
-      (target_dir t who place inode r.kind)
-      ∙ ap (λ p. is_some (get p (record { sid = who.sid; inode = i })) && not (is_sustained t who.sid i))
-      (change_node-sustained t place.dir (touched who.now))
-      ∙ and-not_self (is_sustained t who.sid i),
-      ap (λ b. if b then None else Some (lost_at t who place inode)) r.kind)
+  clear-says_none known at bytes t m r = (
+    λ i.
+        ap (λ (u : Tree). is_sustained u who.sid i && not (is_sustained t who.sid i))
+        (target_dir t who place inode r.kind)
+        ∙ ap (λ p. is_some (get p (record { sid = who.sid; inode = i })) && not (is_sustained t who.sid i))
+        (change_node-sustained t place.dir (touched who.now))
+        ∙ and-not_self (is_sustained t who.sid i),
+    ap (λ b. if b then None else Some (lost_at t who place inode)) r.kind,
+  )
 
   -- ---- a file or a symlink
 
@@ -143,10 +145,12 @@ module _ (who : Caller) (place : EntryKey) (inode : ℕ) (was : List Change) (be
   -- the session keeps it where that is its fate
   pub clear-says : (fate : Fate) → SaysFate who place inode was before (Ok fate)
       → SaysCleared who place inode false was before (Ok (Some (record { inode = inode; fate = fate })))
-  clear-says fate says known at bytes t m r = (λ i.
-      ap (λ (u : Tree). is_sustained u who.sid i && not (is_sustained t who.sid i))
-      (target_leaf t who place inode r.kind)
-      ∙ kept-remove_entry t who place inode (may_lose t who place inode r) i
-      ∙ ap (λ f. is_inode (kept_by f inode) i) (sym (says known at bytes t m (may_lose t who place inode r))),
-      ap (λ b. if b then None else Some (lost_at t who place inode)) r.kind
-      ∙ ap (λ f. Some (record { inode = inode; fate = f })) (sym (says known at bytes t m (may_lose t who place inode r))))
+  clear-says fate says known at bytes t m r = (
+    λ i.
+        ap (λ (u : Tree). is_sustained u who.sid i && not (is_sustained t who.sid i))
+        (target_leaf t who place inode r.kind)
+        ∙ kept-remove_entry t who place inode (may_lose t who place inode r) i
+        ∙ ap (λ f. is_inode (kept_by f inode) i) (sym (says known at bytes t m (may_lose t who place inode r))),
+    ap (λ b. if b then None else Some (lost_at t who place inode)) r.kind
+        ∙ ap (λ f. Some (record { inode = inode; fate = f })) (sym (says known at bytes t m (may_lose t who place inode r))),
+  )

@@ -125,9 +125,9 @@ pub record Renames (sid : ℕ) (ready : Tree → Type 0) (before after : Store)
     (result : Result (Option Removed) TxFault)
     (act : Tree → Result Outcome Fault) (goes : Tree → Result (Option Removed) Fault) : Type 0
   where
-  pub does : Transacts ready before after result (λ removed. Done) act
-  pub says : SaysSustained sid ready before (renamed_in result) act
-  pub answers : SaysRemoved ready before (renamed_in result) goes
+    pub does : Transacts ready before after result (λ removed. Done) act
+    pub says : SaysSustained sid ready before (renamed_in result) act
+    pub answers : SaysRemoved ready before (renamed_in result) goes
 
 abbrev pub inode_found : Result (Option Place) TxFault → Result (Option ℕ) TxFault
 inode_found (Ok None) = Ok None
