@@ -1,7 +1,7 @@
 -- A commit that was made: where its step leads, and what it leaves of its client.
 use Rattle.std.proofs.Common.{◌≡◌, ℕ, zero, suc, ◌+◌, ◌-◌, ◌≤◌, ◌<◌, List, [], ◌∷◌, length}
 use Rattle.std.proofs.Common.{false, Option, None, Some, Ok, refl, sym, ap, subst, ◌∙◌, arith}
-use Rattle.std.specs.Prelude.{IfSome, unwrap_or}
+use Rattle.std.specs.Prelude.{IfSome, IsTrue, is_some, unwrap_or}
 use Rattle.std.proofs.lemmas.Bool.{le-ltb}
 use Rattle.jv_model.specs.declared.act.ActKind.{ActKind}
 use Rattle.jv_model.specs.declared.act.ActKind.TheVariants.{Answered, Commit}
@@ -42,6 +42,8 @@ use Rattle.jv_client.specs.CacheUse.{is_put_due}
 use Rattle.jv_client.specs.Flushing.{bytes_of, without_segment}
 use Rattle.jv_client.proofs.HeldLaws.{client-doing, doing_of}
 use Rattle.jv_client.proofs.WithoutLaws.{left_of_model}
+use Rattle.jv_client.proofs.FormLaws.{segment-mounted}
+use Rattle.jv_client.proofs.HeldLaws.{mounted-model}
 
 -- ---- the slice in flight
 
@@ -155,6 +157,11 @@ module _ (h : ClientValue) (d : Doing) (v : Shared) (keeper : Store) (at : Segme
     pub bytes-model : flight.bytes ≡ bytes_in_range at.inode segment.from at.len mine.pending
     bytes-model = ap (bytes_in_range at.inode segment.from at.len) (sym is.held.pending)
 
+    pub mounted-here : IsTrue (is_some mine.session)
+    mounted-here =
+        mounted-model h mine is.held.session
+        (segment-mounted h d is_commit.way.form (ap is_some is_commit.next))
+
     pub own-model : (sid : ℕ) → sid ≡ session_here h → sid ≡ session_of mine
     own-model sid own = own ∙ ap (λ (o : Option ℕ). unwrap_or o 0) (sym is.held.session)
 
@@ -187,14 +194,14 @@ module _ (h : ClientValue) (d : Doing) (v : Shared) (keeper : Store) (at : Segme
           → Leads (kind ∷ []) More (at_stage (Working 0 0) (doing_of d) rest)
       leads-left other e =
           committed-left s g v store h.id now (doing_of d) busy-model segment next-model quiets started at-model
-          asked-model flight flies-here is-complete bytes-model at.window at.pos refl keeper sid (own-model sid own)
+          asked-model flight flies-here is-complete bytes-model at.window at.pos refl keeper sid mounted-here (own-model sid own)
           stored-here put-here commits-whole is.held.direct.mode other (left-model (Some other) e)
 
       pub leads-then : segment_left d.flush without.pending ≡ None → answer_then mine (doing_of d) ≡ None
           → Leads (kind ∷ []) More (at_stage (Working 0 0) (doing_of d) rest)
       leads-then e none =
           committed-then s g v store h.id now (doing_of d) busy-model segment next-model quiets started at-model
-          asked-model flight flies-here is-complete bytes-model at.window at.pos refl keeper sid (own-model sid own)
+          asked-model flight flies-here is-complete bytes-model at.window at.pos refl keeper sid mounted-here (own-model sid own)
           stored-here put-here commits-whole is.held.direct.mode (left-model None e) none
 
       pub leads-answered : segment_left d.flush without.pending ≡ None → (said : Reply)
@@ -202,5 +209,5 @@ module _ (h : ClientValue) (d : Doing) (v : Shared) (keeper : Store) (at : Segme
           → Leads (kind ∷ Answered (told_of said) ∷ []) (Done said) (record (finished d.op rest) { doing = None })
       leads-answered e said same =
           committed-answered s g v store h.id now (doing_of d) busy-model segment next-model quiets started at-model
-          asked-model flight flies-here is-complete bytes-model at.window at.pos refl keeper sid (own-model sid own)
+          asked-model flight flies-here is-complete bytes-model at.window at.pos refl keeper sid mounted-here (own-model sid own)
           stored-here put-here commits-whole is.held.direct.mode (left-model None e) said same

@@ -2,7 +2,7 @@
 -- them.
 use Rattle.std.proofs.Common.{◌≡◌, ℕ, ◌+◌, ◌-◌, ◌*◌, ◌≤◌, ◌<◌, ◌||◌, IsTrue, [], ◌∷◌, length, Option}
 use Rattle.std.proofs.Common.{None, Some, Ok, Err, refl, sym, ap, subst, ◌∙◌, arith}
-use Rattle.std.specs.Prelude.{IfSome, IsSome, List, is_some, unwrap_or}
+use Rattle.std.specs.Prelude.{IfSome, IsSome, IsTrue, List, is_some, unwrap_or}
 use Rattle.std.specs.Option.{option_map}
 use Rattle.jv_model.specs.declared.act.ActKind.TheVariants.{Answered, Quiet}
 use Rattle.jv_model.specs.declared.act.Told.TheVariants.{Refused as ToldRefused}
@@ -36,7 +36,7 @@ use Rattle.jv_client.specs.Flushing.{bytes_of}
 use Rattle.jv_client.specs.Held.{IsClient, IsOnWay, flight_by, flush_of_code}
 use Rattle.jv_client.specs.CacheUse.{is_put_due}
 use Rattle.jv_client.specs.Held.{flight_of, in_flight, number_of, segment_left, stage_of}
-use Rattle.jv_client.specs.UnderWay.{IsReady, IsWorking, has_segment, asks_more, left, moved_to, progress_of, reading_steps}
+use Rattle.jv_client.specs.UnderWay.{IsReady, IsWorking, has_segment, asks_more, left, left_of, moved_to, progress_of, reading_steps}
 use Rattle.jv_client.specs.UnderWay.{covered, steps_in}
 use Rattle.jv_client.specs.Makes.{Makes, UsesDevices}
 use Rattle.jv_client.specs.YardUse.{YardUse}
@@ -50,6 +50,8 @@ use Rattle.jv_client.proofs.CoveredLaws.{segment-short}
 use Rattle.jv_client.proofs.CacheUseLaws.{rests-flushing}
 use Rattle.jv_client.proofs.UnmadeLaws.{UnmadeLeads, InState, not_taken, unmade, uses-keeper}
 use Rattle.jv_client.proofs.AnswerLaws.{makes-as, same-yard}
+use Rattle.jv_client.proofs.FormLaws.{segment-mounted, under_way}
+use Rattle.jv_client.proofs.HeldLaws.{mounted-model}
 
 -- ---- a further request of the segment that is committed next
 
@@ -164,6 +166,10 @@ module _ (now entry : ℕ) (h : ClientValue) (d : Doing) (before : Shared) (keep
     next_in =
         ap (next_segment (flush_of_code d.flush)) is.held.pending ∙ left-is h d busy (Some segment) next
 
+    mounted_in : IsTrue (is_some (s.clients h.id).session)
+    mounted_in = mounted-model h (s.clients h.id) is.held.session
+        (segment-mounted h d (under_way h d busy ready).form (ap is_some (sym (ap (left_of h.pending) busy) ∙ next)))
+
     own_in : sid ≡ session_of (s.clients h.id)
     own_in = own ∙ sym (ap (λ (o : Option ℕ). unwrap_or o 0) is.held.session)
 
@@ -174,9 +180,9 @@ module _ (now entry : ℕ) (h : ClientValue) (d : Doing) (before : Shared) (keep
       request = subst (λ (n : ℕ). Request s g (with_size given (length bytes) g) before numbered h.id now n given
           (Quiet ∷ []) More s.tree (at_stage (InModel 1 0) (doing_of d) (s.clients h.id)) s.copied) (sym none_yet)
           (number-taken s g before store h.id now (doing_of d) busy_in segment next_in started (ap stage_of at) keeper sid
-          own_in given takes bytes);
+          mounted_in own_in given takes bytes);
       flies = number-taken_flies s g before store h.id now (doing_of d) busy_in segment next_in started (ap stage_of at)
-          keeper sid own_in given takes bytes;
+          keeper sid mounted_in own_in given takes bytes;
       put = omega arith;
       there = λ index none. absurd (omega (arith, none));
     }
@@ -188,16 +194,16 @@ module _ (now entry : ℕ) (h : ClientValue) (d : Doing) (before : Shared) (keep
           (Done (RefusedReply fault)) s.tree (after_told d.op (ToldRefused fault) (s.clients h.id)) s.copied)
           (sym none_yet)
           (number-refused s g before store h.id now (doing_of d) busy_in segment next_in started (ap stage_of at) keeper
-          sid own_in fault takes);
+          sid mounted_in own_in fault takes);
       calm = number-calm s g before store h.id now (doing_of d) busy_in segment next_in started (ap stage_of at) keeper
-          sid own_in fault takes;
+          sid mounted_in own_in fault takes;
     }
     refused_in (Moved list) takes =
         number-never_moved s g before store h.id now (doing_of d) busy_in segment next_in started (ap stage_of at) keeper
-        sid own_in list takes
+        sid mounted_in own_in list takes
     refused_in (OfRows (Bad row bad)) takes =
         number-never_bad s g before store h.id now (doing_of d) busy_in segment next_in started (ap stage_of at) keeper
-        sid own_in row bad takes
+        sid mounted_in own_in row bad takes
     refused_in (OfRows Failed) takes = tt
     refused_in (OfRows Memory) takes = tt
 

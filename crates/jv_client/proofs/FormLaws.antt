@@ -1,7 +1,7 @@
 -- What is known of an operation in progress: what its form says of it, and how far it is.
 use Rattle.std.proofs.Common.{◌≡◌, ℕ, zero, suc, ◌<◌, true, false, not, List, Option, None, Some}
 use Rattle.std.proofs.Common.{refl, sym, ap, subst, ◌∙◌, arith}
-use Rattle.std.specs.Prelude.{◌||◌, is_some, IfSome}
+use Rattle.std.specs.Prelude.{◌||◌, is_some, IfSome, IsTrue}
 use Rattle.std.proofs.lemmas.Bool.{false_from_ne_true, not-true, or_from}
 use Rattle.jv_model.specs.declared.op.Op.{Op}
 use Rattle.jv_model.specs.declared.op.Op.TheVariants as op
@@ -42,6 +42,23 @@ none_left h d busy flushed = ap is_some (sym (ap (left_of h.pending) busy) ∙ f
 pub no_segment : (h : ClientValue) (d : Doing) → d.flush ≡ flush.Nothing → has_segment h d ≡ false
 no_segment h d first = ap (λ (first : Flush). has_segment h (record d { flush = first })) first
 
+-- an operation that has a segment to commit is a mounted client's, and so is a reading
+module _ (h : ClientValue) (d : Doing) where
+  by_form : IsForm h d → (d.flush ≡ flush.Nothing → d.does ≡ does.Mounts false → ⊥) → IsTrue (is_some h.session)
+  by_form (Mounts of_op of_does none) unlike = absurd (unlike none of_does)
+  by_form (Transacts plain spelled of_does none mounted) unlike = mounted
+  by_form (Leaves of_op of_does all mounted) unlike = mounted
+  by_form (Writes handle offset bytes file of_op of_does opened short room mounted) unlike = mounted
+  by_form (Flushes handle file for first opened mounted) unlike = mounted
+  by_form (Copies source from target to len file other of_op of_does first opened opened_to mounted) unlike = mounted
+  by_form (SaysStats of_op of_does none mounted) unlike = mounted
+
+  pub segment-mounted : IsForm h d → has_segment h d ≡ true → IsTrue (is_some h.session)
+  segment-mounted form some = by_form form (λ none of_does. cc (sym some ∙ no_segment h d none))
+
+  pub reading-mounted : (offset len : ℕ) → d.does ≡ does.Reads offset len → IsForm h d → IsTrue (is_some h.session)
+  reading-mounted offset len reads form = by_form form (λ none of_does. cc (sym of_does ∙ reads))
+
 -- so the model has all committed that it flushes
 pub flushed-same : (h : ClientValue) (d : Doing) (pending : List PendingByte) → has_segment h d ≡ false
     → pending ≡ h.pending → is_flushed (flush_of_code d.flush) pending ≡ true
@@ -62,7 +79,7 @@ ends-asks h d ends = by_does d.does ends
     by_does (does.Reads offset len) ends = absurd (cc ends)
     by_does does.Truncates ends = absurd (cc ends)
     by_does does.Copies ends = absurd (cc ends)
-    by_does does.Compacts ends = absurd (cc ends)
+    by_does (does.Compacts given) ends = absurd (cc ends)
     by_does does.Cleans ends = absurd (cc ends)
     by_does (does.Collects delete) ends = absurd (cc ends)
     by_does does.Uploads ends = absurd (cc ends)

@@ -1,6 +1,7 @@
 -- What a client in memory stands for, whatever it is doing; and what is held of it stays holdable.
 use Rattle.std.proofs.Common.{◌≡◌, ℕ, List, [], ◌∷◌, Option, Some, refl, ap, ◌∙◌}
 use Rattle.std.specs.List.{AllByRecursion}
+use Rattle.std.specs.Prelude.{is_some, IsTrue}
 use Rattle.jv_model.specs.declared.op.Op.{Op}
 use Rattle.jv_model.specs.tree.Tree.{Tree}
 use Rattle.jv_model.specs.client.Pending.{PendingByte}
@@ -11,6 +12,11 @@ use Rattle.jv_client.specs.declared.doing.Doing.{Doing}
 use Rattle.jv_client.specs.ClientValue.{ClientValue}
 use Rattle.jv_client.specs.Held.{Holds, IsClient, IsDoing, IsHeld, flush_of_code, stage_of}
 use Rattle.jv_client_handles.proofs.TableLaws.{there_in}
+
+-- a mounted client stands for one of the model that is mounted
+pub mounted-model : (h : ClientValue) (m : ModelClient) → m.session ≡ h.session → IsTrue (is_some h.session)
+    → IsTrue (is_some m.session)
+mounted-model h m same mounted = ap is_some same ∙ mounted
 
 -- ---- what the model's client is doing
 

@@ -27,7 +27,7 @@ use Rattle.jv_client.specs.Makes.{Makes}
 use Rattle.jv_client.specs.Transacting.{EndsUnmade, NotMade}
 use Rattle.jv_client.specs.UnderWay.{IsReady}
 use Rattle.jv_client.proofs.CommitLaws.{IsCommit, asked-model, at-model, busy-model, bytes-model, flies-here, flight}
-use Rattle.jv_client.proofs.CommitLaws.{is-complete, next-model, none-due, number-is, own-model, record_for, segment}
+use Rattle.jv_client.proofs.CommitLaws.{is-complete, next-model, mounted-here, none-due, number-is, own-model, record_for, segment}
 use Rattle.jv_client.proofs.HeldLaws.{doing_of}
 use Rattle.jv_client.proofs.NextSegmentLaws.{segment-of}
 use Rattle.jv_client.proofs.CacheUseLaws.{left-some, rests-flushing}
@@ -77,6 +77,7 @@ module _ (h : ClientValue) (d : Doing) (v : Shared) (keeper : Store) (at : Segme
         let flies = flies-here h d v keeper at now quiets started id is_commit s g store is in
         let complete = is-complete h d v keeper at now quiets started id is_commit s g store is in
         let bytes = bytes-model h d v keeper at now quiets started id is_commit s g store is in
+        let mounted = mounted-here h d v keeper at now quiets started id is_commit s g store is in
         let mine_is = own-model h d v keeper at now quiets started id is_commit s g store is sid own in
         let f = flight h d v keeper at now quiets started id is_commit in
         let piece = segment h d v keeper at now quiets started id is_commit in
@@ -86,10 +87,10 @@ module _ (h : ClientValue) (d : Doing) (v : Shared) (keeper : Store) (at : Segme
               (Done (reply.Refused fault)) s.tree (after_told d.op (ToldRefused fault) mine) s.copied)
               (sym (number-is h d v keeper at now quiets started id is_commit))
               (commit-unmade s g v store h.id now (doing_of d) busy piece next quiets started stage asked f flies complete
-              bytes at.window at.pos refl keeper sid mine_is fault (whole (Refused fault) commits) holdable);
+              bytes at.window at.pos refl keeper sid mounted mine_is fault (whole (Refused fault) commits) holdable);
           calm =
               commit-calm s g v store h.id now (doing_of d) busy piece next quiets started stage asked f flies complete
-              bytes at.window at.pos refl keeper sid mine_is fault (whole (Refused fault) commits) holdable;
+              bytes at.window at.pos refl keeper sid mounted mine_is fault (whole (Refused fault) commits) holdable;
         }
 
     unmade-so : (fault : TxFault) → Commits fault → UnmadeLeads now h d v used_here Quiet fault s g
@@ -105,6 +106,7 @@ module _ (h : ClientValue) (d : Doing) (v : Shared) (keeper : Store) (at : Segme
         (flies-here h d v keeper at now quiets started id is_commit s g store is)
         (is-complete h d v keeper at now quiets started id is_commit s g store is)
         (bytes-model h d v keeper at now quiets started id is_commit s g store is) at.window at.pos refl keeper sid
+        (mounted-here h d v keeper at now quiets started id is_commit s g store is)
         (own-model h d v keeper at now quiets started id is_commit s g store is sid own) list (whole (Moved list) commits)
     unmade-so (OfRows (Bad row bytes)) commits =
         commit-never_bad s g v store h.id now (doing_of d)
@@ -117,6 +119,7 @@ module _ (h : ClientValue) (d : Doing) (v : Shared) (keeper : Store) (at : Segme
         (flies-here h d v keeper at now quiets started id is_commit s g store is)
         (is-complete h d v keeper at now quiets started id is_commit s g store is)
         (bytes-model h d v keeper at now quiets started id is_commit s g store is) at.window at.pos refl keeper sid
+        (mounted-here h d v keeper at now quiets started id is_commit s g store is)
         (own-model h d v keeper at now quiets started id is_commit s g store is sid own) row bytes
         (whole (OfRows (Bad row bytes)) commits)
     unmade-so (OfRows Failed) commits = tt

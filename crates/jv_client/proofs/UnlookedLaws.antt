@@ -2,7 +2,7 @@
 -- a row is Bad.
 use Rattle.std.proofs.Common.{◌≡◌, ℕ, ◌+◌, true, false, [], ◌∷◌, Option, Some, Err, refl, sym, ap, subst}
 use Rattle.std.proofs.Common.{◌∙◌, arith}
-use Rattle.std.specs.Prelude.{unwrap_or}
+use Rattle.std.specs.Prelude.{IsTrue, is_some, unwrap_or}
 use Rattle.std.specs.Option.{option_map}
 use Rattle.jv_model.specs.declared.act.ActKind.TheVariants.{Answered, Quiet}
 use Rattle.jv_model.specs.declared.act.Told.TheVariants.{Refused as ToldRefused}
@@ -67,6 +67,8 @@ use Rattle.jv_client.proofs.GoneOnLaws.{over}
 use Rattle.jv_client.proofs.ReadFailedLaws.{failed, held-cache}
 use Rattle.jv_client.proofs.LookLaws.{uses-look}
 use Rattle.jv_client.proofs.UnmadeLaws.{calm-refusal}
+use Rattle.jv_client.proofs.FormLaws.{reading-mounted}
+use Rattle.jv_client.proofs.HeldLaws.{mounted-model}
 
 -- the keeper failed
 uses-failed : (before : Shared) (keeper : Store) → keeper.rows ≡ before.keeper.rows
@@ -141,7 +143,7 @@ module _ (now entry block : ℕ) (h : ClientValue) (d : Doing) (offset len : ℕ
 
   module _ (fault : Fault)
       (looks : LooksAt (session_here h) file.inode window before.keeper keeper (Err (RefusedBy fault)))
-      (s : State) (g : Known) (has : HasStore s.tree g before) (holds : Holds s.tree (s.clients h.id))
+      (mounted : IsTrue (is_some h.session)) (s : State) (g : Known) (has : HasStore s.tree g before) (holds : Holds s.tree (s.clients h.id))
       (client : IsClient g before (s.clients h.id) s.count h) where
     abbrev m : ModelClient
     m = s.clients h.id
@@ -193,7 +195,8 @@ module _ (now entry block : ℕ) (h : ClientValue) (d : Doing) (offset len : ℕ
           (Done (Refused fault)) s.tree (after_told d.op (ToldRefused fault) m) s.copied)
           (none_flying h d asks.busy asks.at asks.none ∙ sym none_flies)
           (look-refused s h.id now md here.busy offset len asks.does 0 here.may (file_by file) here.in_use
-          window to_look g before has keeper (in_flight h) holdable fault in_rows);
+          window to_look g before has keeper (in_flight h) holdable
+          (mounted-model h m client.held.session mounted) fault in_rows);
       is_client = told-client g used (s.count + 2) d.op (ToldRefused fault) m c refl
           (held-goes s.tree g before has 0 g used stays m s.count (s.count + 2) c (omega arith)
           (held-cache g before m s.count h c.cache c.doing client.held))
@@ -214,6 +217,7 @@ module _ (now entry block : ℕ) (h : ClientValue) (d : Doing) (offset len : ℕ
   look-unmade (RefusedBy fault) after done ready looks ends =
       let why = refusal_of fault in
       let rests = refused-rests why c in
+      let mounted = reading-mounted c (put_at (Reading fetch (NeedsLook window)) d) offset len asks.does ready.doing.form in
       subst (λ x. Makes now entry h after before used x) (sym ends.made_is)
       (subst (λ x. Makes now entry h x before used (made.Both Quiet (ToldRefused why) (Refused why)))
       (sym ends.after_is)
@@ -229,7 +233,7 @@ module _ (now entry block : ℕ) (h : ClientValue) (d : Doing) (offset len : ℕ
             (looked-before (made.Both Quiet (ToldRefused why) (Refused why)) (refused_here why c) refl refl) refl tt;
         alone = (refl, calm-refusal fault);
         falls = rests.idle;
-        leads = λ s g number has holds client. refused-so fault looks s g has holds client;
+        leads = λ s g number has holds client. refused-so fault looks mounted s g has holds client;
       }))
   look-unmade (Moved list) after done ready looks ends =
       let fault : Fault = Contended (Lists ends.0 ends.0) in

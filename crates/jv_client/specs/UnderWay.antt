@@ -53,7 +53,7 @@ asks_more h d = elim d.does [
   | does.Reads offset len ↦ has_not_seen offset (file_of h.handles (handle_of d.op))
   | does.Truncates ↦ true
   | does.Copies ↦ true
-  | does.Compacts ↦ false
+  | does.Compacts given ↦ false
   | does.Cleans ↦ false
   | does.Collects delete ↦ false
   | does.Uploads ↦ false
@@ -216,7 +216,7 @@ ends_itself h d = elim d.does [
   | does.Reads offset len ↦ false
   | does.Truncates ↦ false
   | does.Copies ↦ false
-  | does.Compacts ↦ false
+  | does.Compacts given ↦ false
   | does.Cleans ↦ false
   | does.Collects delete ↦ false
   | does.Uploads ↦ false

@@ -1,6 +1,7 @@
 -- A flush commits a segment, whose slice's blocks were all put.
 use Rattle.std.proofs.Common.{◌≡◌, ℕ, ◌+◌, ◌*◌, ◌≤◌, Bool, false, [], ◌∷◌, inl, inr, List, length, None, Some, Ok}
 use Rattle.std.proofs.Common.{Err, refl, sym, ap, subst, ◌∙◌, arith}
+use Rattle.std.specs.Prelude.{is_some, IsTrue}
 use Rattle.jv_model.specs.declared.limits.TheConstants.{WINDOW}
 use Rattle.jv_model.specs.declared.act.ActKind.{ActKind}
 use Rattle.jv_model.specs.declared.act.ActKind.TheVariants.{Answered, Commit, Quiet}
@@ -65,7 +66,8 @@ module _ (s : State) (g : Known) (v : Shared) (store : HasStore s.tree g v) (cli
     (f : Flight) (flies : Flies g v f) (complete : IsComplete v.yard.setting.block f)
     (bytes_are : f.bytes ≡ bytes_in_range segment.inode segment.from segment.len (s.clients client).pending)
     (window pos : ℕ) (from_is : segment.from ≡ window * WINDOW + pos)
-    (keeper : Store) (sid : ℕ) (own : sid ≡ session_of (s.clients client)) where
+    (keeper : Store) (sid : ℕ) (mounted : IsTrue (is_some (s.clients client).session))
+    (own : sid ≡ session_of (s.clients client)) where
   abbrev c : ModelClient
   c = s.clients client
 
@@ -128,7 +130,7 @@ module _ (s : State) (g : Known) (v : Shared) (store : HasStore s.tree g v) (cli
         (record { tree = tree_with known_bytes (typed made.left); reply = reply.Done }) (sym committing-same ∙ made.model)
 
     tree-is : tree_with known_bytes (typed made.left) ≡ grown
-    tree-is = (tests-allow s now c segment started (tree_with known_bytes (typed made.left)) tested).1
+    tree-is = (tests-allow s now c mounted segment started (tree_with known_bytes (typed made.left)) tested).1
 
     commit_leads : Leads f.id grown g g v left_shared
     commit_leads = subst (λ (t : Tree). Leads f.id t g g v left_shared) tree-is
@@ -138,7 +140,7 @@ module _ (s : State) (g : Known) (v : Shared) (store : HasStore s.tree g v) (cli
 
     commit_may : c.writeback ≡ false → Commits s now c d segment.inode segment.from segment.len 0
     commit_may direct =
-        tests-commit s now c segment started d quiets (tree_with known_bytes (typed made.left)) tested at asked direct next
+        tests-commit s now c mounted segment started d quiets (tree_with known_bytes (typed made.left)) tested at asked direct next
 
     abbrev Goes : List ActKind → Step → ModelClient → Type 0
     Goes kinds step after = Request s g g v left_shared client now f.id 0 kinds step grown after s.copied
@@ -215,7 +217,7 @@ module _ (s : State) (g : Known) (v : Shared) (store : HasStore s.tree g v) (cli
     module _ (holdable : IsHoldable s.tree segment.inode) where
       why : (start : Start) → RefusesCommit start s now c segment started fault
       why start =
-          tests-refuse s now c segment started start fault undone
+          tests-refuse s now c mounted segment started start fault undone
           (file-gone (node_at s.tree segment.inode) holdable.file)
 
       pub commit-unmade : Request s g g v left_shared client now f.id 0 (Quiet ∷ Answered (ToldRefused fault) ∷ [])

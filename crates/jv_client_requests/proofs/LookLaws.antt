@@ -1,6 +1,6 @@
 -- Looks at a window of a file: the view that a reading goes on with, or why it is refused.
 use Rattle.std.proofs.Common.{◌≡◌, ℕ, Bool, true, false, List, [], ◌∷◌, Option, None, Some, Result, Ok, Err, refl}
-use Rattle.std.proofs.Common.{sym, ap, subst}
+use Rattle.std.proofs.Common.{sym, ap, subst, ◌∙◌}
 use Rattle.std.specs.Prelude.{is_some, length, IsTrue}
 use Rattle.jv_model.specs.declared.act.ActKind.TheVariants.{Answered, Look, Quiet}
 use Rattle.jv_model.specs.declared.act.Told.{Told}
@@ -46,6 +46,7 @@ use Rattle.jv_model_steps.specs.Stages.{Begins, GoesOn, MayRead}
 use Rattle.jv_model_steps.proofs.ReadStepLaws.{read-answered_look}
 use Rattle.jv_model_steps.proofs.RefusalStepLaws.{goes-reading, goes-working}
 use Rattle.jv_model_steps.proofs.LookStepLaws.{look-step, look-refused_session, look-refused_node}
+use Rattle.jv_model_steps.proofs.SessionLaws.{has_session-mounted, has_session-there}
 use Rattle.jv_client_requests.specs.Request.{Request}
 use Rattle.jv_client_requests.proofs.StillLaws.{fault_of_rows, found-in, rows-failed, still-request}
 use Rattle.jv_model.proofs.TestLaws.{of_known}
@@ -154,7 +155,7 @@ module _ (s : State) (client now : ℕ) (d : Doing) (busy : (s.clients client).d
           still-request s g v looked has still client now flying (Look file.inode window ∷ []) More
           (at_stage (Reading misses) d (with_look s d file.inode window mine))
           (λ start alone. look-step start alone s client now d busy offset len does misses may file opened window look
-          sees.session (content-there (node_at s.tree file.inode) sees.content sees.file))
+          (has_session-there s.tree mine sees.session) (content-there (node_at s.tree file.inode) sees.content sees.file))
 
       -- they are those of the window's list
       listed_here : view.list ≡ lists_of (typed has.rows) file.inode window
@@ -189,7 +190,7 @@ module _ (s : State) (client now : ℕ) (d : Doing) (busy : (s.clients client).d
             still-request s g v looked has still client now flying (Look file.inode window ∷ Answered told ∷ [])
             (Done (Data bytes)) (after_told d.op told (with_look s d file.inode window mine))
             (λ start alone. read-answered_look start alone s client now d busy offset len does file opened first
-            second bytes misses may window look sees.session
+            second bytes misses may window look (has_session-there s.tree mine sees.session)
             (content-there (node_at s.tree file.inode) sees.content sees.file) reads)
 
     -- the keeper failed, or memory ran out
@@ -210,7 +211,8 @@ module _ (s : State) (client now : ℕ) (d : Doing) (busy : (s.clients client).d
         by_cause (NoSession gone is) = ap (λ f. is_failure (ToldRefused f)) is
         by_cause (NoFile session none is) = ap (λ f. is_failure (ToldRefused f)) is
 
-    module _ (holdable : IsHoldable s.tree file.inode) (fault : Fault)
+    module _ (holdable : IsHoldable s.tree file.inode) (mounted : IsTrue (is_some (s.clients client).session))
+        (fault : Fault)
         (looks : LooksAt sid file.inode window v.keeper keeper (Err (RefusedBy fault))) where
       pub look-refused : Request s g g v looked client now flying flying (Quiet ∷ Answered (ToldRefused fault) ∷ [])
           (Done (Refused fault)) s.tree (after_told d.op (ToldRefused fault) mine) s.copied
@@ -232,7 +234,7 @@ module _ (s : State) (client now : ℕ) (d : Doing) (busy : (s.clients client).d
               (Quiet ∷ Answered (ToldRefused (Stale (Session sid))) ∷ []) (Done (Refused (Stale (Session sid))))
               (after_told d.op (ToldRefused (Stale (Session sid))) mine)
               (λ start alone. look-refused_session start alone s client now d busy offset len does misses may file
-              opened window look gone))
+              opened window look (has_session-mounted s.tree mine mounted ∙ gone)))
           by_cause (NoFile session none is) =
               subst IsRefused (sym is)
               (still-request s g v looked has still client now flying
@@ -240,7 +242,7 @@ module _ (s : State) (client now : ℕ) (d : Doing) (busy : (s.clients client).d
               (Done (Refused (Stale (Node file.inode))))
               (after_told d.op (ToldRefused (Stale (Node file.inode))) mine)
               (λ start alone. look-refused_node start alone s client now d busy offset len does misses may file opened
-              window look session
+              window look (has_session-there s.tree mine session)
               (file-gone (node_at s.tree file.inode) holdable.file none)))
 
 -- A look at rows that are a tree's meets no malformed row, and asks for no list that may have moved.

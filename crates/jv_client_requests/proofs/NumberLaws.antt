@@ -1,7 +1,7 @@
 -- A flush asks for the number of a segment's slice.
 use Rattle.std.proofs.Common.{◌≡◌, ℕ, ◌+◌, ◌≤◌, Bool, true, false, List, [], ◌∷◌, length, None, Some, Result, Ok, Err}
 use Rattle.std.proofs.Common.{refl, sym, ap, subst, ◌∙◌, arith}
-use Rattle.std.specs.Prelude.{is_some, nat_le, nat_lt}
+use Rattle.std.specs.Prelude.{is_some, nat_le, nat_lt, IsTrue}
 use Rattle.std.proofs.lemmas.Bool.{le-leb, ltb-false, or_left}
 use Rattle.jv_model.specs.declared.limits.TheConstants.{FULL_COUNT, FILE_END}
 use Rattle.jv_model.specs.declared.act.ActKind.TheVariants.{Quiet, Answered}
@@ -43,6 +43,7 @@ use Rattle.jv_client_shared.proofs.StoreLaws.{rows_are}
 use Rattle.jv_model_steps.specs.IsStep.{IsStep, at_stage}
 use Rattle.jv_model_steps.proofs.FlushStepLaws.{number-crowded, number-gone, number-step}
 use Rattle.jv_model_steps.proofs.RefusalStepLaws.{goes-working}
+use Rattle.jv_model_steps.proofs.SessionLaws.{has_session-mounted}
 use Rattle.jv_client_requests.specs.Request.{IsWithin, Request}
 use Rattle.jv_client_requests.proofs.RequestLaws.{Grows, request-of}
 use Rattle.jv_client_requests.proofs.GrowsLaws.{left-grows}
@@ -57,13 +58,14 @@ unfolding tree_of
 sessions-told bytes rows sid = refl
 
 pub session-same : (s : State) (g : Known) (v : Shared) (store : HasStore s.tree g v) (c : ModelClient) (sid : ℕ)
-    → sid ≡ session_of c
+    → IsTrue (is_some c.session) → sid ≡ session_of c
     → (bytes : ℕ → ℕ → ℕ) → is_some (get (tree_of bytes (typed store.rows)).sessions sid) ≡ has_session s.tree c
-session-same s g v store c sid own bytes =
+session-same s g v store c sid mounted own bytes =
     sessions-told bytes (typed store.rows) sid
     ∙ sym (sessions-told (bytes_of (known_by v.yard.setting.block g.blocks) (typed store.rows)) (typed store.rows) sid)
     ∙ ap (λ (t : Tree). is_some (get t.sessions sid)) (sym store.tree)
     ∙ ap (λ sid. is_some (get s.tree.sessions sid)) own
+    ∙ sym (has_session-mounted s.tree c mounted)
 
 -- ---- the tests of the transaction
 
@@ -92,7 +94,8 @@ module _ (s : State) (g : Known) (v : Shared) (store : HasStore s.tree g v) (cli
     (busy : (s.clients client).doing ≡ Some d) (segment : Segment)
     (next : next_segment d.flush (s.clients client).pending ≡ Some segment) (started : ℕ)
     (at : d.stage ≡ Working 0 started)
-    (keeper : Store) (sid : ℕ) (own : sid ≡ session_of (s.clients client)) where
+    (keeper : Store) (sid : ℕ) (mounted : IsTrue (is_some (s.clients client).session))
+    (own : sid ≡ session_of (s.clients client)) where
   abbrev c : ModelClient
   c = s.clients client
 
@@ -106,7 +109,7 @@ module _ (s : State) (g : Known) (v : Shared) (store : HasStore s.tree g v) (cli
   number_there = nat_lt (next_slice (typed store.rows)) FULL_COUNT
 
   session-is : session_there ≡ has_session s.tree c
-  session-is = session-same s g v store c sid own no_bytes
+  session-is = session-same s g v store c sid mounted own no_bytes
 
   -- a number was given
 
