@@ -84,6 +84,9 @@ module _ (rows : Rows) (inode : ℕ) (was : NodeRow) (c : Counters) (now length 
     slices_middle : WholeSlices middle
     slices_middle = quiet-slices rows middle quiet whole.slices
 
+    pub node-changed : node_row_at last inode ≡ Some (sized rows inode was c now length whole there file counters)
+    node-changed = node_then inode ∙ node-sized rows inode was c now length whole there file counters
+
     pub whole-changed : Whole last
     whole-changed = whole-formed last
         (formed-beside middle last (formed-sized rows inode was c now length whole there file counters) l.beside)

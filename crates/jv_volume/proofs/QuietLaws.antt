@@ -57,7 +57,7 @@ no_file-left start rows inode d gone none = by_length (file_length (node_row_at 
         let both : ◌≡◌ {A = Option Dropped} (Some (record { length = length })) None = sym (ap (λ c. dropped_in (row_in c)) left) ∙ none in
         absurd (cc)
 
-drop-none : (rows : Rows) → FilesDrop rows rows
+pub drop-none : (rows : Rows) → FilesDrop rows rows
 drop-none rows inode = by_node (node_row_at rows inode)
   where
     by_node : (o : Option NodeRow) → get rows (dropped_key inode) ≡ left_by o o (get rows (dropped_key inode))
@@ -69,7 +69,7 @@ module _ (start rows after : Rows) (d : FilesDrop start rows) where
   DropsAt inode = get after (dropped_key inode) ≡ left_by (node_row_at start inode) (node_row_at after inode) (get start (dropped_key inode))
 
   -- an inode whose node and dropped row are as before
-  drop-beside : (inode : ℕ) → node_row_at after inode ≡ node_row_at rows inode → get after (dropped_key inode) ≡ get rows (dropped_key inode) → DropsAt inode
+  pub drop-beside : (inode : ℕ) → node_row_at after inode ≡ node_row_at rows inode → get after (dropped_key inode) ≡ get rows (dropped_key inode) → DropsAt inode
   drop-beside inode node drop =
       drop ∙ d inode ∙ ap (λ n. left_by (node_row_at start inode) n (get start (dropped_key inode))) (sym node)
 
