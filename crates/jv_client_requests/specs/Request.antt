@@ -31,8 +31,9 @@ pub record IsApart (g : Known) (v : Shared) (mine own after : ℕ) : Type 0 wher
 
 -- The model allows these entries as a step, and they lead to this client, to this tree, to `copied`
 -- bytes copied in all, and to devices that stand for the tree. Of what is known, of numbers, and of
--- what other clients hold nothing is lost, and dropped rows come for just the files that go. `mine` is the number of the client's slice in flight
--- before the step, `after` that after it, and 0 stands for none.
+-- what other clients hold nothing is lost, and dropped rows come for just the files that go.
+-- `mine` is the number of the client's slice in flight before the step, `after` that after it, and 0
+-- stands for none.
 pub record Request (s : State) (g learned : Known) (before v : Shared) (client now mine after : ℕ)
     (kinds : List ActKind) (step : Step) (t : Tree) (c : ModelClient) (copied : ℕ) : Type 0 where
   pub own : ℕ

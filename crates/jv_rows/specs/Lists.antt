@@ -80,8 +80,8 @@ is_of_another inode (Bad at bytes) = not (at.a == inode)
 is_of_another inode Failed = false
 is_of_another inode Memory = false
 
--- why a file's list wasn't read: the row behind is one of the file's lists and malformed, the keeper
--- failed, or out of memory
+-- why a file's list wasn't read: the row behind is one of the file's lists and malformed, the
+-- keeper failed, or out of memory
 abbrev pub RefusesList : ℕ → Option RowMap → RowFault → Type 0
 RefusesList inode rows (Bad at bytes) = (at.a ≡ inode) × IfSome rows (λ known.
     (at.tab ≡ TABLE_OF_LISTS) × (get (typed known) at ≡ Some (Err bytes)))
