@@ -110,6 +110,7 @@ module _ (s : State) (g learned : Known) (before v : Shared) (client now mine af
       new_apart = λ f flies other none. (let some = flies.ever.some in absurd (omega (arith, some, none)));
     };
     stays = r.stays;
+    drops = r.drops;
   }
 
 -- ---- devices

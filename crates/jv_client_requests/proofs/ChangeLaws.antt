@@ -119,7 +119,7 @@ module _ (s : State) (client now : ℕ) (d : Doing) (busy : (s.clients client).d
         let model : truncate s.tree who len ≡ Ok (record { tree = left_tree landed.left; reply = reply.Done }) =
         ap (λ (t : Tree). truncate t who len) has.tree ∙ landed.model in (
           left_tree landed.left,
-          landed-request s g v has client now flying keeper landed.left landed.is landed.whole 1 landed.others
+          landed-request s g v has client now flying keeper landed.left landed.is landed.whole 1 landed.others landed.dropped
               (acted-stays s.tree g v has who (op.Truncate handle len)
               (record { tree = left_tree landed.left; reply = reply.Done })
               (ap (outcome s.tree) model))
@@ -184,7 +184,7 @@ module _ (s : State) (client now : ℕ) (d : Doing) (busy : (s.clients client).d
         (record { tree = left_tree landed.left; reply = reply.Count count }) =
         ap (λ (t : Tree). copy t who from to len) has.tree ∙ landed.model in (
           left_tree landed.left,
-          landed-request s g v has client now flying keeper landed.left landed.is landed.whole count landed.others
+          landed-request s g v has client now flying keeper landed.left landed.is landed.whole count landed.others landed.dropped
               (acted-stays s.tree g v has who (op.Copy source from target to len)
               (record { tree = left_tree landed.left; reply = reply.Count count }) (ap (outcome s.tree) model))
               (Copied (inode_at mine source) from (inode_at mine target) to count ∷ Answered (Fine count 0 0 0) ∷ [])

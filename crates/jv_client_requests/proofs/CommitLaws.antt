@@ -49,7 +49,7 @@ use Rattle.jv_model_steps.proofs.CommitTestLaws.{tests-allow, tests-commit, test
 use Rattle.jv_model_steps.proofs.CommitTestLaws.{tests-undone}
 use Rattle.jv_model_steps.proofs.RefusalStepLaws.{commit-refused, goes-working}
 use Rattle.jv_client_requests.specs.Request.{Request}
-use Rattle.jv_client_requests.proofs.RequestLaws.{Grows, begun_with, request-of}
+use Rattle.jv_client_requests.proofs.RequestLaws.{Grows, begun_with, drops-known, request-of}
 use Rattle.jv_client_requests.proofs.GrowsLaws.{left-grows}
 use Rattle.jv_client_requests.proofs.FlightLaws.{apart-own, flight-over}
 use Rattle.jv_client_requests.proofs.StillLaws.{fault_of_rows, rows-failed, still-within}
@@ -159,7 +159,8 @@ module _ (s : State) (g : Known) (v : Shared) (store : HasStore s.tree g v) (cli
         flight-over g v f.id s g left_shared client now f.id kinds step grown after s.copied
         (request-of s g g v left_shared client now kinds step grown after s.copied f.id f.id f.id
         (λ start alone within. steps start alone) commit_leads (commit_grows kinds step after some) (apart-own g v f.id)
-        (stays-committed s.tree now segment.inode segment.from patch))
+        (stays-committed s.tree now segment.inode segment.from patch)
+        (drops-known v left_shared store.rows made.left store.rows_are made.is made.dropped))
 
     module _ (direct : (s.clients client).writeback ≡ false) where
       -- Another segment is left.

@@ -39,4 +39,5 @@ module _ (g : Known) (v : Shared) (mine : ℕ) where
     leads = request.leads;
     apart = record { own_apart = request.apart.own_apart; new_apart = λ f flies other. numbered g v f flies };
     stays = request.stays;
+    drops = request.drops;
   }

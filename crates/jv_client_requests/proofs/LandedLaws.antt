@@ -12,6 +12,7 @@ use Rattle.jv_model.specs.journal.State.{State}
 use Rattle.jv_model.specs.journal.Steps.{Start}
 use Rattle.jv_outside.specs.Store.{Store}
 use Rattle.jv_volume.specs.TypedRows.{typed}
+use Rattle.jv_volume.specs.Whole.{FilesDrop}
 use Rattle.jv_volume.specs.Shape.{WholeShape, shape_of}
 use Rattle.jv_volume.specs.Holding.{Stays}
 use Rattle.jv_volume.specs.Whole.{Whole}
@@ -25,7 +26,7 @@ use Rattle.jv_client_shared.proofs.RowStepLaws.{others-lead}
 use Rattle.jv_model_steps.specs.IsStep.{IsStep}
 use Rattle.jv_client_requests.specs.Request.{Request}
 use Rattle.jv_client_requests.proofs.GrowsLaws.{left-grows}
-use Rattle.jv_client_requests.proofs.RequestLaws.{Grows, request-of}
+use Rattle.jv_client_requests.proofs.RequestLaws.{Grows, drops-known, request-of}
 use Rattle.jv_client_requests.proofs.StillLaws.{apart-none}
 
 module _ (t : Tree) (g : Known) (v : Shared) (has : HasStore t g v) where
@@ -51,7 +52,7 @@ module _ (s : State) (g : Known) (v : Shared) (has : HasStore s.tree g v) (clien
   tree_left left = tree_with (known_by v.yard.setting.block g.blocks) (typed left)
 
   module _ (left : RowMap) (is : keeper.rows ≡ Some left) (whole : Whole (typed left)) (more : ℕ)
-      (others : KeepsOthers 0 more (typed has.rows) (typed left)) (stays : Stays s.tree (tree_left left))
+      (others : KeepsOthers 0 more (typed has.rows) (typed left)) (drops : FilesDrop (typed has.rows) (typed left)) (stays : Stays s.tree (tree_left left))
       (kinds : List ActKind) (step : Step) (c : ModelClient) (copied : ℕ) where
     landed-grows : more + s.copied ≤ length kinds + copied
         → Grows s g g v after client now kinds step (tree_left left) c copied
@@ -69,4 +70,4 @@ module _ (s : State) (g : Known) (v : Shared) (has : HasStore s.tree g v) (clien
         request-of s g g v after client now kinds step (tree_left left) c copied flying 0 flying
         (λ start alone within. steps start alone)
         (others-lead s.tree g v has keeper v.carrier left more is whole others stays.setting) (landed-grows few)
-        (apart-none g v flying) stays
+        (apart-none g v flying) stays (drops-known v after has.rows left has.rows_are is drops)

@@ -131,7 +131,7 @@ module _ (s : State) (client now : ℕ) (d : Doing) (busy : (s.clients client).d
           after,
           does,
           landed-request s g v has client now flying keeper landed.left landed.is landed.whole 0
-              (keeps-quiet (typed has.rows) (typed landed.left) landed.quiet)
+              (keeps-quiet (typed has.rows) (typed landed.left) landed.quiet) landed.quiet.dropped
               (acted-stays s.tree g v has who d.op out does)
               (entry_of_gift (gift_of out.reply) ∷ Answered (told_of out.reply) ∷ []) (Done out.reply)
               (after_told d.op (told_of out.reply) (handed s d out mine)) s.copied (omega arith)

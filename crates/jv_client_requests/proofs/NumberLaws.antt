@@ -1,7 +1,7 @@
 -- A flush asks for the number of a segment's slice.
-use Rattle.std.proofs.Common.{◌≡◌, ℕ, ◌+◌, ◌≤◌, Bool, true, false, List, [], ◌∷◌, length, None, Some, Result, Ok, Err}
+use Rattle.std.proofs.Common.{◌≡◌, ℕ, ◌+◌, ◌≤◌, Bool, true, false, ◌⊎◌, inl, inr, List, [], ◌∷◌, length, None, Some, Result, Ok, Err}
 use Rattle.std.proofs.Common.{refl, sym, ap, subst, ◌∙◌, arith}
-use Rattle.std.specs.Prelude.{is_some, nat_le, nat_lt, IsTrue}
+use Rattle.std.specs.Prelude.{◌==◌, is_some, nat_le, nat_lt, IsTrue}
 use Rattle.std.proofs.lemmas.Bool.{le-leb, ltb-false, or_left}
 use Rattle.jv_model.specs.declared.limits.TheConstants.{FULL_COUNT, FILE_END}
 use Rattle.jv_model.specs.declared.act.ActKind.TheVariants.{Quiet, Answered}
@@ -18,6 +18,7 @@ use Rattle.jv_model.specs.declared.row.RowKey.{RowKey}
 use Rattle.jv_model.specs.declared.slice.Rec.{Rec}
 use Rattle.jv_model.specs.FiniteMap.{get}
 use Rattle.jv_model.specs.rows.RowFaults.{row_fault}
+use Rattle.jv_model.specs.rows.RowPlaces.{counters_key, dropped_key, node_key}
 use Rattle.jv_model.specs.tree.Attempt.{◌>>=◌, require}
 use Rattle.jv_model.specs.tree.Tree.{Tree}
 use Rattle.jv_model.specs.client.Pending.{Segment}
@@ -29,7 +30,9 @@ use Rattle.jv_outside.specs.Store.{Store}
 use Rattle.jv_volume.specs.TypedRows.{Rows, typed}
 use Rattle.jv_volume.specs.TreeOf.{sessions_of, tree_of}
 use Rattle.jv_volume.specs.Slices.{next_slice}
-use Rattle.jv_volume.specs.Whole.{no_bytes}
+use Rattle.jv_volume.specs.Views.{row_in, node_in}
+use Rattle.jv_volume.specs.Whole.{FilesDrop, no_bytes}
+use Rattle.jv_volume.proofs.QuietLaws.{drop-beside, drop-none}
 use Rattle.jv_volume_bytes.specs.Blocks.{known_by}
 use Rattle.jv_volume_bytes.specs.Bytes.{bytes_of}
 use Rattle.jv_volume_bytes.specs.Counts.{record_count}
@@ -45,10 +48,21 @@ use Rattle.jv_model_steps.proofs.FlushStepLaws.{number-crowded, number-gone, num
 use Rattle.jv_model_steps.proofs.RefusalStepLaws.{goes-working}
 use Rattle.jv_model_steps.proofs.SessionLaws.{has_session-mounted}
 use Rattle.jv_client_requests.specs.Request.{IsWithin, Request}
-use Rattle.jv_client_requests.proofs.RequestLaws.{Grows, request-of}
+use Rattle.jv_client_requests.proofs.RequestLaws.{Grows, drops-known, request-of}
 use Rattle.jv_client_requests.proofs.GrowsLaws.{left-grows}
 use Rattle.jv_client_requests.proofs.FlightLaws.{apart-new}
 use Rattle.jv_client_requests.proofs.StillLaws.{fault_of_rows, rows-failed, stays-same, still-within}
+
+-- ---- dropped rows, beside the counters
+
+drops-counters : (rows after : Rows) → ((key : RowKey) → (get after key ≡ get rows key) ⊎ (key ≡ counters_key)) → FilesDrop rows after
+drops-counters rows after others i = drop-beside rows rows after (drop-none rows) i
+    (ap (λ c. node_in (row_in c)) (by_key (node_key i) refl (others (node_key i))))
+    (by_key (dropped_key i) refl (others (dropped_key i)))
+  where
+    by_key : (key : RowKey) → (key.tab == 1) ≡ false → (get after key ≡ get rows key) ⊎ (key ≡ counters_key) → get after key ≡ get rows key
+    by_key key apart (inl same) = same
+    by_key key apart (inr same) = (let both : true ≡ false = sym (ap (λ (k : RowKey). k.tab == 1) same) ∙ apart in absurd (cc))
 
 -- ---- sessions, which no bytes of files change
 
@@ -147,6 +161,7 @@ module _ (s : State) (g : Known) (v : Shared) (store : HasStore s.tree g v) (cli
         (number-apart s.tree g v store keeper v.carrier n.left id n.is n.whole n.low n.given n.next n.unknown n.same
         n.others))
         (stays-same s.tree)
+        (drops-known v asked store.rows n.left store.rows_are n.is (drops-counters (typed store.rows) (typed n.left) n.others))
 
     pub number-taken_flies : (bytes : List ℕ)
         → Flies (with_size id (length bytes) g) asked (record { id = id; bytes = bytes; put = 0 })

@@ -25,7 +25,7 @@ use Rattle.jv_model_steps.specs.IsStep.{at_stage}
 use Rattle.jv_model_steps.proofs.FlushStepLaws.{put-step}
 use Rattle.jv_model_steps.proofs.RefusalStepLaws.{goes-working}
 use Rattle.jv_client_requests.specs.Request.{Request}
-use Rattle.jv_client_requests.proofs.RequestLaws.{request-of}
+use Rattle.jv_client_requests.proofs.RequestLaws.{drops-same, request-of}
 use Rattle.jv_client_requests.proofs.FlightLaws.{apart-own, flight-over}
 use Rattle.jv_client_requests.proofs.StillLaws.{failure-request, stays-same}
 
@@ -67,7 +67,7 @@ module _ (s : State) (g : Known) (v : Shared) (store : HasStore s.tree g v) (cli
         (λ start alone within. put-step start alone s client now d busy segment next quiets started at asked)
         (put-step_leads v f client now yard carrier s.tree g store flies short more puts)
         (record { numbers = omega arith; records = omega arith })
-        (apart-own g v f.id) (stays-same s.tree)
+        (apart-own g v f.id) (stays-same s.tree) (drops-same v then_shared refl)
 
   -- The block wasn't put: the operation ends, and all is as before, the slice's flight too, by unput-flies.
   pub put-failed : (fault : PutFault) → PutsFlight client now f v.yard yard v.carrier carrier (Err fault)

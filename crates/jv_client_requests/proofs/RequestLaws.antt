@@ -1,18 +1,21 @@
 -- A request from its parts: a step of the model, devices that stand for the tree that it leads to, and how many numbers
 -- and records came.
-use Rattle.std.proofs.Common.{ℕ, ◌+◌, ◌≤◌, Bool, true, List, [], length, sym, subst, arith}
+use Rattle.std.proofs.Common.{◌≡◌, ℕ, ◌+◌, ◌≤◌, Bool, true, List, [], length, Option, Some, sym, subst, arith}
 use Rattle.jv_model.specs.declared.act.ActKind.{ActKind}
 use Rattle.jv_model.specs.declared.op.Step.{Step}
 use Rattle.jv_model.specs.tree.Tree.{Tree}
 use Rattle.jv_model.specs.client.ModelClient.{ModelClient}
 use Rattle.jv_model.specs.journal.State.{State}
 use Rattle.jv_model.specs.journal.Steps.{Start}
-use Rattle.jv_volume.specs.TypedRows.{Rows}
+use Rattle.jv_model.specs.rows.RowKeys.{RowMap}
+use Rattle.jv_volume.specs.TypedRows.{Rows, typed}
+use Rattle.jv_volume.specs.Whole.{FilesDrop}
+use Rattle.jv_volume.proofs.QuietLaws.{drop-none}
 use Rattle.jv_volume.specs.Slices.{next_slice}
 use Rattle.jv_volume.specs.Holding.{Stays}
 use Rattle.jv_volume_bytes.specs.Counts.{record_count}
 use Rattle.jv_client_shared.specs.Keeping.{Leads}
-use Rattle.jv_client_shared.specs.Shared.{Known, Shared, rows_in}
+use Rattle.jv_client_shared.specs.Shared.{Known, Shared, rows_in, typed_in}
 use Rattle.jv_model_steps.specs.IsStep.{IsStep}
 use Rattle.jv_client_requests.specs.Request.{IsApart, IsWithin, Request}
 
@@ -28,6 +31,18 @@ begun_with t rows = record {
 begun-within : (s : State) (rows : Rows) → IsWithin (begun_with s.tree rows) s rows
 begun-within s rows = record { numbers = omega arith; records = omega arith }
 
+-- ---- the rows of files that go
+
+pub drops-known : (before v : Shared) (known left : RowMap) → before.keeper.rows ≡ Some known → v.keeper.rows ≡ Some left
+    → FilesDrop (typed known) (typed left) → FilesDrop (rows_in before) (rows_in v)
+drops-known before v known left was is d =
+    subst (λ (o : Option RowMap). FilesDrop (typed_in o) (rows_in v)) (sym was)
+    (subst (λ (o : Option RowMap). FilesDrop (typed known) (typed_in o)) (sym is) d)
+
+pub drops-same : (before v : Shared) → v.keeper.rows ≡ before.keeper.rows → FilesDrop (rows_in before) (rows_in v)
+drops-same before v same =
+    subst (λ (o : Option RowMap). FilesDrop (rows_in before) (typed_in o)) (sym same) (drop-none (rows_in before))
+
 module _ (s : State) (g learned : Known) (before v : Shared) (client now : ℕ) (kinds : List ActKind) (step : Step)
     (t : Tree) (c : ModelClient) (copied : ℕ) where
   -- how many more numbers and records there are
@@ -39,8 +54,9 @@ module _ (s : State) (g learned : Known) (before v : Shared) (client now : ℕ) 
       → ((start : Start) (alone : Bool) → IsWithin start s (rows_in before)
       → IsStep start alone s client now kinds step t c copied)
       → Leads own t g learned before v → Grows → IsApart g before mine own after → Stays s.tree t
+      → FilesDrop (rows_in before) (rows_in v)
       → Request s g learned before v client now mine after kinds step t c copied
-  request-of mine own after steps leads grows apart stays =
+  request-of mine own after steps leads grows apart stays drops =
       let leaves = (steps (begun_with s.tree (rows_in before)) true (begun-within s (rows_in before))).leaves in
       record {
         own = own;
@@ -57,4 +73,5 @@ module _ (s : State) (g learned : Known) (before v : Shared) (client now : ℕ) 
         leads = subst (λ (t : Tree). Leads own t g learned before v) (sym leaves.tree) leads;
         apart = apart;
         stays = subst (λ (t : Tree). Stays s.tree t) (sym leaves.tree) stays;
+        drops = drops;
       }

@@ -31,7 +31,7 @@ use Rattle.jv_client_shared.proofs.SameLaws.{same-leads}
 use Rattle.jv_model_steps.specs.IsStep.{IsStep}
 use Rattle.jv_model_steps.proofs.RefusalStepLaws.{failure-step}
 use Rattle.jv_client_requests.specs.Request.{IsApart, IsWithin, Request}
-use Rattle.jv_client_requests.proofs.RequestLaws.{Grows, request-of}
+use Rattle.jv_client_requests.proofs.RequestLaws.{Grows, drops-same, request-of}
 
 -- a step that is about no slice is apart from those in flight, and the client keeps its own
 pub apart-none : (g : Known) (v : Shared) (mine : ℕ) → IsApart g v mine 0 mine
@@ -78,6 +78,7 @@ module _ (s : State) (g : Known) (v v' : Shared) (has : HasStore s.tree g v) (sa
   still-within kinds step c steps =
       request-of s g g v v' client now kinds step s.tree c s.copied mine 0 mine steps
       (same-leads 0 s.tree g v v' same has) (same-grows kinds step c) (apart-none g v mine) (stays-same s.tree)
+      (drops-same v v' same.rows)
 
   -- or whatever they are
   pub still-request : (kinds : List ActKind) (step : Step) (c : ModelClient)

@@ -10,6 +10,7 @@ use Rattle.jv_model.specs.journal.Stepping.{AllowsStep, stepped_by}
 use Rattle.jv_volume.specs.TypedRows.{Rows}
 use Rattle.jv_volume.specs.Slices.{next_slice}
 use Rattle.jv_volume.specs.Holding.{Stays}
+use Rattle.jv_volume.specs.Whole.{FilesDrop}
 use Rattle.jv_volume_bytes.specs.Counts.{record_count}
 use Rattle.jv_volume_bytes.specs.Flights.{Flight}
 use Rattle.jv_client_shared.specs.Flying.{Flies}
@@ -30,8 +31,9 @@ pub record IsApart (g : Known) (v : Shared) (mine own after : ℕ) : Type 0 wher
 
 -- The model allows these entries as a step, and they lead to this client, to this tree, to `copied`
 -- bytes copied in all, and to devices that stand for the tree. Of what is known, of numbers, and of
--- what other clients hold nothing is lost. `mine` is the number of the client's slice in flight
--- before the step, `after` that after it, and 0 stands for none.
+-- what other clients hold nothing is lost, and dropped rows come for just the files that go.
+-- `mine` is the number of the client's slice in flight before the step, `after` that after it, and 0
+-- stands for none.
 pub record Request (s : State) (g learned : Known) (before v : Shared) (client now mine after : ℕ)
     (kinds : List ActKind) (step : Step) (t : Tree) (c : ModelClient) (copied : ℕ) : Type 0 where
   pub own : ℕ
@@ -43,3 +45,4 @@ pub record Request (s : State) (g learned : Known) (before v : Shared) (client n
   pub leads : Leads own (stepped_by s client now kinds).tree g learned before v
   pub apart : IsApart g before mine own after
   pub stays : Stays s.tree (stepped_by s client now kinds).tree
+  pub drops : FilesDrop (rows_in before) (rows_in v)

@@ -33,11 +33,11 @@ use Rattle.jv_data.specs.declared.copying.CopyCourse.{CopyCourse}
 use Rattle.jv_data.specs.Changing.{may_change}
 use Rattle.jv_data.specs.Copying.{rows_copied, Copying, GetsPieces}
 use Rattle.jv_data.proofs.BesideLaws.{Beside, beside-then}
-use Rattle.jv_data.proofs.ListChangeLaws.{ListsChange, whole-changed, others-changed, tree-copied}
+use Rattle.jv_data.proofs.ListChangeLaws.{node-changed, ListsChange, whole-changed, others-changed, tree-copied}
 use Rattle.jv_data.proofs.PartsLaws.{get-copied, get-copied-file, beside-copied, lists_of-copied-file, pieces-copied, shows-copied, move-copied, few-copied}
 use Rattle.jv_data.proofs.RestLaws.{rest-then}
 use Rattle.jv_data.proofs.SameTreeLaws.{beside-adjusted}
-use Rattle.jv_data.proofs.SizedLaws.{sized_rows, quiet-sized}
+use Rattle.jv_data.proofs.SizedLaws.{sized_rows, sized, quiet-sized}
 
 module _ (rows : Rows) (course : CopyCourse) (was : NodeRow) (c : Counters) (now end : ℕ) (whole : Whole rows)
     (there : node_row_at rows course.target ≡ Some was) (file : was.kind ≡ 1) (counters : counters_at rows ≡ Some c)
@@ -160,6 +160,10 @@ module _ (rows : Rows) (course : CopyCourse) (was : NodeRow) (c : Counters) (now
     module _ (given : 0 < next_slice rows) where
       pub whole-copied : Whole last
       whole-copied = whole-changed rows course.target was c now end whole there file counters small given more last change
+
+      -- the file's node is there
+      pub node-copied : node_row_at last course.target ≡ Some (sized rows course.target was c now end whole there file counters)
+      node-copied = node-changed rows course.target was c now end whole there file counters small given more last change
 
       pub others-copied : KeepsOthers 0 more rows last
       others-copied = others-changed rows course.target was c now end whole there file counters small given more last change

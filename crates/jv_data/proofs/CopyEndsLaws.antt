@@ -50,10 +50,11 @@ use Rattle.jv_data.specs.Resizing.{ResizesFile, AreSized}
 use Rattle.jv_data.specs.Truncating.{HasSlice, HaveSlices}
 use Rattle.jv_data.proofs.BeginningLaws.{content_found}
 use Rattle.jv_data.proofs.CommitLaws.{looks-any}
-use Rattle.jv_data.proofs.CopiedLaws.{crowded-copied, lives-copied, pieces-last, rest-copied, whole-copied, others-copied, tree-copied_lists}
+use Rattle.jv_data.proofs.CopiedLaws.{crowded-copied, lives-copied, node-copied, pieces-last, rest-copied, whole-copied, others-copied, tree-copied_lists}
 use Rattle.jv_data.proofs.PartsLaws.{gets-none, get-copied, have-copied}
 use Rattle.jv_data.proofs.RefusedLaws.{changes-refused}
-use Rattle.jv_data.proofs.RestLaws.{of_left}
+use Rattle.jv_data.proofs.RestLaws.{drops-rest, of_left}
+use Rattle.jv_volume.proofs.QuietLaws.{drop-none}
 use Rattle.jv_data.proofs.SizedLaws.{sized_rows}
 use Rattle.jv_data.proofs.TruncateLaws.{has_named}
 use Rattle.jv_data.proofs.CountersLaws.{fits-same}
@@ -210,6 +211,7 @@ module _ (sid now src dst from to len : ℕ) (due : Setting → ℕ) where
               others = keeps-stay (typed known) (typed known) (λ key of. refl) 0 0 refl;
               size = λ slice here. (let no = whole.slices.none in absurd (cc));
               dies = λ setting set id slice here gone. absurd (cc);
+              dropped = drop-none (typed known);
               model = past_within.goes_on known is whole (bytes_of known_bytes (typed known))
                   ∙ ap (λ m. fitting m (tree_with known_bytes (typed known))) none
                   ∙ ap (λ b. require b NoSpace >>= (λ unit. answered (tree_with known_bytes (typed known)) (Count 0))) (fits_same (tree_with known_bytes (typed known)));
@@ -409,6 +411,8 @@ module _ (sid now src dst from to len : ℕ) (due : Setting → ℕ) where
                       others = others-copied (typed known) course target (s known is whole).counters now length whole (target_there known is) g.file (s known is whole).there (small known is whole) refl
                           (drafted d2 known) added (y known is whole) n 0 enough left adjusted (s known is whole).given;
                       size = λ slice here. (let none = whole_left.slices.none in absurd (cc));
+                      dropped = drops-rest (typed known) left dst _ rest_left (node-copied (typed known) course target (s known is whole).counters now length whole (target_there known is) g.file
+                          (s known is whole).there (small known is whole) refl (drafted d2 known) added (y known is whole) n 0 enough left adjusted (s known is whole).given);
                       dies = λ setting set id slice here gone. absurd (lives-copied (typed known) course target (s known is whole).counters now length whole (target_there known is) g.file
                           (s known is whole).there (small known is whole) refl (drafted d2 known) added (y known is whole) n 0 enough left adjusted id slice here gone);
                       model = past_counted.goes_on known is whole (bytes_of known_bytes (typed known))

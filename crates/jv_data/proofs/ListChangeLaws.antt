@@ -19,7 +19,7 @@ use Rattle.jv_volume.specs.Views.{row_in, counters_in, counters_at, node_in, nod
 use Rattle.jv_volume.specs.TreeOf.{counters_of, or_no_counters}
 use Rattle.jv_volume.specs.Slices.{next_slice, place_in, WholeSlices}
 use Rattle.jv_volume.specs.Whole.{Quiet, Whole, is_of_slices}
-use Rattle.jv_volume.proofs.QuietLaws.{quiet-slices}
+use Rattle.jv_volume.proofs.QuietLaws.{other_tab, quiet-slices}
 use Rattle.jv_volume_bytes.specs.Places.{put_over, cut_at}
 use Rattle.jv_volume_bytes.specs.Bytes.{KnownBytes, spot_byte, bytes_of, tree_with}
 use Rattle.jv_volume_bytes.specs.Counts.{KeepsOthers}
@@ -29,7 +29,6 @@ use Rattle.jv_volume_bytes.proofs.WholeLaws.{SlicesGo, keeps-go, slices-go, File
 use Rattle.jv_data.proofs.BesideLaws.{Beside, formed-beside, whole-formed}
 use Rattle.jv_data.proofs.ChangedLaws.{tree-changed}
 use Rattle.jv_data.proofs.SizedLaws.{sized_rows, sized, formed-sized, quiet-sized, node-sized, kept-sized, counters-sized, content_was}
-use Rattle.jv_volume.proofs.FileStepLaws.{other_tab}
 
 module _ (rows : Rows) (inode : ℕ) (was : NodeRow) (c : Counters) (now length : ℕ) (whole : Whole rows)
     (there : node_row_at rows inode ≡ Some was) (file : was.kind ≡ 1) (counters : counters_at rows ≡ Some c) where
@@ -84,6 +83,9 @@ module _ (rows : Rows) (inode : ℕ) (was : NodeRow) (c : Counters) (now length 
 
     slices_middle : WholeSlices middle
     slices_middle = quiet-slices rows middle quiet whole.slices
+
+    pub node-changed : node_row_at last inode ≡ Some (sized rows inode was c now length whole there file counters)
+    node-changed = node_then inode ∙ node-sized rows inode was c now length whole there file counters
 
     pub whole-changed : Whole last
     whole-changed = whole-formed last

@@ -45,8 +45,8 @@ use Rattle.jv_data.specs.Records.{HasRecords, IsNew, CommitsRecord, AppendsRecor
 use Rattle.jv_data.proofs.CommitLaws.{RefusedBy, began, commit-unbegun, commit-reads, commit-fails}
 use Rattle.jv_data.proofs.NewRecordLaws.{recorded_rows, lists-recorded}
 use Rattle.jv_data.proofs.RecordsLaws.{records-unread, records-seen_in}
-use Rattle.jv_data.proofs.RecordedLaws.{last, lives-last, rest-last, whole-last, others-last, size-last, tree-last}
-use Rattle.jv_data.proofs.RestLaws.{of_left}
+use Rattle.jv_data.proofs.RecordedLaws.{last, lives-last, node-last, rest-last, whole-last, others-last, size-last, tree-last}
+use Rattle.jv_data.proofs.RestLaws.{drops-rest, of_left}
 use Rattle.jv_model.proofs.TestLaws.{of_known}
 
 -- a reading, and then something that fails
@@ -205,6 +205,8 @@ module _ (sid now inode window : ℕ) (rec : Rec) (started : ℕ) where
               whole there begun.file begun.sized.there list_here is_rec some small within new.unknown new.below);
           size = λ slice here. size-last (typed known) inode window low begun.was begun.sized.counters now rec list whole there begun.file
               begun.sized.there list_here is_rec some small within slice (ap (λ (rows : Rows). slice_row_at rows rec.id) (sym rows_are) ∙ here);
+          dropped = drops-rest (typed known) (drafted d2 known) inode _ rest (ap (λ (rows : Rows). node_row_at rows inode) rows_are
+              ∙ node-last (typed known) inode window low begun.was begun.sized.counters now rec list whole there begun.file begun.sized.there list_here is_rec some small within);
           dies = λ setting set id old here none. absurd (lives-last (typed known) inode window low begun.was begun.sized.counters now rec list whole there begun.file
               begun.sized.there list_here is_rec some small within id old here (ap (λ (rows : Rows). slice_row_at rows id) (sym rows_are) ∙ none));
           model = ap (λ r. r >>= (λ left. done left)) ((began sid now inode end started before middle begun_by b from bytes (ap (λ n. from + n) new.shows.long)).goes_on

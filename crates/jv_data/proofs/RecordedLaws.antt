@@ -13,12 +13,12 @@ use Rattle.jv_model.specs.declared.slice.Rec.{Rec}
 use Rattle.jv_model.specs.declared.slice.Spot.TheVariants.{Zero}
 use Rattle.jv_model.specs.FiniteMap.{get}
 use Rattle.jv_model.specs.blocks.Slices.{IsRecord, shown}
-use Rattle.jv_model.specs.rows.RowPlaces.{list_key, slice_key}
+use Rattle.jv_model.specs.rows.RowPlaces.{list_key, node_key, slice_key}
 use Rattle.jv_model.specs.tree.Tree.{Tree, Content}
 use Rattle.jv_model.specs.tree.Changes.{overwritten, with_content, content_of}
 use Rattle.jv_model.specs.tree.FileBytes.{committed}
 use Rattle.jv_volume.specs.TypedRows.{Cell, Rows}
-use Rattle.jv_volume.specs.Views.{lists_of, node_row_at, slice_row_at, counters_at}
+use Rattle.jv_volume.specs.Views.{row_in, node_in, lists_of, node_row_at, slice_row_at, counters_at}
 use Rattle.jv_volume.specs.Slices.{IsUnknown, next_slice, place_in}
 use Rattle.jv_volume.specs.Whole.{IsRowAt, Quiet, Whole}
 use Rattle.jv_volume.proofs.QuietLaws.{lists_of-stay, slice_row-stay}
@@ -103,6 +103,11 @@ module _ (rows : Rows) (inode window : ℕ) (low : window < 2 ^ 32) (was : NodeR
       let q = or_parts (t == 4) (t == 5) p.0 in
       other_same middle inode window low rec list same_list is some small key q.0 q.1))
       (list_beside middle inode window low rec list same_list is some small)
+
+  -- and the file's node is there
+  pub node-last : node_row_at last inode ≡ Some (sized rows inode was c now end whole there file counters)
+  node-last = ap (λ o. node_in (row_in o)) (other_same middle inode window low rec list same_list is some small (node_key inode) refl refl)
+      ∙ node-sized rows inode was c now end whole there file counters
 
   pub lives-last : (id : ℕ) (slice : SliceRow) → slice_row_at rows id ≡ Some slice → slice_row_at last id ≡ None → ⊥
   lives-last id slice here none =

@@ -1,7 +1,7 @@
 -- Rows that a transaction on a file's bytes may not change stand as before: those of its other tables, and other files' rows and lists.
 use Rattle.std.proofs.Common.{◌≡◌, ◌≢◌, ℕ, ◌⊎◌, inl, inr, Bool, true, false, List, Option, Some, refl, sym, ap, subst, ◌∙◌}
 use Rattle.std.specs.Prelude.{◌==◌, ◌&&◌, ◌||◌}
-use Rattle.std.proofs.lemmas.Bool.{eq-eqb, eqb-true, or_parts}
+use Rattle.std.proofs.lemmas.Bool.{cases_eq, eq-eqb, eqb-true, ne_eqb, or_parts}
 use Rattle.std.proofs.lemmas.Option.{same_Some}
 use Rattle.jv_model.specs.declared.tables.TheConstants.{TABLE_OF_LISTS, TABLE_OF_COUNTERS, TABLE_OF_SLICES, TABLE_OF_DEAD, TABLE_OF_NODES}
 use Rattle.jv_model.specs.declared.row.Counters.{Counters}
@@ -9,13 +9,14 @@ use Rattle.jv_model.specs.declared.row.Node.{Node as NodeRow}
 use Rattle.jv_model.specs.declared.row.RowKey.{RowKey}
 use Rattle.jv_model.specs.FiniteMap.{get}
 use Rattle.jv_model.specs.rows.RowKeys.{RowMap}
-use Rattle.jv_model.specs.rows.RowPlaces.{counters_key, node_key}
+use Rattle.jv_model.specs.rows.RowPlaces.{counters_key, dropped_key, node_key}
 use Rattle.jv_outside.specs.declared.batch.Change.{Change}
 use Rattle.jv_outside.specs.Rows.{applied}
 use Rattle.jv_rows.specs.Drafts.{drafted}
 use Rattle.jv_volume.specs.TypedRows.{Rows, typed}
-use Rattle.jv_volume.specs.Views.{node_row_at, counters_at}
-use Rattle.jv_volume.specs.Whole.{Whole, is_of_slices}
+use Rattle.jv_volume.specs.Views.{row_in, node_in, node_row_at, counters_at}
+use Rattle.jv_volume.specs.Whole.{FilesDrop, Whole, is_of_slices, left_by}
+use Rattle.jv_volume.proofs.QuietLaws.{drop-beside, drop-none}
 use Rattle.jv_data.specs.Changing.{may_change}
 use Rattle.jv_data.proofs.SizedLaws.{sized_rows, kept-sized}
 
@@ -69,6 +70,15 @@ module _ (rows : Rows) (inode : ℕ) (was : NodeRow) (c : Counters) (now length 
       by_parts : (is_of_slices key.tab ≡ false) ⊎ ((key.tab ≡ TABLE_OF_LISTS) × (key.a ≢ inode)) → get last key ≡ get middle key
       by_parts (inl no_slices) = rest key no_slices
       by_parts (inr list) = lists key list.0 list.1
+
+-- no file goes where only the rows that may change do, and the file's node is there
+pub drops-rest : (rows after : Rows) (inode : ℕ) (row : NodeRow) → ((key : RowKey) → may_change inode key ≡ false → get after key ≡ get rows key)
+    → node_row_at after inode ≡ Some row
+    → FilesDrop rows after
+drops-rest rows after inode row rest node i = elim (cases_eq i inode) [
+  | inl same ↦ rest (dropped_key i) refl ∙ sym (ap (λ n. left_by (node_row_at rows i) n (get rows (dropped_key i))) (ap (node_row_at after) same ∙ node))
+  | inr apart ↦ drop-beside rows rows after (drop-none rows) i (ap (λ c. node_in (row_in c)) (rest (node_key i) (ne_eqb i inode apart))) (rest (dropped_key i) refl)
+]
 
 -- what holds of rows with changes holds of the rows that are left
 pub of_left : (P : Rows → Type 0) (changes : List Change) (known left : RowMap) (rows : Option RowMap) → rows ≡ Some (applied changes known) → rows ≡ Some left

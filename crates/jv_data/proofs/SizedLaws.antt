@@ -28,7 +28,7 @@ use Rattle.jv_volume.proofs.FilesLaws.{FileIs, Longer}
 use Rattle.jv_volume.proofs.FileStepLaws.{files-node, files-put_counters}
 use Rattle.jv_volume.proofs.MapLaws.{get-alter-here, get-alter-apart}
 use Rattle.jv_volume.proofs.NodeRowLaws.{IsNodeRow, IsNodeRow-length}
-use Rattle.jv_volume.proofs.QuietLaws.{quiet-alter, quiet-put_counters, quiet-slices, quiet-then}
+use Rattle.jv_volume.proofs.QuietLaws.{quiet-none, quiet-put_counters, quiet-put_node, quiet-slices}
 use Rattle.jv_volume.proofs.SameShapeLaws.{whole_as}
 use Rattle.jv_volume.proofs.SeenLaws.{AreRows, row-put, rows-alter}
 use Rattle.jv_volume.proofs.ShapeMapLaws.{get-inserted, get-insert_apart, shape-put_node_same}
@@ -170,8 +170,8 @@ module _ (rows : Rows) (inode : ℕ) (was : NodeRow) (c : Counters) (now length 
       apart same = absurd (cc)
 
   pub quiet-sized : Quiet rows sized_rows
-  quiet-sized = quiet-then rows middle sized_rows (quiet-alter rows (node_key inode) (Some (Ok (OfNode sized))) refl refl)
-      (quiet-put_counters middle c (record c { used_space = space }) counters_stay refl)
+  quiet-sized = quiet-put_counters rows middle (quiet-put_node rows rows (quiet-none rows) inode was sized there) c (record c { used_space = space })
+      counters_stay refl
 
   cells-sized : AreRows sized_rows
   cells-sized =

@@ -39,9 +39,9 @@ use Rattle.jv_volume.specs.Slices.{place_in}
 use Rattle.jv_data.proofs.BesideLaws.{beside-none}
 use Rattle.jv_data.proofs.ChangedLaws.{tree-changed}
 use Rattle.jv_data.proofs.RefusedLaws.{changes-refused}
-use Rattle.jv_data.proofs.RestLaws.{rest-sized, of_left}
-use Rattle.jv_data.proofs.SizedLaws.{sized_rows, quiet-sized, whole-sized}
-use Rattle.jv_data.proofs.TruncatedLaws.{show_last, dies-cut, rest-cut, whole-cut, others-cut, tree-cut_lists}
+use Rattle.jv_data.proofs.RestLaws.{drops-rest, rest-sized, of_left}
+use Rattle.jv_data.proofs.SizedLaws.{sized_rows, sized as sized_row, node-sized, quiet-sized, whole-sized}
+use Rattle.jv_data.proofs.TruncatedLaws.{show_last, dies-cut, node-cut, rest-cut, whole-cut, others-cut, tree-cut_lists}
 use Rattle.jv_model.specs.declared.fault.Down.{Down}
 use Rattle.jv_model.specs.declared.row.Row.TheVariants.{OfNode}
 use Rattle.jv_model.specs.rows.RowFaults.{row_fault}
@@ -229,6 +229,11 @@ module _ (sid now inode len : ℕ) where
                 ∙ ap (due_after now) (same_Some c.is_due.setting setting (sym c.is_due.set ∙ set))))
                 (λ longer id slice here none. (let stays = slice_row-stay (typed known) sized_known quiet.apart id in absurd (cc)))
 
+            node_left : node_row_at left inode ≡ Some (sized_row (typed known) inode was s.counters now len whole (there known is) h.file s.there)
+            node_left = by_lists (λ rows. node_row_at rows inode ≡ Some (sized_row (typed known) inode was s.counters now len whole (there known is) h.file s.there))
+                (λ c. node-cut (typed known) inode was s.counters now len whole (there known is) h.file s.there small left c s.given)
+                (λ longer. node-sized (typed known) inode was s.counters now len whole (there known is) h.file s.there)
+
             rest_left : (key : RowKey) → may_change inode key ≡ false → get left key ≡ get (typed known) key
             rest_left key other = by_lists (λ rows. get rows key ≡ get (typed known) key)
                 (λ c. rest-cut (typed known) inode was s.counters now len whole (there known is) h.file s.there small left c key other)
@@ -272,6 +277,7 @@ module _ (sid now inode len : ℕ) where
               others = others_left;
               size = λ slice here. (let none = whole_left.slices.none in absurd (cc));
               dies = dies_left;
+              dropped = drops-rest (typed known) left inode (sized_row (typed known) inode was s.counters now len whole (there known is) h.file s.there) rest_left node_left;
               model = past_cut.goes_on known is whole (bytes_of known_bytes (typed known)) ∙ ap done (sym (tree_left known_bytes));
             }
 

@@ -6,6 +6,7 @@ use Rattle.std.specs.Prelude.{◌==◌, ◌&&◌, not, nat_le, IsTrue, IfErr, If
 use Rattle.std.specs.List.{list_any}
 use Rattle.std.proofs.lemmas.Bool.{cases_eq, ltb-true, le-leb, eqb-false, ne_eqb, or_left, or_right}
 use Rattle.jv_model.specs.declared.fault.Fault.{Fault}
+use Rattle.jv_model.specs.declared.tables.TheConstants.{TABLE_OF_LISTS}
 use Rattle.jv_model.specs.declared.fault.RowFault.{RowFault}
 use Rattle.jv_model.specs.declared.fault.RowFault.TheVariants.{Bad, Failed, Memory}
 use Rattle.jv_model.specs.declared.fault.TxFault.{TxFault}
@@ -187,9 +188,9 @@ module _ (inode : ℕ) (start now : Option ℕ) (before middle found : Store) (c
     dropped = tt;
   }
     where
-      why : (fault : RowFault) → RefusesList middle.rows fault → FailsBy middle.rows (OfRows fault)
+      why : (fault : RowFault) → RefusesList inode middle.rows fault → FailsBy middle.rows (OfRows fault)
       why (Bad at bytes) h = λ known is.
-          let there = of_known (λ known. get (typed known) at ≡ Some (Err bytes)) middle.rows known is h in
+          let there = (of_known (λ known. (at.tab ≡ TABLE_OF_LISTS) × (get (typed known) at ≡ Some (Err bytes))) middle.rows known is h.1).1 in
           (Malformed there, λ whole. whole-typed (typed known) at bytes whole there)
       why Failed h = tt
       why Memory h = tt

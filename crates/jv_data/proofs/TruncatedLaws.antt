@@ -30,10 +30,10 @@ use Rattle.jv_data.specs.Truncating.{rows_ended, rows_without, latest, Follow, L
 use Rattle.jv_data.proofs.BesideLaws.{Beside, beside-then}
 use Rattle.jv_data.proofs.CutListsLaws.{list_ended, came, came-naming, came-few, get-ended, get-ended-file, beside-ended, lists_of-ended-file, shows-ended, move-ended, cut-is, adjusted-came}
 use Rattle.jv_data.proofs.DroppedLaws.{get-without, get-without-file, beside-without, lists_of-without-file, move-without, shows-without}
-use Rattle.jv_data.proofs.ListChangeLaws.{ListsChange, whole-changed, others-changed, tree-cut}
+use Rattle.jv_data.proofs.ListChangeLaws.{node-changed, ListsChange, whole-changed, others-changed, tree-cut}
 use Rattle.jv_data.proofs.RestLaws.{rest-then}
 use Rattle.jv_data.proofs.SameTreeLaws.{beside-adjusted}
-use Rattle.jv_data.proofs.SizedLaws.{sized_rows, quiet-sized}
+use Rattle.jv_data.proofs.SizedLaws.{sized_rows, sized, quiet-sized}
 
 -- each key of a list of whole rows has a window
 pub whole-windows : (rows : Rows) → Whole rows → HaveWindows rows
@@ -193,6 +193,10 @@ module _ (rows : Rows) (inode : ℕ) (was : NodeRow) (c : Counters) (now len : �
   module _ (given : 0 < next_slice rows) where
     pub whole-cut : Whole last
     whole-cut = whole-changed rows inode was c now len whole there file counters small given 1 last change
+
+    -- the file's node is there
+    pub node-cut : node_row_at last inode ≡ Some (sized rows inode was c now len whole there file counters)
+    node-cut = node-changed rows inode was c now len whole there file counters small given 1 last change
 
     pub others-cut : KeepsOthers 0 1 rows last
     others-cut = others-changed rows inode was c now len whole there file counters small given 1 last change

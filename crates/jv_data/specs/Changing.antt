@@ -20,7 +20,7 @@ use Rattle.jv_outside.specs.Store.{Store}
 use Rattle.jv_rows.specs.Transactions.{TransactionCounts, BadFault}
 use Rattle.jv_volume.specs.TypedRows.{Rows, typed}
 use Rattle.jv_volume.specs.Views.{setting_at, slice_row_at, dead_at}
-use Rattle.jv_volume.specs.Whole.{Whole}
+use Rattle.jv_volume.specs.Whole.{FilesDrop, Whole}
 use Rattle.jv_volume_bytes.specs.Bytes.{KnownBytes, tree_with}
 use Rattle.jv_volume_bytes.specs.Counts.{KeepsOthers, record_count}
 
@@ -40,7 +40,7 @@ DieUntil due rows after = (setting : Setting) → setting_at rows ≡ Some setti
     → dead_at after id ≡ Some (record { size = slice.size; due = due setting })
 
 -- A transaction that was made: the rows left are whole, their tree is the model's after it, other
--- slices are kept, and those that nothing names any more are dead.
+-- slices are kept, those that nothing names any more are dead, and no file goes.
 pub record Changed (makes : Makes) (known : RowMap) (after : Option RowMap)
     (known_bytes : KnownBytes) (reply : Reply) (act : Tree → Result Outcome Fault) : Type 0 where
   pub left : RowMap
@@ -50,6 +50,7 @@ pub record Changed (makes : Makes) (known : RowMap) (after : Option RowMap)
   pub size : (slice : SliceRow) → slice_row_at (typed left) makes.own ≡ Some slice
       → slice.size ≡ makes.size
   pub dies : DieUntil makes.due (typed known) (typed left)
+  pub dropped : FilesDrop (typed known) (typed left)
   pub model : act (tree_with known_bytes (typed known)) ≡ Ok
       (record { tree = tree_with known_bytes (typed left); reply = reply })
 

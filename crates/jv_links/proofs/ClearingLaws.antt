@@ -1,6 +1,6 @@
 -- How what a rename replaces is removed: each exit, and what it answers of the file that the session keeps.
 use Rattle.std.proofs.Common.{◌≡◌, ℕ, Bool, true, false, not, ◌&&◌, List, Option, None, Some, is_some, Result, Ok, Err, refl, sym, ap, ◌∙◌}
-use Rattle.std.specs.Prelude.{IsErrAnd}
+use Rattle.std.specs.Prelude.{IsErrAnd, if◌then◌else◌}
 use Rattle.std.proofs.Math.Bool.{and-not_self}
 use Rattle.jv_model.specs.declared.fault.Fault.{Fault}
 use Rattle.jv_model.specs.declared.fault.TxFault.{TxFault}
@@ -17,7 +17,7 @@ use Rattle.jv_rows_drafts.specs.Drafting.{Drafting}
 use Rattle.jv_rows_drafts.specs.Ready.{StandsAt, MayGo}
 use Rattle.jv_links.specs.declared.fates.Fate.{Fate}
 use Rattle.jv_links.specs.declared.fates.Removed.{Removed}
-use Rattle.jv_links.specs.Removals.{MayLose, SaysFate, is_inode, kept_by}
+use Rattle.jv_links.specs.Removals.{MayLose, SaysFate, is_inode, kept_by, lost_at}
 use Rattle.jv_links.specs.Replacements.{MayClear, SaysCleared}
 use Rattle.jv_rows_drafts.proofs.DraftStepLaws.{steps-then, steps-ended, step-as, step-fails, step-value, drafting-err, drafting-exit}
 use Rattle.jv_links.proofs.RemovalStepLaws.{drops, stands_at, empty_apart, empty_goes}
@@ -102,12 +102,15 @@ module _ (who : Caller) (place : EntryKey) (inode : ℕ) (was : List Change) (be
 
   -- no session keeps it
   pub clear-says_none : SaysCleared who place inode true was before (Ok None)
-  clear-says_none known at bytes t m r i =
-      ap (λ (u : Tree). is_sustained u who.sid i && not (is_sustained t who.sid i))
-      (target_dir t who place inode r.kind)
-      ∙ ap (λ p. is_some (get p (record { sid = who.sid; inode = i })) && not (is_sustained t who.sid i))
-      (change_node-sustained t place.dir (touched who.now))
-      ∙ and-not_self (is_sustained t who.sid i)
+  clear-says_none known at bytes t m r = (
+    λ i.
+        ap (λ (u : Tree). is_sustained u who.sid i && not (is_sustained t who.sid i))
+        (target_dir t who place inode r.kind)
+        ∙ ap (λ p. is_some (get p (record { sid = who.sid; inode = i })) && not (is_sustained t who.sid i))
+        (change_node-sustained t place.dir (touched who.now))
+        ∙ and-not_self (is_sustained t who.sid i),
+    ap (λ b. if b then None else Some (lost_at t who place inode)) r.kind,
+  )
 
   -- ---- a file or a symlink
 
@@ -142,8 +145,12 @@ module _ (who : Caller) (place : EntryKey) (inode : ℕ) (was : List Change) (be
   -- the session keeps it where that is its fate
   pub clear-says : (fate : Fate) → SaysFate who place inode was before (Ok fate)
       → SaysCleared who place inode false was before (Ok (Some (record { inode = inode; fate = fate })))
-  clear-says fate says known at bytes t m r i =
-      ap (λ (u : Tree). is_sustained u who.sid i && not (is_sustained t who.sid i))
-      (target_leaf t who place inode r.kind)
-      ∙ kept-remove_entry t who place inode (may_lose t who place inode r) i
-      ∙ ap (λ f. is_inode (kept_by f inode) i) (sym (says known at bytes t m (may_lose t who place inode r)))
+  clear-says fate says known at bytes t m r = (
+    λ i.
+        ap (λ (u : Tree). is_sustained u who.sid i && not (is_sustained t who.sid i))
+        (target_leaf t who place inode r.kind)
+        ∙ kept-remove_entry t who place inode (may_lose t who place inode r) i
+        ∙ ap (λ f. is_inode (kept_by f inode) i) (sym (says known at bytes t m (may_lose t who place inode r))),
+    ap (λ b. if b then None else Some (lost_at t who place inode)) r.kind
+        ∙ ap (λ f. Some (record { inode = inode; fate = f })) (sym (says known at bytes t m (may_lose t who place inode r))),
+  )

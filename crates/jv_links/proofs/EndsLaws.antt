@@ -24,7 +24,7 @@ use Rattle.jv_outside.specs.Store.{Store}
 use Rattle.jv_rows.specs.declared.walking.EntryPlace.{EntryPlace}
 use Rattle.jv_rows.specs.declared.walking.Place.{Place}
 use Rattle.jv_rows.specs.Transactions.{Looks}
-use Rattle.jv_rows.specs.Walks.{HasNodeRow, pair_in, entry_pair, Comes, ComesToEntry}
+use Rattle.jv_rows.specs.Walks.{HasNodeRow, entry_pair, Comes, ComesToEntry}
 use Rattle.jv_tree.proofs.MakeLaws.{by_pair}
 use Rattle.jv_rows.proofs.TransactionLaws.{Past, past-start, past-as, past-calm, past-looks, past-stops, past-gives, past-refuses}
 use Rattle.jv_volume.specs.TypedRows.{typed}

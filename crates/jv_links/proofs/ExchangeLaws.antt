@@ -1,5 +1,5 @@
 -- How a rename that exchanges two entries ends: each of its exits, by what was read and what was changed.
-use Rattle.std.proofs.Common.{◌≡◌, ◌≢◌, ℕ, ◌≤◌, Bool, true, false, not, ◌&&◌, ◌||◌, List, [], Option, None, Result, Ok, Err, sym, ap, subst, ◌∙◌}
+use Rattle.std.proofs.Common.{◌≡◌, ◌≢◌, ℕ, ◌≤◌, Bool, true, false, not, ◌&&◌, ◌||◌, List, [], Option, None, Result, Ok, Err, refl, sym, ap, subst, ◌∙◌}
 use Rattle.std.specs.Prelude.{IsTrue}
 use Rattle.std.specs.Option.{option_map}
 use Rattle.std.proofs.lemmas.Bool.{and_parts, or_from}
@@ -87,6 +87,9 @@ module _ (who : Caller) (ends : Ends) (place : Place) (before : Store) (stand : 
   abbrev climbed_back : Tree → Bool → Result Outcome Fault
   climbed_back t beside = require (not beside) Invalid >>= (λ _. within_links from to (swapped t))
 
+  abbrev goes : Tree → Result (Option Removed) Fault
+  goes t = Ok None
+
   abbrev reply : Option Removed → Reply
   reply removed = Done
 
@@ -95,14 +98,14 @@ module _ (who : Caller) (ends : Ends) (place : Place) (before : Store) (stand : 
 
   -- the first way up wasn't climbed
   pub exchange-not_climbed : (after : Store) (fault : TxFault) → Looks {A = Bool} before after (Err fault) climbs
-      → Renames who.sid ready before after (Err fault) act
-  exchange-not_climbed after fault l = renames-refused who.sid ready before after act fault
+      → Renames who.sid ready before after (Err fault) act goes
+  exchange-not_climbed after fault l = renames-refused who.sid ready before after act goes fault
       (past-stops before before after act climbs climbed started fault l)
 
   -- the source would come into itself
   pub exchange-inside : (after : Store) → Looks before after (Ok true) climbs
-      → Renames who.sid ready before after (Err (Refused Invalid)) act
-  exchange-inside after l = renames-refused who.sid ready before after act (Refused Invalid)
+      → Renames who.sid ready before after (Err (Refused Invalid)) act goes
+  exchange-inside after l = renames-refused who.sid ready before after act goes (Refused Invalid)
       (past-refuses before after act Invalid (past-looks before before after act climbs climbed started true l))
 
   module _ (between : Store) (first : Looks before between (Ok false) climbs) where
@@ -111,14 +114,14 @@ module _ (who : Caller) (ends : Ends) (place : Place) (before : Store) (stand : 
 
     -- the second way up wasn't climbed
     pub exchange-not_back : (after : Store) (fault : TxFault) → Looks {A = Bool} between after (Err fault) climbs_back
-        → Renames who.sid ready before after (Err fault) act
-    exchange-not_back after fault l = renames-refused who.sid ready before after act fault
+        → Renames who.sid ready before after (Err fault) act goes
+    exchange-not_back after fault l = renames-refused who.sid ready before after act goes fault
         (past-stops before between after act climbs_back climbed_back halfway fault l)
 
     -- the other one would come into itself
     pub exchange-beside : (after : Store) → Looks between after (Ok true) climbs_back
-        → Renames who.sid ready before after (Err (Refused Invalid)) act
-    exchange-beside after l = renames-refused who.sid ready before after act (Refused Invalid)
+        → Renames who.sid ready before after (Err (Refused Invalid)) act goes
+    exchange-beside after l = renames-refused who.sid ready before after act goes (Refused Invalid)
         (past-refuses before after act Invalid
         (past-looks before between after act climbs_back climbed_back halfway true l))
 
@@ -183,7 +186,7 @@ module _ (who : Caller) (ends : Ends) (place : Place) (before : Store) (stand : 
 
         -- the entries weren't exchanged
         pub exchange-not_made : (fault : TxFault) → Exchanging (Err fault)
-            → Renames who.sid ready before next (Err fault) act
+            → Renames who.sid ready before next (Err fault) act goes
         exchange-not_made fault d = record {
           does = steps-stop ready before middle next [] changes (λ t. t) reply act rest started_steps fault step_ready
               step (as_model (Err fault) d)
@@ -191,6 +194,7 @@ module _ (who : Caller) (ends : Ends) (place : Place) (before : Store) (stand : 
               (λ known is whole bytes r refused h. (let after = swapped (tree_of bytes (typed known)) in
               refused_by (links_fit after from.dir && links_fit after to.dir) after refused h));
           says = tt;
+          answers = tt;
         }
 
         module _ (d : Exchanging (Ok tt)) where
@@ -212,12 +216,13 @@ module _ (who : Caller) (ends : Ends) (place : Place) (before : Store) (stand : 
 
           -- the changes weren't committed
           pub exchange-not_committed : (after : Store) (down : Down) → Commits next after (Err down) changes
-              → Renames who.sid ready before after (Err (OfRows (row_fault down))) act
+              → Renames who.sid ready before after (Err (OfRows (row_fault down))) act goes
           exchange-not_committed after down c = record {
             does = steps-fail ready before next after changes changes swapped reply act rest stepped
                 (OfRows (row_fault down))
                 (fails-commit next after down changes c);
             says = tt;
+            answers = tt;
           }
 
           told : (t : Tree) (o : Outcome) → act t ≡ Ok o → o.tree.sustained ≡ t.sustained
@@ -228,7 +233,7 @@ module _ (who : Caller) (ends : Ends) (place : Place) (before : Store) (stand : 
 
           -- they were
           pub exchange-made : (after : Store) → Commits next after (Ok tt) changes
-              → Renames who.sid ready before after (Ok None) act
+              → Renames who.sid ready before after (Ok None) act goes
           exchange-made after c = record {
             does = steps-commit ready before next after changes changes swapped reply act rest stepped None c
                 (λ known is whole bytes r. (let left = swapped (tree_of bytes (typed known)) in
@@ -242,4 +247,5 @@ module _ (who : Caller) (ends : Ends) (place : Place) (before : Store) (stand : 
             says = λ known is whole bytes r inode. says_none (tree_of bytes (typed known)) who.sid
                 (act (tree_of bytes (typed known)))
                 (told (tree_of bytes (typed known))) inode;
+            answers = λ known is whole bytes r. refl;
           }

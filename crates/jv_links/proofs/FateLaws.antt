@@ -16,7 +16,6 @@ use Rattle.jv_model.specs.rows.RowGrammar.{is_node, is_setting}
 use Rattle.jv_model.specs.rows.RowKeys.{RowMap}
 use Rattle.jv_model.specs.rows.RowPlaces.{setting_key, node_key}
 use Rattle.jv_model.specs.tree.Caller.{Caller}
-use Rattle.jv_model.specs.tree.Removing as model
 use Rattle.jv_model.specs.tree.Tree.{Tree, EntryKey, in_trash, is_directory, entry_count, link_count, node_at}
 use Rattle.jv_outside.specs.declared.batch.Change.{Change}
 use Rattle.jv_outside.specs.Store.{Store}

@@ -58,11 +58,13 @@ moved-sustained t now from source to = move_in-sustained (take_entry t now from)
 
 -- a rename that ends at a reading
 pub renames-refused : (sid : ℕ) (ready : Tree → Type 0) (before after : Store) (act : Tree → Result Outcome Fault)
+    (goes : Tree → Result (Option Removed) Fault)
     (fault : TxFault) → Looks {A = Outcome} before after (Err fault) act
-    → Renames sid ready before after (Err fault) act
-renames-refused sid ready before after act fault l = record {
+    → Renames sid ready before after (Err fault) act goes
+renames-refused sid ready before after act goes fault l = record {
   does = transacts-refused ready before after (λ (removed : Option Removed). Done) act fault l;
   says = tt;
+  answers = tt;
 }
 
 -- the test of links, before or after the tree is answered
@@ -106,6 +108,9 @@ module _ (who : Caller) (how : How) (ends : Ends) (before : Store) (stand : Ends
   abbrev climbed : Tree → Bool → Result Outcome Fault
   climbed t inside = require (not inside) Invalid >>= (λ _. within_links from to (moved t who.now from source to))
 
+  abbrev goes : Tree → Result (Option Removed) Fault
+  goes t = Ok None
+
   abbrev reply : Option Removed → Reply
   reply removed = Done
 
@@ -114,14 +119,14 @@ module _ (who : Caller) (how : How) (ends : Ends) (before : Store) (stand : Ends
 
   -- the way up wasn't climbed
   pub free-not_climbed : (after : Store) (fault : TxFault) → Looks {A = Bool} before after (Err fault) climbs
-      → Renames who.sid ready before after (Err fault) act
-  free-not_climbed after fault l = renames-refused who.sid ready before after act fault
+      → Renames who.sid ready before after (Err fault) act goes
+  free-not_climbed after fault l = renames-refused who.sid ready before after act goes fault
       (past-stops before before after act climbs climbed started fault l)
 
   -- the directory would move into itself
   pub free-inside : (after : Store) → Looks before after (Ok true) climbs
-      → Renames who.sid ready before after (Err (Refused Invalid)) act
-  free-inside after l = renames-refused who.sid ready before after act (Refused Invalid)
+      → Renames who.sid ready before after (Err (Refused Invalid)) act goes
+  free-inside after l = renames-refused who.sid ready before after act goes (Refused Invalid)
       (past-refuses before after act Invalid (past-looks before before after act climbs climbed started true l))
 
   module _ (middle : Store) (l : Looks before middle (Ok false) climbs) where
@@ -164,7 +169,7 @@ module _ (who : Caller) (how : How) (ends : Ends) (before : Store) (stand : Ends
           (moved_within now from source to)) none d)
 
       -- the entry wasn't moved
-      pub free-not_moved : (fault : TxFault) → Moving (Err fault) → Renames who.sid ready before next (Err fault) act
+      pub free-not_moved : (fault : TxFault) → Moving (Err fault) → Renames who.sid ready before next (Err fault) act goes
       free-not_moved fault d = record {
         does = steps-stop ready before middle next [] changes (λ t. t) reply act rest started_steps fault
             (λ t. MayMove t from source to) (moved_within who.now from source to) (as_model (Err fault) d)
@@ -173,6 +178,7 @@ module _ (who : Caller) (how : How) (ends : Ends) (before : Store) (stand : Ends
             (let after = moved (tree_of bytes (typed known)) who.now from source to in
             refused_by (links_fit after from.dir && links_fit after to.dir) after refused h));
         says = tt;
+        answers = tt;
       }
 
       module _ (d : Moving (Ok tt)) where
@@ -196,11 +202,12 @@ module _ (who : Caller) (how : How) (ends : Ends) (before : Store) (stand : Ends
 
         -- the changes weren't committed
         pub free-not_committed : (after : Store) (down : Down) → Commits next after (Err down) changes
-            → Renames who.sid ready before after (Err (OfRows (row_fault down))) act
+            → Renames who.sid ready before after (Err (OfRows (row_fault down))) act goes
         free-not_committed after down c = record {
           does = steps-fail ready before next after changes changes (λ t. moved t who.now from source to) reply act rest
               stepped (OfRows (row_fault down)) (fails-commit next after down changes c);
           says = tt;
+          answers = tt;
         }
 
         told : (t : Tree) (d : Outcome) → act t ≡ Ok d → d.tree.sustained ≡ t.sustained
@@ -212,7 +219,7 @@ module _ (who : Caller) (how : How) (ends : Ends) (before : Store) (stand : Ends
 
         -- they were
         pub free-made : (after : Store) → Commits next after (Ok tt) changes
-            → Renames who.sid ready before after (Ok None) act
+            → Renames who.sid ready before after (Ok None) act goes
         free-made after c = record {
           does = steps-commit ready before next after changes changes (λ t. moved t who.now from source to) reply act
               rest stepped None c
@@ -228,4 +235,5 @@ module _ (who : Caller) (how : How) (ends : Ends) (before : Store) (stand : Ends
               }) r.free);
           says = λ known is whole bytes r inode. says_none (tree_of bytes (typed known)) who.sid
               (act (tree_of bytes (typed known))) (told (tree_of bytes (typed known))) inode;
+          answers = λ known is whole bytes r. refl;
         }

@@ -1,5 +1,5 @@
 -- How a file or a symlink loses an entry, by its fate: each exit.
-use Rattle.std.proofs.Common.{◌≡◌, ℕ, ◌≤◌, Bool, true, false, not, ◌&&◌, ◌==◌, List, Some, is_some, Result, Ok, Err, refl, sym, ap, subst, ◌∙◌}
+use Rattle.std.proofs.Common.{◌≡◌, ℕ, ◌≤◌, Bool, true, false, not, ◌&&◌, List, Some, is_some, Result, Ok, Err, refl, sym, ap, subst, ◌∙◌}
 use Rattle.std.specs.Prelude.{IsTrue, IsErrAnd, nat_lt, if◌then◌else◌}
 use Rattle.jv_model.specs.Lists.{is_among}
 use Rattle.std.specs.Option.{option_map}

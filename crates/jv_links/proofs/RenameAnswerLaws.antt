@@ -26,7 +26,7 @@ use Rattle.jv_volume.specs.Views.{row_in, node_in}
 use Rattle.jv_volume.specs.Whole.{Whole}
 use Rattle.jv_volume.proofs.StoredLaws.{HasNode, found_node, whole-stored}
 use Rattle.jv_links.specs.declared.fates.Removed.{Removed}
-use Rattle.jv_links.specs.Removals.{SaysSustained, is_inode, kept_of, renamed_in}
+use Rattle.jv_links.specs.Removals.{SaysRemoved, SaysSustained, is_inode, kept_of, renamed_in}
 use Rattle.jv_links.specs.Moves.{Renames}
 use Rattle.jv_model.proofs.TestLaws.{of_known}
 
@@ -62,7 +62,10 @@ says_none t sid (Err fault) same inode = and-not_self (is_sustained t sid inode)
 module _ (sid : ℕ) (ready more : Tree → Type 0) (before middle after : Store) (act rest : Tree → Result Outcome Fault)
     (p : Past before middle act rest)
     (is_ready : (known : RowMap) → before.rows ≡ Some known → Whole (typed known) → (bytes : ℕ → ℕ → ℕ)
-    → more (tree_of bytes (typed known)) → ready (tree_of bytes (typed known))) where
+    → more (tree_of bytes (typed known)) → ready (tree_of bytes (typed known)))
+    (goes all_goes : Tree → Result (Option Removed) Fault)
+    (same_goes : (known : RowMap) → before.rows ≡ Some known → Whole (typed known) → (bytes : ℕ → ℕ → ℕ)
+    → more (tree_of bytes (typed known)) → all_goes (tree_of bytes (typed known)) ≡ goes (tree_of bytes (typed known))) where
   abbrev reply : Option Removed → Reply
   reply removed = Done
 
@@ -74,8 +77,13 @@ module _ (sid : ℕ) (ready more : Tree → Type 0) (before middle after : Store
       (p.goes_on known is whole bytes)
       ∙ h known (p.rows_are ∙ is) whole bytes (is_ready known is whole bytes m) inode)
 
-  pub renames-past : (result : Result (Option Removed) TxFault) → Renames sid ready middle after result rest
-      → Renames sid more before after result act
+  answers_past : (told : Option (Option Removed)) → SaysRemoved ready middle told goes → SaysRemoved more before told all_goes
+  answers_past None h = tt
+  answers_past (Some removed) h = λ known is whole bytes m. same_goes known is whole bytes m
+      ∙ h known (p.rows_are ∙ is) whole bytes (is_ready known is whole bytes m)
+
+  pub renames-past : (result : Result (Option Removed) TxFault) → Renames sid ready middle after result rest goes
+      → Renames sid more before after result act all_goes
   renames-past result r = record {
     does = record {
       opened_at = r.does.opened_at ∙ p.opened_at;
@@ -86,4 +94,5 @@ module _ (sid : ℕ) (ready more : Tree → Type 0) (before middle after : Store
       bad = subst (λ o. IfErr result (λ fault. IfSome o (λ known. BadFault (typed known) fault))) p.rows_are r.does.bad;
     };
     says = told_past (renamed_in result) r.says;
+    answers = answers_past (renamed_in result) r.answers;
   }

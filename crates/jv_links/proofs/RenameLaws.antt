@@ -15,7 +15,7 @@ use Rattle.jv_model.specs.tree.Renaming.{rename, renamed_by, unless_same}
 use Rattle.jv_model.specs.tree.Tree.{Tree, EntryKey}
 use Rattle.jv_outside.specs.Store.{Store}
 use Rattle.jv_rows.specs.declared.walking.Place.{Place}
-use Rattle.jv_rows.specs.Transactions.{Transacts}
+use Rattle.jv_rows.specs.Transactions.{Looks, Transacts}
 use Rattle.jv_rows.proofs.TransactionLaws.{Past, past-start, past-as, past-looks, past-stops, transacts-refused, transacts-answers}
 use Rattle.jv_volume.specs.TypedRows.{typed}
 use Rattle.jv_volume.specs.TreeOf.{tree_of}
@@ -24,7 +24,7 @@ use Rattle.jv_volume.proofs.StoredLaws.{whole-shape}
 use Rattle.jv_links.specs.declared.ends.Ends.{Ends}
 use Rattle.jv_links.specs.declared.fates.Removed.{Removed}
 use Rattle.jv_links.specs.Removals.{HoldsFiles, has_no_zero}
-use Rattle.jv_links.specs.Moves.{Move, FindsEnds, FindsEntry, IsMove, IsFreeMove, IsOverMove, Renames, move_asked, move_of, place_of, renamed_with}
+use Rattle.jv_links.specs.Moves.{Move, FindsEnds, FindsEntry, IsMove, IsFreeMove, IsOverMove, Renames, move_asked, move_of, place_of, renamed_with, replaced, replaced_by}
 use Rattle.jv_links.proofs.EndsLaws.{rename-is, is_move}
 use Rattle.jv_links.proofs.RenameAnswerLaws.{renames-past, says_none}
 use Rattle.jv_model.proofs.TestLaws.{same_Ok}
@@ -44,13 +44,15 @@ module _ (sid : ℕ) (ready : Tree → Type 0) (store : Store) (source other : �
       (sym (same_Ok (record { tree = t; reply = Done }) d (sym (unless-done t) ∙ h)))
 
   -- nothing changes
-  pub renames-same : Renames sid ready store store (Ok None) unless
-  renames-same = record {
+  pub renames-same : (goes : Tree → Result (Option Removed) Fault) → ((t : Tree) → goes t ≡ Ok None)
+      → Renames sid ready store store (Ok None) unless goes
+  renames-same goes none = record {
     does = transacts-answers ready store store (λ removed. Done) unless None
         (past-as store store store unless unless (past-start store unless) done
         (λ known is whole bytes. unless-done (tree_of bytes (typed known))));
     says = λ known is whole bytes r inode. says_none (tree_of bytes (typed known)) sid
         (unless (tree_of bytes (typed known))) (kept (tree_of bytes (typed known))) inode;
+    answers = λ known is whole bytes r. none (tree_of bytes (typed known));
   }
 
 -- without the test, where they name two
@@ -64,13 +66,16 @@ module _ (sid : ℕ) (ready : Tree → Type 0) (before after : Store) (source ot
   abbrev unless_apart : Tree → Result Outcome Fault
   unless_apart t = unless_same t source other (otherwise t)
 
-  pub renames-apart : (result : Result (Option Removed) TxFault)
-      → Renames sid ready before after result (λ t. otherwise t tt) → Renames sid ready before after result unless_apart
-  renames-apart result r = renames-past sid ready ready before before after unless_apart (λ t. otherwise t tt)
+  pub renames-apart : (goes all_goes : Tree → Result (Option Removed) Fault) → ((t : Tree) → all_goes t ≡ goes t)
+      → (result : Result (Option Removed) TxFault)
+      → Renames sid ready before after result (λ t. otherwise t tt) goes
+      → Renames sid ready before after result unless_apart all_goes
+  renames-apart goes all_goes same_goes result r = renames-past sid ready ready before before after unless_apart (λ t. otherwise t tt)
       (past-as before before before unless_apart unless_apart (past-start before unless_apart) (λ t. otherwise t tt)
       (λ known is whole bytes. unless-apart (tree_of bytes (typed known)) source other
       (otherwise (tree_of bytes (typed known))) apart))
-      (λ known is whole bytes h. h) result r
+      (λ known is whole bytes h. h) goes all_goes
+      (λ known is whole bytes h. same_goes (tree_of bytes (typed known))) result r
 
 -- ---- the parts
 
@@ -134,6 +139,20 @@ module _ (who : Caller) (path to : List ℕ) (how : How) (plain : IsTrue (has_no
         (ap (λ s. move_asked (tree_of bytes (typed known)) s path to how) same_sid ∙ f.looks.agrees known is whole
         bytes)
 
+    -- what goes, by what the target names
+    goes_by : (after : Store) (o : Option ℕ) → Looks middle after (Ok o) looks_up → (known : RowMap)
+        → before.rows ≡ Some known → Whole (typed known) → (bytes : ℕ → ℕ → ℕ)
+        → HoldsFiles who.held (tree_of bytes (typed known))
+        → replaced (tree_of bytes (typed known)) who path to how
+        ≡ Ok (replaced_by how (tree_of bytes (typed known)) who source target o)
+    goes_by after o l known is whole bytes held =
+        let t = tree_of bytes (typed known) in
+        let rest : Result Move Fault → Result (Option Removed) Fault = (λ r.
+        r >>= (λ m. Ok (replaced_by how t who m.source m.to (get t.entries m.to)))) in
+        ap (λ sid. rest (move_asked t sid path to how)) same_sid ∙ ap rest (f.looks.agrees known is whole bytes)
+        ∙ ap (λ x. Ok (replaced_by how t who source target x))
+        (same_Ok (get t.entries target) o (l.agrees known (f.looks.rows_are ∙ is) whole bytes))
+
     -- the target wasn't looked up
     pub rename-no_target : (after : Store) (fault : TxFault) → FindsEntry middle after (Err fault) target
         → Transacts {A = Option Removed} (HoldsFiles who.held) before after (Err fault) reply act
@@ -144,7 +163,8 @@ module _ (who : Caller) (path to : List ℕ) (how : How) (plain : IsTrue (has_no
     pub rename-free : (after last : Store) (result : Result (Option Removed) TxFault)
         → FindsEntry middle after (Ok None) target
         → Renames who.sid (λ t. IsFreeMove t who.sid how from source target) after last result (λ t. with_target t None)
-        → Renames who.sid (HoldsFiles who.held) before last result act
+        (λ t. Ok (replaced_by how t who source target None))
+        → Renames who.sid (HoldsFiles who.held) before last result act (λ t. replaced t who path to how)
     rename-free after last result e r = renames-past who.sid (λ t. IsFreeMove t who.sid how from source target)
         (HoldsFiles who.held) before after last act (λ t. with_target t None)
         (past-looks before middle after act looks_up with_target found None e.looks)
@@ -152,14 +172,16 @@ module _ (who : Caller) (path to : List ℕ) (how : How) (plain : IsTrue (has_no
           move = is_found known is whole bytes;
           free = same_Ok (get (tree_of bytes (typed known)).entries target) None
               (e.looks.agrees known (f.looks.rows_are ∙ is) whole bytes);
-        }) result r
+        })
+        (λ t. Ok (replaced_by how t who source target None)) (λ t. replaced t who path to how)
+        (goes_by after None e.looks) result r
 
     -- an entry is there
     pub rename-there : (after last : Store) (other : Place) (result : Result (Option Removed) TxFault)
         → FindsEntry middle after (Ok (Some other)) target
         → Renames who.sid (λ t. IsOverMove t who how from source target other.inode) after last result
-        (λ t. with_target t (Some other.inode))
-        → Renames who.sid (HoldsFiles who.held) before last result act
+        (λ t. with_target t (Some other.inode)) (λ t. Ok (replaced_by how t who source target (Some other.inode)))
+        → Renames who.sid (HoldsFiles who.held) before last result act (λ t. replaced t who path to how)
     rename-there after last other result e r =
         renames-past who.sid (λ t. IsOverMove t who how from source target other.inode) (HoldsFiles who.held) before
         after last act
@@ -170,4 +192,6 @@ module _ (who : Caller) (path to : List ℕ) (how : How) (plain : IsTrue (has_no
           there = same_Ok (get (tree_of bytes (typed known)).entries target) (Some other.inode)
               (e.looks.agrees known (f.looks.rows_are ∙ is) whole bytes);
           held = held;
-        }) result r
+        })
+        (λ t. Ok (replaced_by how t who source target (Some other.inode))) (λ t. replaced t who path to how)
+        (goes_by after (Some other.inode) e.looks) result r

@@ -34,8 +34,9 @@ use Rattle.jv_volume.proofs.StoredLaws.{whole-shape}
 use Rattle.jv_volume.proofs.WalkShapeLaws.{went_on, required}
 use Rattle.jv_links.specs.declared.ends.Ends.{Ends}
 use Rattle.jv_links.specs.declared.fates.Removed.{Removed}
+use Rattle.jv_links.specs.Removals.{KeepsAnew, kept_of}
 use Rattle.jv_links.specs.Moves.{EndsStand, IsOverMove, MayMove, Renames, Stands, place_of, moved_within}
-use Rattle.jv_links.specs.Replacements.{MayClear, SaysCleared, may_replace}
+use Rattle.jv_links.specs.Replacements.{cleared as cleared_at, MayClear, SaysCleared, may_replace}
 use Rattle.jv_links.proofs.FreeMoveLaws.{leaves_by, moved-sustained, renames-refused, tested_by, refused_by}
 use Rattle.jv_links.proofs.TargetLaws.{may_move-without_target}
 use Rattle.jv_links.proofs.RenameAnswerLaws.{has_node, links_low}
@@ -103,6 +104,9 @@ module _ (who : Caller) (how : How) (ends : Ends) (place : Place) (before : Stor
   abbrev rest : Tree → Result Outcome Fault
   rest t = within_links from to (moved (left t) who.now from source to)
 
+  abbrev goes : Tree → Result (Option Removed) Fault
+  goes t = Ok (cleared_at t who to other)
+
   abbrev reply : Option Removed → Reply
   reply removed = Done
 
@@ -116,8 +120,8 @@ module _ (who : Caller) (how : How) (ends : Ends) (place : Place) (before : Stor
 
   -- it may not be replaced, or that wasn't read
   pub replace-refused : (after : Store) (fault : TxFault) → Looks {A = Unit {0}} before after (Err fault) asks
-      → Renames who.sid ready before after (Err fault) act
-  replace-refused after fault l = renames-refused who.sid ready before after act fault
+      → Renames who.sid ready before after (Err fault) act goes
+  replace-refused after fault l = renames-refused who.sid ready before after act goes fault
       (past-stops before before after act asks (λ t _. rest t) started fault l)
 
   module _ (middle : Store) (l : Looks before middle (Ok tt) asks) (low_from : ends.from.dir.node.nlink ≤ MAX_LINKS)
@@ -190,12 +194,13 @@ module _ (who : Caller) (how : How) (ends : Ends) (place : Place) (before : Stor
 
       -- what is there wasn't removed
       pub replace-not_cleared : (fault : TxFault) → Clears (Err fault)
-          → Renames who.sid ready before next (Err fault) act
+          → Renames who.sid ready before next (Err fault) act goes
       replace-not_cleared fault d = record {
         does = steps-stop ready before middle next [] cleared (λ t. t) reply act rest started_steps fault
             (λ t. MayClear t who to other (place.node.kind == 2)) clears (from_none (Err fault) d)
             may_clear (λ known is whole bytes r refused h. absurd (cc));
         says = tt;
+        answers = tt;
       }
 
       module _ (removed : Option Removed) (d : Clears (Ok removed)) (now : ℕ) (same_now : who.now ≡ now)
@@ -219,7 +224,7 @@ module _ (who : Caller) (how : How) (ends : Ends) (place : Place) (before : Stor
 
         -- the entry wasn't moved
         pub replace-not_moved : (fault : TxFault) → Moving (Err fault)
-            → Renames who.sid ready before last (Err fault) act
+            → Renames who.sid ready before last (Err fault) act goes
         replace-not_moved fault m = record {
           does = steps-stop ready before next last cleared changes left reply act rest stepped fault
               (λ t. MayMove t from source to) moves (as_model (Err fault) m)
@@ -228,6 +233,7 @@ module _ (who : Caller) (how : How) (ends : Ends) (place : Place) (before : Stor
               (let after = moved (left (tree_of bytes (typed known))) who.now from source to in
               refused_by (links_fit after from.dir && links_fit after to.dir) after refused h));
           says = tt;
+          answers = tt;
         }
 
         module _ (m : Moving (Ok tt)) where
@@ -249,11 +255,12 @@ module _ (who : Caller) (how : How) (ends : Ends) (place : Place) (before : Stor
 
           -- the changes weren't committed
           pub replace-not_committed : (after : Store) (down : Down) → Commits last after (Err down) changes
-              → Renames who.sid ready before after (Err (OfRows (row_fault down))) act
+              → Renames who.sid ready before after (Err (OfRows (row_fault down))) act goes
           replace-not_committed after down c = record {
             does = steps-fail ready before last after changes changes final reply act rest went
                 (OfRows (row_fault down)) (fails-commit last after down changes c);
             says = tt;
+            answers = tt;
           }
 
           ends_done : OfWhole ready before (λ t. rest t ≡ done (final t))
@@ -263,7 +270,7 @@ module _ (who : Caller) (how : How) (ends : Ends) (place : Place) (before : Stor
           -- they were
           pub replace-made : SaysCleared who to other (place.node.kind == 2) was middle (Ok removed) → (after : Store)
               → Commits last after (Ok tt) changes
-              → Renames who.sid ready before after (Ok removed) act
+              → Renames who.sid ready before after (Ok removed) act goes
           replace-made says after c = record {
             does = steps-commit ready before last after changes changes final reply act rest went removed c ends_done
                 (λ known is whole bytes r. whole-replaced (tree_of bytes (typed known)) who to other
@@ -275,7 +282,12 @@ module _ (who : Caller) (how : How) (ends : Ends) (place : Place) (before : Stor
                 (went.goes_on known is whole bytes r ∙ ends_done known is whole bytes r)
                 ∙ ap (λ p. is_some (get p (record { sid = who.sid; inode = inode })) && not
                 (is_sustained t who.sid inode)) (moved-sustained (left t) who.now from source to)
-                ∙ subst (λ (w : List Change). SaysCleared who to other (place.node.kind == 2) w middle (Ok removed))
-                none says known (l.rows_are ∙ is) bytes t
-                (started_steps.minds known is whole bytes r) (may_clear known is whole bytes r) inode;
+                ∙ (cleared_is known is whole bytes r).0 inode;
+            answers = λ known is whole bytes r. ap Ok (cleared_is known is whole bytes r).1;
           }
+            where
+              cleared_is : OfWhole ready before (λ t. KeepsAnew who.sid t (left t) (kept_of removed) × (cleared_at t who to other ≡ removed))
+              cleared_is known is whole bytes r =
+                  subst (λ (w : List Change). SaysCleared who to other (place.node.kind == 2) w middle (Ok removed))
+                  none says known (l.rows_are ∙ is) bytes (tree_of bytes (typed known))
+                  (started_steps.minds known is whole bytes r) (may_clear known is whole bytes r)

@@ -16,6 +16,7 @@ use Rattle.jv_model.specs.declared.op.Reply.TheVariants.{Done}
 use Rattle.jv_model.specs.FiniteMap.{Map, get, insert}
 use Rattle.jv_model.specs.rows.RowFaults.{row_fault}
 use Rattle.jv_model.specs.tree.Caller.{Caller, Outcome, outcome, done}
+use Rattle.jv_model.specs.tree.Attempt.{◌>>=◌}
 use Rattle.jv_model.specs.tree.Changes.{touched, status_changed, put_node, put_entry, take_entry, with_node}
 use Rattle.jv_model.specs.tree.HourNames.{hour_at}
 use Rattle.jv_model.specs.tree.Removing.{Fate, Linked, Trashed, Sustained, Dropped, fate_of, with_fate, remove_entry, unlink}
@@ -35,8 +36,8 @@ use Rattle.jv_rows_drafts.specs.Drafting.{Drafting}
 use Rattle.jv_rows_drafts.proofs.DraftingLaws.{PastSteps, OfWhole, steps-start, steps-on, steps-stop, steps-fail, steps-commit, transacts-error}
 use Rattle.jv_links.specs.declared.fates.Fate.{Fate as Told}
 use Rattle.jv_links.specs.declared.removing.Removable.{Removable}
-use Rattle.jv_links.specs.Removable.{removable_at, removable_place, ComesToRemovable}
-use Rattle.jv_links.specs.Removals.{HoldsFiles, MayLose, SaysFate, SaysSustained, fate_in, is_inode, kept_by}
+use Rattle.jv_links.specs.Removable.{removable_at, removable_place, unlinked, ComesToRemovable}
+use Rattle.jv_links.specs.Removals.{HoldsFiles, MayLose, SaysFate, SaysRemoved, SaysSustained, fate_in, is_inode, kept_by, lost_at}
 use Rattle.jv_links.proofs.RemovingLaws.{unlink_at, unlink-is, removing-comes, removing-at, removing-kind, past-refused, past-passes}
 
 -- ---- what the session keeps after a removal, and didn't before
@@ -234,4 +235,15 @@ module _ (who : Who) (caller : Caller) (is_for : IsFor who caller) (path : List 
         (begun.goes_on known is whole bytes held)
         ∙ kept-remove_entry t caller place inode m i
         ∙ ap (λ f. is_inode (kept_by f inode) i)
+        (sym (fate_says known (c.looks.rows_are ∙ is) bytes t (begun.minds known is whole bytes held) m))
+
+    -- and of what lost its entry
+    pub unlink-answers : (fate : Told) → SaysFate caller place inode draft middle (Ok fate)
+        → SaysRemoved ready before (Some (Some (record { inode = inode; fate = fate }))) (λ t. unlinked t caller path)
+    unlink-answers fate fate_says known is whole bytes held =
+        let t = tree_of bytes (typed known) in
+        let m = may known is whole bytes held in
+        ap (λ sid. removable_at t sid path >>= (λ found. Ok (Some (lost_at t caller found.0 found.1)))) is_for.sid
+        ∙ ap (λ r. r >>= (λ found. Ok (Some (lost_at t caller found.0 found.1)))) (c.looks.agrees known is whole bytes)
+        ∙ ap (λ f. Ok (Some (record { inode = inode; fate = f })))
         (sym (fate_says known (c.looks.rows_are ∙ is) bytes t (begun.minds known is whole bytes held) m))

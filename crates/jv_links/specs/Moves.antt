@@ -1,5 +1,5 @@
 -- What a rename finds before it changes anything, and what a tree has to be for a move.
-use Rattle.std.specs.Prelude.{◌≡◌, ℕ, true, false, ◌&&◌, not, is_some, List, Option, None, Some, Result, Ok, Err, IfOk, IsTrue}
+use Rattle.std.specs.Prelude.{◌≡◌, ℕ, true, false, ◌&&◌, ◌==◌, not, is_some, if◌then◌else◌, List, Option, None, Some, Result, Ok, Err, IfOk, IsTrue}
 use Rattle.jv_model.specs.declared.basics.How.{How}
 use Rattle.jv_model.specs.declared.basics.How.TheVariants.{Plain, NoReplace, Exchange}
 use Rattle.jv_model.specs.declared.fault.Fault.{Fault}
@@ -23,7 +23,8 @@ use Rattle.jv_volume.specs.Shape.{WholeShape, is_top, shape_of}
 use Rattle.jv_volume.specs.TypedRows.{is_entry_name}
 use Rattle.jv_links.specs.declared.ends.Ends.{Ends}
 use Rattle.jv_links.specs.declared.fates.Removed.{Removed}
-use Rattle.jv_links.specs.Removals.{HoldsFiles, SaysSustained, renamed_in}
+use Rattle.jv_links.specs.Removals.{HoldsFiles, SaysRemoved, SaysSustained, renamed_in}
+use Rattle.jv_links.specs.Replacements.{cleared}
 use Rattle.jv_model.specs.Optional.{mapped}
 
 -- an inode that is to be moved from one entry to another
@@ -106,12 +107,27 @@ renamed_with Exchange t who from source to target = do
   other ← some_or target NotFound
   unless_same t source other (λ _. exchanging t who from source to other)
 
+-- What a rename of a kind takes an entry from: a file or a symlink that it replaces.
+abbrev pub replaced_by : How → Tree → Caller → ℕ → EntryKey → Option ℕ → Option Removed
+replaced_by Plain t who source to None = None
+replaced_by Plain t who source to (Some other) =
+    (if source == other then None else cleared t who to other)
+replaced_by NoReplace t who source to target = None
+replaced_by Exchange t who source to target = None
+
+abbrev pub replaced : Tree → Caller → List ℕ → List ℕ → How → Result (Option Removed) Fault
+replaced t who path to how = do
+  move ← move_asked t who.sid path to how
+  Ok (replaced_by how t who move.source move.to (get t.entries move.to))
+
 -- a transaction that renames, and answers what became of what it replaced
 pub record Renames (sid : ℕ) (ready : Tree → Type 0) (before after : Store)
     (result : Result (Option Removed) TxFault)
-    (act : Tree → Result Outcome Fault) : Type 0 where
-  pub does : Transacts ready before after result (λ removed. Done) act
-  pub says : SaysSustained sid ready before (renamed_in result) act
+    (act : Tree → Result Outcome Fault) (goes : Tree → Result (Option Removed) Fault) : Type 0
+  where
+    pub does : Transacts ready before after result (λ removed. Done) act
+    pub says : SaysSustained sid ready before (renamed_in result) act
+    pub answers : SaysRemoved ready before (renamed_in result) goes
 
 abbrev pub inode_found : Result (Option Place) TxFault → Result (Option ℕ) TxFault
 inode_found (Ok None) = Ok None

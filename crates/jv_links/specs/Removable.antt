@@ -1,5 +1,5 @@
 -- An entry that may be removed, and the readings that reach it.
-use Rattle.std.specs.Prelude.{ℕ, List, Result, Ok, Err, IfOk}
+use Rattle.std.specs.Prelude.{ℕ, List, Option, Some, Result, Ok, IfOk}
 use Rattle.jv_model.specs.declared.fault.Fault.{Fault}
 use Rattle.jv_model.specs.declared.fault.Fault.TheVariants.{NotFound, NotPermitted}
 use Rattle.jv_model.specs.declared.fault.TxFault.{TxFault}
@@ -11,8 +11,10 @@ use Rattle.jv_model.specs.tree.Walk.{entry_of}
 use Rattle.jv_outside.specs.Store.{Store}
 use Rattle.jv_rows.specs.Transactions.{Looks}
 use Rattle.jv_rows.specs.Walks.{HasNodeRow}
+use Rattle.jv_links.specs.declared.fates.Removed.{Removed}
 use Rattle.jv_links.specs.declared.removing.Removable.{Removable}
-use Rattle.jv_model.specs.tree.Caller.{session_there}
+use Rattle.jv_links.specs.Removals.{lost_at}
+use Rattle.jv_model.specs.tree.Caller.{Caller, session_there}
 use Rattle.jv_model.specs.Optional.{mapped}
 
 -- where an entry stands, and the inode that it names
@@ -23,6 +25,12 @@ removable_at t sid path = do
   _ ← require (may_go place) NotPermitted
   inode ← some_or (get t.entries place) NotFound
   Ok (place, inode)
+
+-- what an unlink takes an entry from
+abbrev pub unlinked : Tree → Caller → List ℕ → Result (Option Removed) Fault
+unlinked t who path = do
+  found ← removable_at t who.sid path
+  Ok (Some (lost_at t who found.0 found.1))
 
 -- the place of an entry that was reached
 abbrev pub removable_place : Removable → EntryKey

@@ -43,6 +43,11 @@ fate_in model.Trashed = Trashed
 fate_in model.Sustained = Sustained
 fate_in model.Dropped = Dropped
 
+-- a file or a symlink that loses an entry, with what becomes of it
+abbrev pub lost_at : Tree → Caller → EntryKey → ℕ → Removed
+lost_at t who place inode =
+    record { inode = inode; fate = fate_in (model.fate_of t who place inode) }
+
 -- the fate that a removal answers is the model's, for each tree that the rows in mind are those of
 abbrev pub SaysFate : Caller → EntryKey → ℕ → List Change → Store → Result Fate TxFault → Type 0
 SaysFate who place inode was before result =
@@ -74,6 +79,16 @@ removed_in (Err fault) = None
 abbrev pub renamed_in : Result (Option Removed) TxFault → Option (Option Removed)
 renamed_in (Ok removed) = Some removed
 renamed_in (Err fault) = None
+
+-- Over whole rows, whose tree is ready, what a transaction says that it removed is what goes.
+abbrev pub SaysRemoved : (Tree → Type 0) → Store → Option (Option Removed)
+    → (Tree → Result (Option Removed) Fault)
+    → Type 0
+SaysRemoved ready before result goes =
+    IfSome result (λ removed. (known : RowMap) → before.rows ≡ Some known
+    → Whole (typed known) → (bytes : ℕ → ℕ → ℕ)
+    → ready (tree_of bytes (typed known))
+    → goes (tree_of bytes (typed known)) ≡ Ok removed)
 
 -- the only file that a session keeps since then and didn't keep before is this one, if it is one
 abbrev pub KeepsAnew : ℕ → Tree → Tree → Option ℕ → Type 0

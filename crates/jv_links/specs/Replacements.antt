@@ -1,5 +1,5 @@
 -- What a rename replaces: what is asked of it, and what becomes of it.
-use Rattle.std.specs.Prelude.{◌≡◌, ℕ, ◌≤◌, Bool, true, false, ◌&&◌, not, is_some, List, Option, Some, Result, IfOk, IsTrue}
+use Rattle.std.specs.Prelude.{◌≡◌, ℕ, ◌≤◌, Bool, true, false, ◌&&◌, not, is_some, if◌then◌else◌, List, Option, None, Some, Result, IfOk, IsTrue}
 use Rattle.jv_model.specs.declared.fault.Fault.{Fault}
 use Rattle.jv_model.specs.declared.fault.Fault.TheVariants.{Invalid, NotADirectory, IsADirectory, DirectoryNotEmpty}
 use Rattle.jv_model.specs.declared.fault.TxFault.{TxFault}
@@ -16,7 +16,7 @@ use Rattle.jv_outside.specs.Store.{Store}
 use Rattle.jv_rows_drafts.specs.Drafting.{Minds}
 use Rattle.jv_volume.specs.Shape.{WholeShape, shape_of}
 use Rattle.jv_links.specs.declared.fates.Removed.{Removed}
-use Rattle.jv_links.specs.Removals.{HoldsFiles, KeepsAnew, kept_of}
+use Rattle.jv_links.specs.Removals.{HoldsFiles, KeepsAnew, kept_of, lost_at}
 
 -- whether an inode that moves to a directory may stand there in place of another one
 abbrev pub may_replace : Tree → ℕ → ℕ → ℕ → Result (Unit {0}) Fault
@@ -38,11 +38,17 @@ pub record MayClear (t : Tree) (who : Caller) (place : EntryKey) (inode : ℕ)
   pub held : HoldsFiles who.held t
   pub clock : who.now ≤ LAST_MOMENT
 
--- What was removed says which file the session keeps from then on, for each tree that the rows in
--- mind are those of.
+-- what a rename takes an entry from where it clears one: a file or a symlink
+abbrev pub cleared : Tree → Caller → EntryKey → ℕ → Option Removed
+cleared t who place inode =
+    (if is_directory t inode then None else Some (lost_at t who place inode))
+
+-- What was removed is what goes, and says which file the session keeps from then on, for each tree
+-- that the rows in mind are those of.
 abbrev pub SaysCleared : Caller → EntryKey → ℕ → Bool → List Change → Store
     → Result (Option Removed) TxFault → Type 0
 SaysCleared who place inode directory was before result = IfOk result (λ removed. (known : RowMap)
     → before.rows ≡ Some known → (bytes : ℕ → ℕ → ℕ) (t : Tree)
     → Minds known was bytes t → MayClear t who place inode directory
-    → KeepsAnew who.sid t (without_target t who place inode) (kept_of removed))
+    → KeepsAnew who.sid t (without_target t who place inode) (kept_of removed)
+    × (cleared t who place inode ≡ removed))

@@ -1,5 +1,5 @@
 //! Entries that change places.
-ghost use Rattle.std.specs.Prelude.{◌≢◌};
+ghost use Rattle.std.specs.Prelude.{◌≢◌, None, Ok};
 ghost use Rattle.jv_rows_drafts.specs.Drafting.{Drafting};
 ghost use Rattle.jv_rows_drafts.specs.Ready.{MayStandAt};
 ghost use Rattle.jv_links.specs.Exchanges.{MayExchange, entry_moved, exchanged_within};
@@ -75,7 +75,7 @@ pub(crate) fn exchange<K: Keeper>(
         (place_of ends.now.to) other.now.inode)
         (K.seen k.old) (K.seen k.new) result
         (λ t. model.exchanging t caller (place_of ends.now.from) ends.now.source.inode
-        (place_of ends.now.to) other.now.inode) }
+        (place_of ends.now.to) other.now.inode) (λ t. Ok None) }
 {
     prove!(ends.source.node.nlink <= MAX_LINKS);
     prove!(other.node.nlink <= MAX_LINKS);

@@ -1,4 +1,5 @@
 //! Entries that move to a free place.
+ghost use Rattle.std.specs.Prelude.{None, Ok};
 ghost use Rattle.jv_rows_drafts.specs.Drafting.{Drafting};
 ghost use Rattle.jv_links.specs.Moves.{EndsStand, IsFreeMove, MayMove, Renames, moved_within, place_of};
 ghost use Rattle.jv_model.specs.declared.basics.How.{How};
@@ -54,7 +55,7 @@ pub(crate) fn move_to_free<K: Keeper>(
         (λ t. IsFreeMove t caller.sid how (place_of ends.now.from) ends.now.source.inode
         (place_of ends.now.to)) (K.seen k.old) (K.seen k.new) result
         (λ t. model.renamed t caller (place_of ends.now.from) ends.now.source.inode
-        (place_of ends.now.to)) }
+        (place_of ends.now.to)) (λ t. Ok None) }
 {
     prove!(ends.from.dir.node.nlink <= MAX_LINKS);
     prove!(ends.source.node.nlink <= MAX_LINKS);

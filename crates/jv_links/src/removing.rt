@@ -1,6 +1,6 @@
 //! Entries removed, by POSIX.1-2017's "unlinkat" and "rmdir".
-ghost use Rattle.jv_links.specs.Removable.{ComesToRemovable, removable_at};
-ghost use Rattle.jv_links.specs.Removals.{HoldsFiles, SaysSustained, removed_in};
+ghost use Rattle.jv_links.specs.Removable.{ComesToRemovable, removable_at, unlinked};
+ghost use Rattle.jv_links.specs.Removals.{HoldsFiles, SaysRemoved, SaysSustained, removed_in};
 ghost use Rattle.jv_model.specs.declared.op.Reply.TheVariants.{Done};
 ghost use Rattle.jv_model.specs.tree.Caller.{Caller};
 ghost use Rattle.jv_model.specs.tree.Removing as model;
@@ -65,6 +65,9 @@ pub fn unlink<K: Keeper>(
     ensures says { (caller : Caller) → IsFor who.entry.now caller
         → SaysSustained caller.sid (HoldsFiles caller.held) (K.seen k.old) (removed_in result)
         (λ t. model.unlink t caller path.now) }
+    ensures answers { (caller : Caller) → IsFor who.entry.now caller
+        → SaysRemoved (HoldsFiles caller.held) (K.seen k.old) (removed_in result)
+        (λ t. unlinked t caller path.now) }
 {
     let entry = find_removable(alloc, k, who.sid, path)?;
     if entry.node.node.kind == 2 {

@@ -1,7 +1,7 @@
 //! Entries renamed, by POSIX.1-2017's "renameat" and Linux's "renameat2".
-ghost use Rattle.std.specs.Prelude.{IsTrue, None, Some};
-ghost use Rattle.jv_links.specs.Moves.{EndsStand, IsFreeMove, IsOverMove, Renames, Stands, place_of, renamed_with};
-ghost use Rattle.jv_links.specs.Removals.{HoldsFiles, SaysSustained, has_no_zero, renamed_in};
+ghost use Rattle.std.specs.Prelude.{IsTrue, None, Some, Ok};
+ghost use Rattle.jv_links.specs.Moves.{EndsStand, IsFreeMove, IsOverMove, Renames, Stands, place_of, renamed_with, replaced, replaced_by};
+ghost use Rattle.jv_links.specs.Removals.{HoldsFiles, SaysRemoved, SaysSustained, has_no_zero, renamed_in};
 ghost use Rattle.jv_model.specs.declared.op.Reply.TheVariants.{Done};
 ghost use Rattle.jv_model.specs.tree.Caller.{Caller};
 ghost use Rattle.jv_model.specs.tree.Renaming as model;
@@ -44,6 +44,9 @@ pub fn rename<K: Keeper>(
     ensures says { (caller : Caller) → IsFor who.entry.now caller
         → SaysSustained caller.sid (HoldsFiles caller.held) (K.seen k.old) (renamed_in result)
         (λ t. model.rename t caller path.now to.now how) }
+    ensures answers { (caller : Caller) → IsFor who.entry.now caller
+        → SaysRemoved (HoldsFiles caller.held) (K.seen k.old) (renamed_in result)
+        (λ t. replaced t caller path.now to.now how) }
 {
     let ends = find_ends(alloc, k, who.sid, path, to, how)?;
     match entry_at(alloc, k, &ends.to)? {
@@ -66,7 +69,8 @@ fn rename_to_none<K: Keeper>(
         (λ t. IsFreeMove t caller.sid how (place_of ends.now.from) ends.now.source.inode
         (place_of ends.now.to)) (K.seen k.old) (K.seen k.new) result
         (λ t. renamed_with how t caller (place_of ends.now.from) ends.now.source.inode
-        (place_of ends.now.to) None) }
+        (place_of ends.now.to) None)
+        (λ t. Ok (replaced_by how t caller ends.now.source.inode (place_of ends.now.to) None)) }
 {
     match how {
         How::Exchange => Err(TxFault::Refused(Fault::NotFound)),
@@ -92,7 +96,9 @@ fn rename_over<K: Keeper>(
         (place_of ends.now.to) other.now.inode)
         (K.seen k.old) (K.seen k.new) result
         (λ t. renamed_with how t caller (place_of ends.now.from) ends.now.source.inode
-        (place_of ends.now.to) (Some other.now.inode)) }
+        (place_of ends.now.to) (Some other.now.inode))
+        (λ t. Ok (replaced_by how t caller ends.now.source.inode (place_of ends.now.to)
+        (Some other.now.inode))) }
 {
     let is_same = ends.source.inode == other.inode;
     match how {

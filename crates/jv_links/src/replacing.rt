@@ -2,7 +2,7 @@
 ghost use Rattle.std.specs.Prelude.{◌≢◌, ◌==◌, Ok};
 ghost use Rattle.jv_rows_drafts.specs.Drafting.{Drafting};
 ghost use Rattle.jv_links.specs.Moves.{EndsStand, IsOverMove, Renames, Stands, place_of};
-ghost use Rattle.jv_links.specs.Replacements.{MayClear, SaysCleared, may_replace as asked};
+ghost use Rattle.jv_links.specs.Replacements.{MayClear, SaysCleared, cleared, may_replace as asked};
 ghost use Rattle.jv_model.specs.declared.basics.How.{How};
 ghost use Rattle.jv_model.specs.tree.Caller.{Caller};
 ghost use Rattle.jv_model.specs.tree.Renaming as model;
@@ -99,7 +99,8 @@ pub(crate) fn replace<K: Keeper>(
         (place_of ends.now.to) other.now.inode)
         (K.seen k.old) (K.seen k.new) result
         (λ t. model.replacing t caller (place_of ends.now.from) ends.now.source.inode
-        (place_of ends.now.to) other.now.inode) }
+        (place_of ends.now.to) other.now.inode)
+        (λ t. Ok (cleared t caller (place_of ends.now.to) other.now.inode)) }
 {
     may_replace(alloc, k, ends, other)?;
     prove!(ends.from.dir.node.nlink <= MAX_LINKS);

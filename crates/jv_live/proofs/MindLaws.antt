@@ -1,5 +1,6 @@
 -- Rows in mind stay those of a tree when a session or a sustained file comes or goes, and when the next session rises.
-use Rattle.std.proofs.Common.{◌≡◌, ℕ, ◌<◌, ◌^◌, List, Option, None, Some, Ok, refl, sym, ap, subst, ◌∙◌, arith}
+use Rattle.std.proofs.Common.{◌≡◌, ℕ, ◌<◌, ◌^◌, false, List, Option, None, Some, Ok, refl, sym, ap, subst, ◌∙◌, arith}
+use Rattle.std.specs.Prelude.{◌==◌}
 use Rattle.jv_model.specs.declared.row.Counters.{Counters}
 use Rattle.jv_model.specs.declared.row.RowKey.{RowKey}
 use Rattle.jv_model.specs.declared.row.Row.TheVariants.{OfCounters, OfSession}
@@ -19,15 +20,16 @@ use Rattle.jv_volume.specs.Stored.{Stored}
 use Rattle.jv_volume.specs.Views.{row_in, counters_in, counters_at}
 use Rattle.jv_volume.specs.Whole.{IsRowAt, Quiet}
 use Rattle.jv_volume.proofs.FileStepLaws.{files-other, files-put_counters}
-use Rattle.jv_volume.proofs.QuietLaws.{quiet-alter, quiet-put_counters, quiet-then}
+use Rattle.jv_volume.proofs.QuietLaws.{quiet-alter, quiet-put_counters}
 use Rattle.jv_volume.proofs.SeenLaws.{row-put, rows-alter}
 use Rattle.jv_volume.proofs.SeenLaws as seen
 use Rattle.jv_volume.proofs.StoredLaws.{found_counters}
 use Rattle.jv_volume.proofs.StoredStepLaws.{stored-put_counters}
 use Rattle.jv_volume.proofs.TableStepLaws.{stored-put_session, stored-drop_session, stored-drop_sustained}
 use Rattle.jv_volume.proofs.TreeOfLaws.{tree_of-put_session, tree_of-drop_session, tree_of-drop_sustained, tree_of-put_counters}
-use Rattle.jv_rows_drafts.specs.Drafting.{Minds, Drafting}
+use Rattle.jv_rows_drafts.specs.Drafting.{KeepsLengths, Minds, Drafting}
 use Rattle.jv_rows_drafts.proofs.DraftedLaws.{Drafted, are_rows-put, are_rows-drop, stays-none, drafting-made}
+use Rattle.jv_rows_drafts.proofs.LengthLaws.{lengths-alter}
 use Rattle.jv_live.specs.Steps.{keeping_session, ending_session, letting_go}
 
 -- a change at a key, by what it does to rows
@@ -37,14 +39,16 @@ module _ (known : RowMap) (was now : List Change) (bytes : ℕ → ℕ → ℕ) 
   rows = drafted was known
 
   minds_by : (u : Tree) → tree_of bytes (alter rows q stands) ≡ u → ((x : Cell) → stands ≡ Some x → IsRowAt q x)
-      → Stored (alter rows q stands) (tree_of bytes (alter rows q stands)) → WholeFiles (alter rows q stands) → Quiet rows (alter rows q stands)
+      → Stored (alter rows q stands) (tree_of bytes (alter rows q stands)) → WholeFiles (alter rows q stands) → Quiet (typed known) (alter rows q stands)
+      → (2 == q.tab) ≡ false
       → Minds known now bytes u
-  minds_by u tree well stored files quiet = record {
+  minds_by u tree well stored files quiet beside = record {
     tree = ap (tree_of bytes) (done known) ∙ tree;
     cells = subst (λ (r : Rows). seen.AreRows r) (sym (done known)) (rows-alter rows q stands m.cells well);
     stored = subst (λ (r : Rows). Stored r (tree_of bytes r)) (sym (done known)) stored;
     files = subst WholeFiles (sym (done known)) files;
-    quiet = subst (Quiet (typed known)) (sym (done known)) (quiet-then (typed known) rows (alter rows q stands) m.quiet quiet);
+    quiet = subst (Quiet (typed known)) (sym (done known)) quiet;
+    lengths = subst (KeepsLengths (typed known)) (sym (done known)) (lengths-alter (typed known) rows m.lengths q stands beside);
   }
 
 module _ (known : RowMap) (was now : List Change) (bytes : ℕ → ℕ → ℕ) (t : Tree) (m : Minds known was bytes t) where
@@ -59,7 +63,7 @@ module _ (known : RowMap) (was now : List Change) (bytes : ℕ → ℕ → ℕ) 
       (λ x. row-put q good x (record { key_is = refl; cell_is = refl; hour = refl }))
       (stored-put_session bytes r sid session m.stored)
       (files-other r q (Some good) m.files refl refl refl refl)
-      (quiet-alter r q (Some good) refl refl)
+      (quiet-alter (typed known) r m.quiet q (Some good) refl refl refl refl) refl
 
   pub minds-end_session : (sid : ℕ) → Drafted (session_key sid) None was now → Minds known now bytes (ending_session sid t)
   minds-end_session sid done =
@@ -70,7 +74,7 @@ module _ (known : RowMap) (was now : List Change) (bytes : ℕ → ℕ → ℕ) 
       (λ x e. absurd (cc))
       (stored-drop_session bytes r sid m.stored)
       (files-other r q None m.files refl refl refl refl)
-      (quiet-alter r q None refl refl)
+      (quiet-alter (typed known) r m.quiet q None refl refl refl refl) refl
 
   pub minds-let_go : (sid inode : ℕ) → inode < 2 ^ 64 → Drafted (sustained_key sid inode) None was now → Minds known now bytes (letting_go sid inode t)
   minds-let_go sid inode small done =
@@ -81,7 +85,7 @@ module _ (known : RowMap) (was now : List Change) (bytes : ℕ → ℕ → ℕ) 
       (λ x e. absurd (cc))
       (stored-drop_sustained bytes r sid inode small m.stored)
       (files-other r q None m.files refl refl refl refl)
-      (quiet-alter r q None refl refl)
+      (quiet-alter (typed known) r m.quiet q None refl refl refl refl) refl
 
   -- the counters with another next session
   pub minds-counted : (c : Counters) (next : ℕ) → get (drafted was known) counters_key ≡ Some (Ok (OfCounters c))
@@ -98,7 +102,7 @@ module _ (known : RowMap) (was now : List Change) (bytes : ℕ → ℕ → ℕ) 
       (λ x. row-put counters_key good x (record { key_is = refl; cell_is = refl; hour = refl }))
       (stored-put_counters bytes r after m.stored has.space has.inodes)
       (files-put_counters r c after m.files at refl (omega arith))
-      (quiet-put_counters r c after at refl)
+      (quiet-put_counters (typed known) r m.quiet c after at refl) refl
 
 -- ---- the same as steps
 

@@ -1,5 +1,5 @@
 -- What a scan of one row behind a window's finds: the next list of the file.
-use Rattle.std.proofs.Common.{◌≡◌, ℕ, ◌^◌, Bool, true, false, List, [], ◌∷◌, ◌++◌, length, Option, None, Some, Ok, Err, refl, sym, ap, subst, ◌∙◌}
+use Rattle.std.proofs.Common.{◌≡◌, ℕ, ◌^◌, Bool, true, false, List, [], ◌∷◌, ◌++◌, length, Option, None, Some, Ok, Err, not, refl, sym, ap, subst, ◌∙◌, eq-eqb, eqb-true, true≢false}
 use Rattle.std.specs.Prelude.{◌==◌, if◌then◌else◌, IfSome, IsTrue}
 use Rattle.std.specs.Int.{w32, from_be_bytes}
 use Rattle.std.specs.List.{AllByRecursion}
@@ -15,17 +15,20 @@ use Rattle.jv_model.specs.declared.slice.Rec.{Rec}
 use Rattle.jv_model.specs.FiniteMap.{get}
 use Rattle.jv_model.specs.rows.RowFields.{word}
 use Rattle.jv_model.specs.rows.RowGrammar.{list_of, is_row}
-use Rattle.jv_model.specs.rows.RowKeys.{RowMap}
+use Rattle.jv_model.specs.rows.RowKeys.{RowMap, row_key}
 use Rattle.jv_model.specs.rows.RowPlaces.{list_key}
+use Rattle.jv_model.proofs.FiniteMapLaws.{first_where-found}
+use Rattle.std.proofs.lemmas.Bool.{not-false}
+use Rattle.jv_outside.specs.Rows.{rows_after}
 use Rattle.jv_outside.specs.Store.{Store}
 use Rattle.jv_volume.specs.TypedRows.{typed}
-use Rattle.jv_rows.specs.Lists.{is_past, if_past, last_list_key, window_in, list_past, list_of_row, IsSpelled, HasNoList, HaveWindows, RefusesList, FindsList}
-use Rattle.jv_rows.specs.Scans.{AreAllowed, RefusesScan, ScansRows}
+use Rattle.jv_rows.specs.Lists.{is_past, if_past, last_list_key, window_in, list_past, list_of_row, is_of_another, IsSpelled, HasNoList, HaveWindows, RefusesList, FindsList}
+use Rattle.jv_rows.specs.Scans.{rows_read, AreAllowed, RefusesScan, ScansRows}
 use Rattle.jv_rows.specs.Tables.{list_row}
-use Rattle.jv_rows.proofs.NextRowLaws.{word-less, word_below, IsRead, of_read}
-use Rattle.jv_rows.proofs.NumberedRowsLaws.{NumberedTable, number_at, HasNumber, has_number, read_place, read_row, read_cell, read_there, none_between}
+use Rattle.jv_rows.proofs.NextRowLaws.{word-less, word_below, IsRead, first_behind, off-one, of_read, passes, tab_of}
+use Rattle.jv_rows.proofs.NumberedRowsLaws.{NumberedTable, number_at, HasNumber, has_number, read_place, read_row, read_cell, read_there, none_between, none_behind}
 use Rattle.jv_rows.proofs.ScannedLaws.{off-scan}
-use Rattle.jv_model.proofs.TestLaws.{if_some-by}
+use Rattle.jv_model.proofs.TestLaws.{if_some-by, of_known}
 
 -- the lists of files, by their windows
 abbrev lists : NumberedTable
@@ -75,14 +78,29 @@ list_is (Some records) row h = (records, cc)
 
 -- ---- the row wasn't read
 
-refuses : (last : Option RowKey) (before now : Store) (fault : RowFault) → RefusesScan before.rows 4 last 1 fault → RefusesList before.rows fault
-refuses last before now (Bad at bytes) h = if_some-by (λ known. get (typed known) at ≡ Some (Err bytes)) before.rows (off-scan 4 last 1 before now at bytes h)
-refuses last before now Failed h = tt
-refuses last before now Memory h = tt
+-- the first row behind a key
+first_off : (last : RowKey) (before : Store) (at : RowKey) (bytes : List ℕ) → RefusesScan before.rows 4 (Some last) 1 (Bad at bytes) → (known : RowMap)
+    → before.rows ≡ Some known
+    → first_behind 4 last known ≡ Some (at, bytes)
+first_off last before at bytes h known is =
+    off-one 4 last known (at, bytes) (of_known (λ known. rows_read (rows_after known 4 (Some last) 1) ≡ Err (at, bytes)) before.rows known is h.1)
 
-pub finds-unread : (inode : ℕ) (last : Option ℕ) (after : Option RowKey) (before now : Store) (fault : RowFault) → ScansRows 4 after 1 before now (Err fault)
+refuses : (inode : ℕ) (last : RowKey) (before now : Store) (fault : RowFault) → is_of_another inode fault ≡ false → RefusesScan before.rows 4 (Some last) 1 fault
+    → RefusesList inode before.rows fault
+refuses inode last before now (Bad at bytes) own h = (
+  eqb-true at.a inode (not-false (at.a == inode) own),
+  if_some-by (λ known. (at.tab ≡ TABLE_OF_LISTS) × (get (typed known) at ≡ Some (Err bytes))) before.rows (λ known is. (
+    (tab_of 4 last at bytes (first_where-found row_key (passes 4 last) known (at, bytes) (first_off last before at bytes h known is)).passes).0,
+    off-scan 4 (Some last) 1 before now at bytes h known is,
+  )),
+)
+refuses inode last before now Failed own h = tt
+refuses inode last before now Memory own h = tt
+
+pub finds-unread : (inode : ℕ) (last : Option ℕ) (after : RowKey) (before now : Store) (fault : RowFault) → is_of_another inode fault ≡ false
+    → ScansRows 4 (Some after) 1 before now (Err fault)
     → FindsList inode last before now (Err fault)
-finds-unread inode last after before now fault s = record {
+finds-unread inode last after before now fault own s = record {
   rows_are = s.rows_are;
   opened_at = s.opened_at;
   counts = s.counts;
@@ -91,8 +109,33 @@ finds-unread inode last after before now fault s = record {
   allowed = tt;
   there = tt;
   least = tt;
-  refused = refuses after before now fault s.refused;
+  refused = refuses inode after before now fault own s.refused;
 }
+
+-- it is another file's, so there is none behind
+finds_other : (inode : ℕ) (last : Option ℕ) (before now : Store) (fault : RowFault) → is_of_another inode fault ≡ true
+    → ScansRows 4 (Some (last_list_key inode last)) 1 before now (Err fault)
+    → FindsList inode last before now (Ok None)
+finds_other inode last before now (Bad at bytes) other s = record {
+  rows_are = s.rows_are;
+  opened_at = s.opened_at;
+  counts = s.counts;
+  past = tt;
+  small = tt;
+  allowed = tt;
+  there = tt;
+  least = λ known is wide j small past ahead. none_behind lists inode last known (at, bytes) (first_off (last_list_key inode last) before at bytes s.refused known is)
+      (λ same. true≢false (sym other ∙ ap not (eq-eqb at.a inode same))) j small past;
+  refused = tt;
+}
+finds_other inode last before now Failed other s = absurd (true≢false (sym other))
+finds_other inode last before now Memory other s = absurd (true≢false (sym other))
+
+pub finds-other : (inode : ℕ) (last : Option ℕ) (after : RowKey) (before now : Store) (fault : RowFault) → after ≡ last_list_key inode last
+    → is_of_another inode fault ≡ true → ScansRows 4 (Some after) 1 before now (Err fault)
+    → FindsList inode last before now (Ok None)
+finds-other inode last after before now fault after_is other s =
+    finds_other inode last before now fault other (subst (λ (k : RowKey). ScansRows 4 (Some k) 1 before now (Err fault)) after_is s)
 
 -- ---- the row was read
 

@@ -1,5 +1,5 @@
 -- The first row behind a key: numbers go as their bytes do, and a scan of one row finds the least that passes.
-use Rattle.std.proofs.Common.{◌≡◌, ℕ, ◌+◌, ◌*◌, ◌<◌, ◌≤◌, ◌^◌, ◌⊎◌, Bool, true, false, cond, T, List, [], ◌∷◌, length, take, inl, inr, Option, None, Some, Ok, refl, sym, ap, subst, ◌∙◌, arith, true≢false, eqb-true}
+use Rattle.std.proofs.Common.{◌≡◌, ℕ, ◌+◌, ◌*◌, ◌<◌, ◌≤◌, ◌^◌, ◌⊎◌, Bool, true, false, cond, T, List, [], ◌∷◌, length, take, inl, inr, Option, None, Some, Ok, Err, refl, sym, ap, subst, ◌∙◌, arith, true≢false, eqb-true}
 use Rattle.std.specs.Prelude.{◌==◌, ◌&&◌, filter, IfSome}
 use Rattle.std.specs.Int.{w32, w64, from_be_bytes}
 use Rattle.std.specs.List.{AllByRecursion}
@@ -18,7 +18,7 @@ use Rattle.jv_model.specs.FiniteMap.{KeyOrder, Map, get, first_passing, first_wh
 use Rattle.jv_model.specs.rows.RowFields.{word, long}
 use Rattle.jv_model.specs.rows.RowGrammar.{row_of}
 use Rattle.jv_model.specs.rows.RowKeys.{RowMap, row_cmp, row_cmp_total}
-use Rattle.jv_model.proofs.TestLaws.{first_of_both, second_of_both, less_is, tie_is, nat_less, if_some-by, of_known}
+use Rattle.jv_model.proofs.TestLaws.{first_of_both, second_of_both, less_is, tie_is, nat_less, if_some-by, of_known, same_Err}
 use Rattle.jv_outside.specs.Rows.{is_after, rows_after}
 use Rattle.jv_outside.specs.Store.{Store}
 use Rattle.jv_rows.specs.Scans.{row_then, rows_read, ScansRows}
@@ -218,6 +218,19 @@ module _ (tab : ℕ) (last : RowKey) (known : RowMap) (list : List (RowKey × Ro
   pub reads-one : (before now : Store) → ScansRows tab (Some last) 1 before now (Ok list) → before.rows ≡ Some known → ReadsOne tab last known list
   reads-one before now s is = by_first (first_behind tab last known) refl (ap rows_read (sym (one-behind tab known last))
       ∙ of_known (λ known. rows_read (rows_after known tab (Some last) 1) ≡ Ok list) before.rows known is s.found)
+
+module _ (tab : ℕ) (last : RowKey) (known : RowMap) (off : RowKey × List ℕ) where
+  off_row : (e : RowKey × List ℕ) (o : Option Row) → row_then e.0 e.1 o (Ok []) ≡ Err off → e ≡ off
+  off_row e None h = same_Err (e.0, e.1) off h
+  off_row e (Some row) h = absurd (cc)
+
+  off_first : (o : Option (RowKey × List ℕ)) → first_behind tab last known ≡ o → rows_read (as_list o) ≡ Err off → first_behind tab last known ≡ Some off
+  off_first None first h = absurd (cc)
+  off_first (Some e) first h = first ∙ ap (λ (x : RowKey × List ℕ). Some x) (off_row e (row_of e.0.tab e.1) h)
+
+  -- the row that was malformed is the first
+  pub off-one : rows_read (rows_after known tab (Some last) 1) ≡ Err off → first_behind tab last known ≡ Some off
+  off-one h = off_first (first_behind tab last known) refl (ap rows_read (sym (one-behind tab known last)) ∙ h)
 
 -- what holds wherever a row was read holds of known rows, if the scan found one
 pub of_read : (P : RowMap → Type 0) (tab : ℕ) (last : RowKey) (before now : Store) (list : List (RowKey × Row))

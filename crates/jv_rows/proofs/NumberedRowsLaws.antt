@@ -1,6 +1,6 @@
 -- Rows of one owner in the order of their numbers, as a file's lists go by windows: the first row
 -- behind a number is the next one's.
-use Rattle.std.proofs.Common.{◌≡◌, ℕ, ◌<◌, ◌≤◌, Bool, true, false, ◌⊎◌, List, [], length, inl, inr, Option, None, Some, Ok, refl, sym, ap, subst, ◌∙◌, arith, eq-eqb, eqb-true}
+use Rattle.std.proofs.Common.{◌≡◌, ◌≢◌, ℕ, ◌<◌, ◌≤◌, Bool, true, false, ◌⊎◌, List, [], length, inl, inr, Option, None, Some, Ok, refl, sym, ap, subst, ◌∙◌, arith, eq-eqb, eqb-true}
 use Rattle.std.specs.Prelude.{◌==◌, ◌&&◌, if◌then◌else◌, IfSome, ok_or}
 use Rattle.std.specs.Option.{option_map}
 use Rattle.std.specs.declared.cmp.Ordering.TheVariants.{Less}
@@ -22,7 +22,7 @@ use Rattle.jv_volume.proofs.TableLaws.{same_key_parts}
 use Rattle.jv_volume.proofs.TypedLaws.{get-typed}
 use Rattle.jv_rows.specs.Lists.{is_past, is_ahead, if_past}
 use Rattle.jv_rows.specs.Scans.{ScansRows}
-use Rattle.jv_rows.proofs.NextRowLaws.{not_behind, first_where-least, passes, IsRead, ReadsOne, NoRow, OneRow, reads-one, tab_of}
+use Rattle.jv_rows.proofs.NextRowLaws.{not_behind, first_behind, first_where-least, passes, IsRead, ReadsOne, NoRow, OneRow, reads-one, tab_of}
 use Rattle.jv_rows.proofs.ScannedLaws.{number-rises}
 
 -- How the keys of a table spell numbers: in bytes that rise with the numbers.
@@ -202,3 +202,31 @@ module _ (table : NumberedTable) (owner : ℕ) (last : Option ℕ) (known : RowM
     pub none_between : get (typed known) (at j) ≡ None
     none_between = get-typed known (at j) ∙ ap (option_map (cell_of (at j)))
         (none_unless (get known (at j)) (λ y stored. none_by y stored (reads-one table.tab behind known list before now s is)))
+
+-- ---- another owner's row is the first
+
+-- where the first row behind a number is another owner's, no number behind has a row
+module _ (table : NumberedTable) (owner : ℕ) (last : Option ℕ) (known : RowMap) (e : RowKey × List ℕ)
+    (first : first_behind table.tab (key_behind table owner last) known ≡ Some e) (other : e.0.a ≢ owner) where
+  abbrev start : RowKey
+  start = key_behind table owner last
+
+  first_place : (e.0.tab ≡ table.tab) × (row_cmp start e.0 ≡ Less)
+  first_place = tab_of table.tab start e.0 e.1 (first_where-found row_key (passes table.tab start) known e first).passes
+
+  module _ (j : ℕ) (small : j < table.limit) (past : is_past last j ≡ true) where
+    passes_at : (y : List ℕ) → passes table.tab start (key_at table owner j) y ≡ true
+    passes_at y = ap (λ b. b && is_lt (row_cmp start (key_at table owner j))) (eq-eqb table.tab table.tab refl) ∙ ap is_lt (key-past table owner last j small past)
+
+    not_first : (key_at table owner j ≡ e.0) ⊎ (row_cmp e.0 (key_at table owner j) ≡ Less) → ⊥
+    not_first (inl same) = other (ap (λ (k : RowKey). k.a) (sym same))
+    not_first (inr less) =
+        let down = number-rises e.0 (key_at table owner j) first_place.0 less in
+        let up = number-rises start e.0 ((behind_place table owner last).0 ∙ sym first_place.0) first_place.1 in
+        let from = (behind_place table owner last).1 in
+        other (omega (arith, down, up, from))
+
+    pub none_behind : get (typed known) (key_at table owner j) ≡ None
+    none_behind = get-typed known (key_at table owner j) ∙ ap (option_map (cell_of (key_at table owner j)))
+        (none_unless (get known (key_at table owner j)) (λ y stored. not_first
+        (first_where-least row_key (passes table.tab start) known e (key_at table owner j) y first stored (passes_at y))))

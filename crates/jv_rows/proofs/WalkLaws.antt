@@ -16,12 +16,12 @@ use Rattle.jv_model.specs.FiniteMap.{get}
 use Rattle.jv_model.specs.rows.RowGrammar.{node_bytes, is_node, edge_bytes, is_edge}
 use Rattle.jv_model.specs.rows.RowKeys.{RowMap, row_key, is_key_of}
 use Rattle.jv_model.specs.rows.RowPlaces.{node_key, edge_key}
-use Rattle.jv_model.specs.tree.Tree.{Tree, Kind, File, Directory, Symlink, Node, EntryKey, node_at, parent_of, parent_at}
+use Rattle.jv_model.specs.tree.Tree.{Tree, Node, EntryKey, node_at, parent_at}
 use Rattle.jv_outside.specs.Store.{Store}
 use Rattle.jv_volume.specs.TypedRows.{typed}
 use Rattle.jv_volume.specs.Views.{row_in, node_in, edge_in}
 use Rattle.jv_volume.specs.TreeOf.{tree_of}
-use Rattle.jv_volume.specs.Shape.{Form, Absent, Regular, Link, Dir, form_of, is_there, is_dir, shape_of, is_top, WholeShape}
+use Rattle.jv_volume.specs.Shape.{Form, Dir, form_of, is_there, shape_of, is_top, WholeShape}
 use Rattle.jv_volume.specs.Whole.{Whole}
 use Rattle.jv_volume.proofs.ShapeMapLaws.{tied_here, form-parent, there_of_dir}
 use Rattle.jv_volume.proofs.TreeOfLaws.{get-entries}

@@ -1,5 +1,5 @@
 -- How the counts of slices follow records that went and came.
-use Rattle.std.specs.Prelude.{◌≡◌, ℕ, ◌+◌, ◌-◌, Bool, false, ◌||◌, ◌&&◌, not, ◌==◌, nat_le, if◌then◌else◌, List, Option, None, Some, Result, Ok, Err, IfErr, IfSome, OnOk, IsTrue}
+use Rattle.std.specs.Prelude.{◌≡◌, ℕ, ◌+◌, ◌-◌, Bool, false, ◌||◌, ◌&&◌, not, ◌==◌, nat_le, if◌then◌else◌, List, Option, None, Some, Result, Ok, IfErr, IfSome, OnOk, IsTrue}
 use Rattle.jv_model.specs.declared.tables.TheConstants.{TABLE_OF_SLICES, TABLE_OF_DEAD}
 use Rattle.jv_model.specs.declared.limits.TheConstants.{FULL_COUNT}
 use Rattle.jv_model.specs.declared.row.RowKey.{RowKey}

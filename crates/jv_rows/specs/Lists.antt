@@ -1,5 +1,5 @@
 -- The lists of a file, one after another by their windows.
-use Rattle.std.specs.Prelude.{◌≡◌, ◌≢◌, ℕ, ◌<◌, ◌^◌, Bool, true, ◌==◌, ◌&&◌, nat_lt, if◌then◌else◌, List, [], length, Option, None, Some, Result, Ok, Err, IfOk, IfErr, IfSome, IsTrue}
+use Rattle.std.specs.Prelude.{◌≡◌, ◌≢◌, ℕ, ◌<◌, ◌^◌, Bool, true, false, not, ◌==◌, nat_lt, if◌then◌else◌, List, [], length, Option, None, Some, Result, Ok, Err, IfOk, IfErr, IfSome, IsTrue}
 use Rattle.std.specs.Int.{w32, from_be_bytes}
 use Rattle.std.specs.Option.{option_map}
 use Rattle.jv_model.specs.declared.tables.TheConstants.{TABLE_OF_LISTS}
@@ -74,11 +74,19 @@ abbrev pub HaveWindows : Rows → Type 0
 HaveWindows rows =
     (key : RowKey) → key.tab ≡ TABLE_OF_LISTS → get rows key ≢ None → length key.b ≡ 4
 
--- why a list wasn't read: the row behind is malformed, the keeper failed, or out of memory
-abbrev pub RefusesList : Option RowMap → RowFault → Type 0
-RefusesList rows (Bad at bytes) = IfSome rows (λ known. get (typed known) at ≡ Some (Err bytes))
-RefusesList rows Failed = Unit {0}
-RefusesList rows Memory = Unit {0}
+-- whether a row that is malformed is another file's
+abbrev pub is_of_another : ℕ → RowFault → Bool
+is_of_another inode (Bad at bytes) = not (at.a == inode)
+is_of_another inode Failed = false
+is_of_another inode Memory = false
+
+-- why a file's list wasn't read: the row behind is one of the file's lists and malformed, the
+-- keeper failed, or out of memory
+abbrev pub RefusesList : ℕ → Option RowMap → RowFault → Type 0
+RefusesList inode rows (Bad at bytes) = (at.a ≡ inode) × IfSome rows (λ known.
+    (at.tab ≡ TABLE_OF_LISTS) × (get (typed known) at ≡ Some (Err bytes)))
+RefusesList inode rows Failed = Unit {0}
+RefusesList inode rows Memory = Unit {0}
 
 -- A reading of a file's next list, after a window or from the first on: rows and place are the
 -- same, and where the rows are known, there is none between.
@@ -94,4 +102,4 @@ pub record FindsList (inode : ℕ) (last : Option ℕ) (before now : Store)
   pub least : IfOk result (λ found. (known : RowMap) → before.rows ≡ Some known
       → HaveWindows (typed known)
       → HasNoList (typed known) inode last (option_map (λ f. f.0) found))
-  pub refused : IfErr result (RefusesList before.rows)
+  pub refused : IfErr result (RefusesList inode before.rows)

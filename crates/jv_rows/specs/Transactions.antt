@@ -95,8 +95,8 @@ pub record Looks {A : Type 0} (before after : Store) (result : Result A TxFault)
       → (bytes : ℕ → ℕ → ℕ) → Agrees result (finds (tree_of bytes (typed known)))
   pub bad : IfErr result (λ fault. IfSome before.rows (λ known. BadFault (typed known) fault))
 
--- A transaction that was made: the rows left are whole, their tree is the model's after it, and
--- lists and slices are as before.
+-- A transaction that was made: the rows left are whole, their tree is the model's after it, lists
+-- and slices are as before, and files that went left dropped rows with their lengths.
 pub record Landed (known : RowMap) (after : Option RowMap) (bytes : ℕ → ℕ → ℕ) (reply : Reply)
     (act : Tree → Result Outcome Fault) : Type 0 where
   pub left : RowMap

@@ -1,7 +1,7 @@
 //! The lists of a file, one after another by their windows.
 ghost use Rattle.std.specs.Prelude.{◌≡◌, IfOk, IfSome};
 ghost use Rattle.jv_model.specs.rows.RowFields.{word};
-ghost use Rattle.jv_rows.specs.Lists.{last_list_key, window_in, list_of_row, IsSpelled, FindsList};
+ghost use Rattle.jv_rows.specs.Lists.{last_list_key, window_in, list_of_row, is_of_another, IsSpelled, FindsList};
 
 use crate::keys::key_of_list;
 use crate::scanning::scan_rows;
@@ -55,12 +55,22 @@ fn list_of(inode: u64, last: Option<u32>, key: &RowKey, row: Row) -> Option<(u32
     }
 }
 
+/// Whether a row that is malformed is another file's, so that no list of this one is behind.
+fn is_of_another(inode: u64, fault: &RowFault) -> bool
+    ensures { result ≡ is_of_another inode fault.now }
+{
+    match fault {
+        RowFault::Bad(at, _) => at.a != inode,
+        RowFault::Failed | RowFault::Memory => false,
+    }
+}
+
 /// The next list of a file with its window, after a window or from the first on. `None` if there is none behind. A row of
 /// the table whose key has no window ends the search; no whole volume has one.
 ///
 /// # Errors
 ///
-/// [`RowFault::Bad`] where the row behind is malformed, [`RowFault::Failed`] if the keeper failed, and
+/// [`RowFault::Bad`] where the row behind is the file's and malformed, [`RowFault::Failed`] if the keeper failed, and
 /// [`RowFault::Memory`] out of memory.
 pub fn next_list<K: Keeper>(
     alloc: Global,
@@ -71,8 +81,12 @@ pub fn next_list<K: Keeper>(
     ensures { FindsList inode last (K.seen k.old) (K.seen k.new) result }
 {
     let after = key_after(alloc, inode, last)?;
-    let mut rows = scan_rows(alloc, k, TABLE_OF_LISTS, Some(&after), 1)?.into_vec();
-    match rows.pop() {
+    let rows = match scan_rows(alloc, k, TABLE_OF_LISTS, Some(&after), 1) {
+        Ok(rows) => rows,
+        Err(fault) if is_of_another(inode, &fault) => return Ok(None),
+        Err(fault) => return Err(fault),
+    };
+    match rows.into_vec().pop() {
         Some((key, row)) => Ok(list_of(inode, last, &key, row)),
         None => Ok(None),
     }

@@ -23,6 +23,7 @@ use Rattle.jv_volume.specs.Whole.{Whole, no_bytes}
 use Rattle.jv_volume.proofs.QuietLaws.{quiet-none, quiet-slices}
 use Rattle.jv_volume.proofs.StoredLaws.{same_shape, stored-again, whole-stored}
 use Rattle.jv_rows_drafts.specs.Drafting.{Minds, AreRows, Led, LeadsTo, Drafting}
+use Rattle.jv_rows_drafts.proofs.LengthLaws.{lengths-none}
 use Rattle.jv_model.proofs.TestLaws.{if_some-by, of_known, same_Ok}
 
 -- ---- what is in mind
@@ -37,6 +38,7 @@ minds-none known bytes whole = record {
   stored = whole-stored bytes (typed known) whole;
   files = whole.files;
   quiet = quiet-none (typed known);
+  lengths = lengths-none (typed known);
 }
 
 pub are_rows-none : AreRows []

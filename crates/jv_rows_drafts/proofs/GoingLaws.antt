@@ -7,7 +7,7 @@ use Rattle.jv_model.specs.declared.row.Counters.{Counters}
 use Rattle.jv_model.specs.declared.row.Node.{Node as NodeRow}
 use Rattle.jv_model.specs.declared.row.Row.TheVariants.{OfCounters, OfSustained, OfDropped}
 use Rattle.jv_model.specs.declared.row.RowKey.{RowKey}
-use Rattle.jv_model.specs.FiniteMap.{get, insert, remove, alter}
+use Rattle.jv_model.specs.FiniteMap.{get, insert, remove}
 use Rattle.jv_model.specs.declared.fault.TxFault.{TxFault}
 use Rattle.jv_model.specs.rows.RowGrammar.{is_counters}
 use Rattle.jv_model.specs.rows.RowKeys.{row_key, RowMap}
@@ -24,20 +24,21 @@ use Rattle.jv_volume.specs.Views.{row_in, counters_in, counters_at, node_row_at}
 use Rattle.jv_volume.specs.TreeOf.{counters_of, node_of, kind_of, tree_of}
 use Rattle.jv_volume.specs.Shape.{is_top}
 use Rattle.jv_volume.specs.Stored.{Stored}
-use Rattle.jv_volume.specs.Whole.{IsRowAt, Quiet}
+use Rattle.jv_volume.specs.Whole.{IsRowAt, file_length}
 use Rattle.jv_volume.proofs.FileStepLaws.{files-other, files-drop_other, files-put_counters, files-drop_file}
 use Rattle.jv_volume.proofs.MapLaws.{alter-swap}
-use Rattle.jv_volume.proofs.QuietLaws.{quiet-then, quiet-alter, quiet-put_counters}
+use Rattle.jv_volume.proofs.QuietLaws.{quiet-alter, quiet-drop_file, quiet-drop_other, quiet-put_counters}
 use Rattle.jv_volume.proofs.SeenLaws.{AreRows, node-seen, counters-seen, row-put, rows-alter}
 use Rattle.jv_volume.proofs.StoredLaws.{of_node, of_counters}
 use Rattle.jv_volume.proofs.StoredStepLaws.{rows_without_node, tree_of-old_node, stored-old_node, alter_kept}
 use Rattle.jv_volume.proofs.TableStepLaws.{stored-put_sustained, stored-unseen}
 use Rattle.jv_volume.proofs.TreeOfLaws.{next_inode-tree_of, tree_of-insert-unseen, tree_of-put_sustained}
-use Rattle.jv_rows_drafts.specs.Drafting.{Minds, AreRows as AreRowsInMind, Led, Drafting}
+use Rattle.jv_rows_drafts.specs.Drafting.{KeepsLengths, Minds, AreRows as AreRowsInMind, Led, Drafting}
 use Rattle.jv_rows_drafts.specs.Lowered.{space_taken, lowered, with_dropped, with_lowered}
 use Rattle.jv_rows_drafts.specs.Present.{Presents}
 use Rattle.jv_rows_drafts.specs.Ready.{MayGo, sustaining}
 use Rattle.jv_rows_drafts.proofs.DraftedLaws.{Drafted, are_rows-put, are_rows-drop, spare-node, Stays, stays-none, stays-then, stays-needs, needed-stands, drafting-lacking, drafting-made}
+use Rattle.jv_rows_drafts.proofs.LengthLaws.{lengths-alter, lengths-drop_node}
 use Rattle.jv_rows_drafts.proofs.PresentLaws.{stays-present, drafting-absent, Sound, sound-minds, minds-sound}
 use Rattle.jv_model.proofs.TestLaws.{of_known}
 
@@ -74,7 +75,8 @@ rows-sustained start rows bytes t sid inode low m =
         cells = rows-alter rows q cell m.sound.cells
             (λ x. row-put q (Ok OfSustained) x (record { key_is = refl; cell_is = refl; hour = refl }));
         files = files-other rows q cell m.sound.files refl refl refl refl;
-        quiet = quiet-then start rows (alter rows q cell) m.sound.quiet (quiet-alter rows q cell refl refl);
+        quiet = quiet-alter start rows m.sound.quiet q cell refl refl refl refl;
+        lengths = lengths-alter start rows m.sound.lengths q cell refl;
       };
     }
 
@@ -155,8 +157,11 @@ module _ (start rows : Rows) (bytes : ℕ → ℕ → ℕ) (inode : ℕ) (row : 
   length_typed : (x : Cell) → ◌≡◌ {A = Option Cell} (Some length_cell) (Some x) → IsRowAt (dropped_key inode) x
   length_typed x = row-put (dropped_key inode) length_cell x (record { key_is = refl; cell_is = refl; hour = refl })
 
-  quiet_without : Quiet start without_row
-  quiet_without = quiet-then start rows without_row m.sound.quiet (quiet-alter rows (node_key inode) None refl refl)
+  same_length : file_length (Some row) ≡ file_length (node_row_at start inode)
+  same_length = m.sound.lengths inode row node_is
+
+  lengths_without : KeepsLengths start without_row
+  lengths_without = lengths-drop_node start rows m.sound.lengths inode
 
   -- a directory or a symlink
   other_gone : (row.kind == 1) ≡ false → OfTree start lowered_rows bytes (drop_node (tree_of bytes rows) inode)
@@ -169,8 +174,9 @@ module _ (start rows : Rows) (bytes : ℕ → ℕ → ℕ) (inode : ℕ) (row : 
           (files-drop_other rows inode row m.sound.files node_is
           (λ file. true≢false (sym (eq-eqb row.kind 1 file) ∙ other)))
           counters_stay refl (omega arith);
-      quiet = quiet-then start without_row lowered_rows quiet_without
-          (quiet-put_counters without_row c left counters_stay refl);
+      quiet = quiet-put_counters start without_row
+          (quiet-drop_other start rows m.sound.quiet inode row node_is same_length other) c left counters_stay refl;
+      lengths = lengths-alter start without_row lengths_without counters_key (Some (of_counters left)) refl;
     };
   }
 
@@ -192,8 +198,8 @@ module _ (start rows : Rows) (bytes : ℕ → ℕ → ℕ) (inode : ℕ) (row : 
   counters_stay_left = ap (λ o. counters_in (row_in o))
       (alter_kept without_row (dropped_key inode) (Some length_cell) counters_key refl) ∙ counters_stay
 
-  file_gone : OfTree start file_rows bytes (drop_node (tree_of bytes rows) inode)
-  file_gone = record {
+  file_gone : (row.kind == 1) ≡ true → OfTree start file_rows bytes (drop_node (tree_of bytes rows) inode)
+  file_gone file = record {
     tree = ap (tree_of bytes) (sym swapped)
         ∙ tree_of-insert-unseen bytes lowered_rows (dropped_key inode) length_cell refl ∙ lowered_tree;
     stored = subst (λ (r : Rows). Stored r (tree_of bytes r)) swapped
@@ -205,17 +211,18 @@ module _ (start rows : Rows) (bytes : ℕ → ℕ → ℕ) (inode : ℕ) (row : 
           (files-drop_file rows inode row (record { length = row.length }) m.sound.files node_is given)
           counters_stay_left refl
           (omega arith);
-      quiet = quiet-then start length_left file_rows
-          (quiet-then start without_row length_left quiet_without
-          (quiet-alter without_row (dropped_key inode) (Some length_cell) refl refl))
-          (quiet-put_counters length_left c left counters_stay_left refl);
+      quiet = quiet-put_counters start length_left
+          (quiet-drop_file start rows m.sound.quiet inode row node_is same_length file) c left counters_stay_left refl;
+      lengths = lengths-alter start length_left
+          (lengths-alter start without_row lengths_without (dropped_key inode) (Some length_cell) refl) counters_key
+          (Some (of_counters left)) refl;
     };
   }
 
   by_kind : (file : Bool) → (row.kind == 1) ≡ file
       → OfTree start (insert (if file then length_left else without_row) counters_key (of_counters left)) bytes
       (drop_node (tree_of bytes rows) inode)
-  by_kind true is = file_gone
+  by_kind true is = file_gone is
   by_kind false is = other_gone is
 
   -- the rows that a node leaves

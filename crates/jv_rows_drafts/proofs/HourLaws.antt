@@ -6,6 +6,7 @@ use Rattle.std.proofs.lemmas.Bool.{le-ltb, le-leb}
 use Rattle.jv_model.specs.declared.fault.Fault.TheVariants.{NoSpace}
 use Rattle.jv_model.specs.declared.limits.TheConstants.{MAX_LINKS, READ_ONLY_MODE, TRASH_ROOT, ROOT}
 use Rattle.jv_model.specs.declared.row.Counters.{Counters}
+use Rattle.jv_model.specs.declared.row.Dropped.{Dropped}
 use Rattle.jv_model.specs.declared.row.Node.{Node as NodeRow}
 use Rattle.jv_model.specs.FiniteMap.{number_key, insert}
 use Rattle.jv_model.specs.rows.RowKeys.{row_key}
@@ -25,7 +26,7 @@ use Rattle.jv_volume.proofs.HourNameLaws.{last_hour}
 use Rattle.jv_volume.proofs.HourShapeLaws.{hour_inode_high}
 use Rattle.jv_volume.proofs.LinkLaws.{IsFree, standing_apart, standing_here, dirs-shape, is_directory-put_here, is_directory-put_apart, link_count-put_alone, link_count-put_unnamed, link_count-put_entry-dir}
 use Rattle.jv_volume.proofs.MapLaws.{alter-same}
-use Rattle.jv_volume.proofs.QuietLaws.{quiet-then, quiet-alter}
+use Rattle.jv_volume.proofs.QuietLaws.{no_file-left, quiet-new_node}
 use Rattle.jv_volume.proofs.SeenLaws.{row-put, rows-alter, counters-seen}
 use Rattle.jv_volume.proofs.ShapeMapLaws.{get-inserted}
 use Rattle.jv_volume.proofs.StoredLaws.{of_node, of_counters}
@@ -35,6 +36,7 @@ use Rattle.jv_volume.proofs.WholeLaws.{read_only-row}
 use Rattle.jv_rows_drafts.specs.Ready.{MayHaveHour, MayStandAt, hour_row, entry_put}
 use Rattle.jv_rows_drafts.proofs.GoingLaws.{OfTree}
 use Rattle.jv_rows_drafts.proofs.HourLinkLaws.{trash_links}
+use Rattle.jv_rows_drafts.proofs.LengthLaws.{lengths-new_node}
 
 -- ---- the tree
 
@@ -205,6 +207,13 @@ module _ (start rows : Rows) (bytes : ℕ → ℕ → ℕ) (now hour : ℕ) (m :
       let more = hour_inode_high hour low in
       omega (arith, given, more, may.below, next_inode-tree_of bytes rows)
 
+  none_dropped : dropped_at rows (hour_inode hour) ≡ None
+  none_dropped = by_dropped (dropped_at rows (hour_inode hour)) refl
+    where
+      by_dropped : (o : Option Dropped) → dropped_at rows (hour_inode hour) ≡ o → o ≡ None
+      by_dropped None e = refl
+      by_dropped (Some dropped) e = absurd (not_dropped (λ none. absurd (cc)))
+
   pub rows-hour : OfTree start (insert rows (node_key (hour_inode hour)) (of_node (hour_row now))) bytes
       (put_node (tree_of bytes rows) (hour_inode hour) (hour_dir now))
   rows-hour = record {
@@ -216,7 +225,9 @@ module _ (start rows : Rows) (bytes : ℕ → ℕ → ℕ) (now hour : ℕ) (m :
           (λ x. row-put (node_key inode) cell x (read_only-row inode (hour_row now) refl));
       files = files-node rows inode (Some cell) m.sound.files (λ node is file. absurd (a_directory node is file))
           (λ was there file. absurd (cc)) (λ there. absurd (not_dropped there));
-      quiet = quiet-then start rows with_row m.sound.quiet (quiet-alter rows (node_key inode) (Some cell) refl refl);
+      quiet = quiet-new_node start rows m.sound.quiet inode (hour_row now) absent none_dropped;
+      lengths = lengths-new_node start rows m.sound.lengths inode (hour_row now) refl
+          (no_file-left start rows inode m.sound.quiet.dropped absent none_dropped);
     };
   }
     where

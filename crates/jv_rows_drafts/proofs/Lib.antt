@@ -2,6 +2,7 @@
 pub mod CivilDateLaws
 pub mod DraftingLaws
 pub mod StepLaws
+pub mod LengthLaws
 pub mod DraftStepLaws
 pub mod DraftedLaws
 pub mod PresentLaws

@@ -23,14 +23,15 @@ use Rattle.jv_volume.specs.Stored.{Stored}
 use Rattle.jv_volume.specs.Slices.{WholeFiles}
 use Rattle.jv_volume.specs.Whole.{IsRowAt, Quiet, is_read_only}
 use Rattle.jv_volume.proofs.FileStepLaws.{files-other, files-same_length}
-use Rattle.jv_volume.proofs.QuietLaws.{quiet-alter, quiet-then}
+use Rattle.jv_volume.proofs.QuietLaws.{quiet-alter, quiet-put_node}
 use Rattle.jv_volume.proofs.SeenLaws.{row-put, rows-alter}
 use Rattle.jv_volume.proofs.StoredLaws.{no_node}
 use Rattle.jv_volume.proofs.WholeLaws.{again-row}
-use Rattle.jv_rows_drafts.specs.Drafting.{Minds, AreRows, LeadsTo, Drafting}
+use Rattle.jv_rows_drafts.specs.Drafting.{KeepsLengths, Minds, AreRows, LeadsTo, Drafting}
 use Rattle.jv_rows_drafts.specs.Present.{Presents, RefusesNode}
 use Rattle.jv_rows_drafts.specs.Ready.{IsThere}
 use Rattle.jv_rows_drafts.proofs.DraftedLaws.{Drafted, was_drafted, Stays, bad-cell, leads-cell}
+use Rattle.jv_rows_drafts.proofs.LengthLaws.{lengths-alter, lengths-put_node}
 
 -- ---- a node that was read
 
@@ -99,15 +100,16 @@ put_drafted inode row other same was now result done d =
 
 -- ---- rows in mind
 
--- rows that leave lists and slices of those at the start alone, whatever their tree
+-- rows that leave lists, slices and the lengths of files of those at the start alone, whatever their tree
 pub record Sound (start rows : Rows) : Type 0 where
   pub cells : (key : RowKey) (cell : Cell) → get rows key ≡ Some cell → IsRowAt key cell
   pub files : WholeFiles rows
   pub quiet : Quiet start rows
+  pub lengths : KeepsLengths start rows
 
 pub sound-minds : (known : RowMap) (changes : List Change) (bytes : ℕ → ℕ → ℕ) (t : Tree) → Minds known changes bytes t
     → Sound (typed known) (drafted changes known)
-sound-minds known changes bytes t m = record { cells = m.cells; files = m.files; quiet = m.quiet }
+sound-minds known changes bytes t m = record { cells = m.cells; files = m.files; quiet = m.quiet; lengths = m.lengths }
 
 pub minds-sound : (known : RowMap) (changes : List Change) (bytes : ℕ → ℕ → ℕ) (t : Tree) (rows : Rows)
     → Sound (typed known) rows → drafted changes known ≡ rows
@@ -119,6 +121,7 @@ minds-sound known changes bytes t rows sound is tree stored = record {
   stored = subst (λ (r : Rows). Stored r (tree_of bytes r)) (sym is) stored;
   files = subst WholeFiles (sym is) sound.files;
   quiet = subst (Quiet (typed known)) (sym is) sound.quiet;
+  lengths = subst (KeepsLengths (typed known)) (sym is) sound.lengths;
 }
 
 module _ (start rows : Rows) (sound : Sound start rows) where
@@ -130,8 +133,8 @@ module _ (start rows : Rows) (sound : Sound start rows) where
     cells = rows-alter rows (node_key inode) (Some (Ok (OfNode row))) sound.cells
         (λ x. row-put (node_key inode) (Ok (OfNode row)) x (again-row rows inode was row sound.cells there mode));
     files = files-same_length rows inode was row sound.files there kind length;
-    quiet = quiet-then start rows (insert rows (node_key inode) (Ok (OfNode row))) sound.quiet
-        (quiet-alter rows (node_key inode) (Some (Ok (OfNode row))) refl refl);
+    quiet = quiet-put_node start rows sound.quiet inode was row there;
+    lengths = lengths-put_node start rows sound.lengths inode was row there kind length;
   }
 
   -- an entry that comes or goes
@@ -141,6 +144,6 @@ module _ (start rows : Rows) (sound : Sound start rows) where
   sound-edge dir name cell new = record {
     cells = rows-alter rows (edge_key dir name) cell sound.cells new;
     files = files-other rows (edge_key dir name) cell sound.files refl refl refl refl;
-    quiet = quiet-then start rows (alter rows (edge_key dir name) cell) sound.quiet
-        (quiet-alter rows (edge_key dir name) cell refl refl);
+    quiet = quiet-alter start rows sound.quiet (edge_key dir name) cell refl refl refl refl;
+    lengths = lengths-alter start rows sound.lengths (edge_key dir name) cell refl;
   }

@@ -5,6 +5,7 @@ use Rattle.jv_model.specs.declared.fault.Fault.{Fault}
 use Rattle.jv_model.specs.declared.fault.RowFault.TheVariants.{Bad, Failed, Memory}
 use Rattle.jv_model.specs.declared.fault.TxFault.{TxFault}
 use Rattle.jv_model.specs.declared.fault.TxFault.TheVariants.{Refused, Moved, Rows as OfRows}
+use Rattle.jv_model.specs.declared.row.Node.{Node}
 use Rattle.jv_model.specs.declared.row.RowKey.{RowKey}
 use Rattle.jv_model.specs.FiniteMap.{get}
 use Rattle.jv_model.specs.rows.RowKeys.{RowMap}
@@ -13,14 +14,20 @@ use Rattle.jv_outside.specs.declared.batch.Change.{Change}
 use Rattle.jv_outside.specs.Store.{Store}
 use Rattle.jv_rows.specs.Drafts.{drafted}
 use Rattle.jv_rows.specs.Transactions.{TransactionCounts, BadFault, is_needed}
-use Rattle.jv_volume.specs.TypedRows.{Cell, typed}
+use Rattle.jv_volume.specs.TypedRows.{Cell, Rows, typed}
 use Rattle.jv_volume.specs.TreeOf.{tree_of}
+use Rattle.jv_volume.specs.Views.{node_row_at}
 use Rattle.jv_volume.specs.Stored.{Stored}
 use Rattle.jv_volume.specs.Slices.{WholeFiles}
-use Rattle.jv_volume.specs.Whole.{IsRowAt, Quiet}
+use Rattle.jv_volume.specs.Whole.{IsRowAt, Quiet, file_length}
+
+-- each file is as long as at the start, and no file came
+abbrev pub KeepsLengths : Rows → Rows → Type 0
+KeepsLengths rows after = (inode : ℕ) (row : Node) → node_row_at after inode ≡ Some row
+    → file_length (Some row) ≡ file_length (node_row_at rows inode)
 
 -- With changes in mind, rows are those of a tree, though not yet of a whole one: lists and slices
--- are as before.
+-- are as before, and files that went left their lengths.
 pub record Minds (known : RowMap) (changes : List Change) (bytes : ℕ → ℕ → ℕ)
     (t : Tree) : Type 0 where
   pub tree : tree_of bytes (drafted changes known) ≡ t
@@ -29,6 +36,7 @@ pub record Minds (known : RowMap) (changes : List Change) (bytes : ℕ → ℕ �
   pub stored : Stored (drafted changes known) (tree_of bytes (drafted changes known))
   pub files : WholeFiles (drafted changes known)
   pub quiet : Quiet (typed known) (drafted changes known)
+  pub lengths : KeepsLengths (typed known) (drafted changes known)
 
 -- no change leaves bytes that are malformed, or takes a row away that each volume has
 pub record AreRows (changes : List Change) : Type 0 where

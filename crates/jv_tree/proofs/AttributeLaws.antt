@@ -35,7 +35,7 @@ use Rattle.jv_volume.specs.Whole.{Whole, Quiet, no_bytes}
 use Rattle.jv_volume.proofs.EnteredShapeLaws.{not_hour_below}
 use Rattle.jv_volume.proofs.FileStepLaws.{files-same_length}
 use Rattle.jv_volume.proofs.NodeRowLaws.{IsNodeRow}
-use Rattle.jv_volume.proofs.QuietLaws.{quiet-alter, quiet-slices}
+use Rattle.jv_volume.proofs.QuietLaws.{quiet-none, quiet-put_node, quiet-slices}
 use Rattle.jv_volume.proofs.SameShapeLaws.{whole-attributes}
 use Rattle.jv_volume.proofs.SeenLaws.{row-put, rows-alter}
 use Rattle.jv_volume.proofs.StoredLaws.{HasNode, found_node, whole-stored, whole-shape}
@@ -153,7 +153,7 @@ module _ (rows : Rows) (whole : Whole rows) (inode : ℕ) (row new : NodeRow) (t
   changed_rows = insert rows (node_key inode) (Ok (OfNode new))
 
   pub changed-quiet : Quiet rows changed_rows
-  changed-quiet = quiet-alter rows (node_key inode) (Some (Ok (OfNode new))) refl refl
+  changed-quiet = quiet-put_node rows rows (quiet-none rows) inode row new there
 
   has : HasNode (tree_of no_bytes rows) inode row (no_bytes inode)
   has = found_node no_bytes rows whole.stored inode row there

@@ -1,5 +1,5 @@
 -- How many inodes a whole tree counts: as many as there are below the next one at most, and at least those on a way up.
-use Rattle.std.proofs.Common.{◌≡◌, ◌≢◌, ℕ, zero, suc, ◌+◌, ◌<◌, ◌≤◌, Bool, true, false, not, ◌&&◌, ◌==◌, ◌⊎◌, inl, inr, Option, None, Some, is_some, refl, sym, ap, subst, ◌∙◌, arith}
+use Rattle.std.proofs.Common.{◌≡◌, ◌≢◌, ℕ, zero, suc, ◌+◌, ◌<◌, ◌≤◌, Bool, true, false, not, ◌==◌, ◌⊎◌, inl, inr, Option, None, Some, is_some, refl, sym, ap, ◌∙◌, arith}
 use Rattle.std.specs.Prelude.{nat_lt, if◌then◌else◌, IsTrue}
 use Rattle.std.proofs.lemmas.Bool.{cases_eq, cases_Bool, and_cases, and_parts, false≢true, lt-ltb, ltb-true, ltb-false, ne_eqb}
 use Rattle.jv_model.specs.declared.limits.TheConstants.{ROOT, TRASH_ROOT}
@@ -7,7 +7,7 @@ use Rattle.jv_model.specs.FiniteMap.{Map, number_key, get, remove, sum_over}
 use Rattle.jv_model.specs.tree.Tree.{Tree, Node, node_at, node_count, is_counted, used_inodes}
 use Rattle.jv_model.proofs.FiniteMapLaws.{share, sum-remove}
 use Rattle.jv_model.proofs.TestLaws.{at_most_one}
-use Rattle.jv_volume.specs.Shape.{Form, Dir, WholeShape, form_of, is_there, is_top, shape_of, Reaches}
+use Rattle.jv_volume.specs.Shape.{Form, Dir, WholeShape, is_there, is_top, shape_of, Reaches}
 use Rattle.jv_volume.proofs.ClimbLaws.{Once, once_at, steps_within}
 use Rattle.jv_volume.proofs.MapLaws.{sum-nothing}
 use Rattle.jv_volume.proofs.ShapeMapLaws.{get-removed, get-remove_apart, is_there-form}

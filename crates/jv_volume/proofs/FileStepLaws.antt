@@ -1,9 +1,8 @@
 -- Files stay whole with each small change of metadata: of a row that is no file's, of a node's row, of the counters, and of a
 -- file that becomes a dropped one.
-use Rattle.std.proofs.Common.{◌≡◌, ◌≢◌, ℕ, ◌<◌, ◌≤◌, false, [], inl, inr, Option, None, Some, Ok, refl, sym, ap, subst, ◌∙◌, arith, true≢false, eq-eqb}
+use Rattle.std.proofs.Common.{◌≡◌, ◌≢◌, ℕ, ◌<◌, ◌≤◌, false, [], inl, inr, Option, None, Some, Ok, refl, sym, ap, subst, ◌∙◌, arith}
 use Rattle.std.proofs.lemmas.Option.{same_Some}
 use Rattle.std.specs.Prelude.{◌==◌}
-use Rattle.std.specs.Ordering.{eq_by_cmp}
 use Rattle.std.proofs.lemmas.Bool.{cases_eq}
 use Rattle.jv_model.specs.declared.limits.TheConstants.{FILE_END}
 use Rattle.jv_model.specs.declared.row.RowKey.{RowKey}
@@ -12,17 +11,16 @@ use Rattle.jv_model.specs.declared.row.Dropped.{Dropped}
 use Rattle.jv_model.specs.declared.row.Node.{Node as NodeRow}
 use Rattle.jv_model.specs.declared.row.Row.TheVariants.{OfCounters, OfNode, OfDropped as DroppedRow}
 use Rattle.jv_model.specs.FiniteMap.{insert, remove, alter}
-use Rattle.jv_model.specs.rows.RowKeys.{row_key, row_cmp}
+use Rattle.jv_model.specs.rows.RowKeys.{row_key}
 use Rattle.jv_model.specs.rows.RowPlaces.{counters_key, node_key, dropped_key}
 use Rattle.jv_volume.specs.TypedRows.{Cell, Rows}
 use Rattle.jv_volume.specs.Views.{row_in, counters_in, counters_at, node_in, node_row_at, dropped_in, dropped_at, lists_of}
 use Rattle.jv_volume.specs.TreeOf.{or_no_counters, counters_of}
 use Rattle.jv_volume.specs.Slices.{HasLists, OfFile, OfDropped, WholeFiles}
-use Rattle.jv_volume.specs.Whole.{is_of_slices, Quiet}
+use Rattle.jv_volume.specs.Whole.{is_of_slices, SlicesStay}
 use Rattle.jv_volume.proofs.FilesLaws.{FileIs, AsBefore, IsNew, files-kept}
 use Rattle.jv_volume.proofs.MapLaws.{get-alter-here, get-alter-apart}
-use Rattle.jv_volume.proofs.QuietLaws.{quiet-alter, quiet-put_counters, quiet-then}
-use Rattle.jv_volume.proofs.ShapeMapLaws.{tied_apart}
+use Rattle.jv_volume.proofs.QuietLaws.{other_tab, slices-alter, slices-then}
 
 -- ---- views after a change at another key
 
@@ -36,20 +34,13 @@ module _ (rows : Rows) (q : RowKey) (cell : Option Cell) where
   counters_stay : counters_key ≢ q → counters_of (alter rows q cell) ≡ counters_of rows
   counters_stay apart = ap (λ c. or_no_counters (counters_in (row_in c))) (get-alter-apart row_key rows q cell counters_key apart)
 
--- keys of other tables
-pub other_tab : (k q : RowKey) → (k.tab == q.tab) ≡ false → k ≢ q
-other_tab k q other same = absurd (true≢false (sym (eq-eqb k.tab q.tab (ap (λ (x : RowKey). x.tab) same)) ∙ other))
-
-no_tie : (q : RowKey) → (1 == q.tab) ≡ false → eq_by_cmp row_cmp counters_key q ≡ false
-no_tie q other = tied_apart row_key q counters_key (other_tab counters_key q other)
-
 -- ---- a row that is neither a node's, nor a dropped file's, nor the counters'
 pub files-other : (rows : Rows) (q : RowKey) (cell : Option Cell) → WholeFiles rows → is_of_slices q.tab ≡ false → (1 == q.tab) ≡ false
     → (2 == q.tab) ≡ false → (8 == q.tab) ≡ false → WholeFiles (alter rows q cell)
 files-other rows q cell w slices counters nodes dropped =
     let node : (i : ℕ) → node_row_at (alter rows q cell) i ≡ node_row_at rows i = (λ i. node_stays rows q cell i (other_tab (node_key i) q nodes)) in
     let drop : (i : ℕ) → dropped_at (alter rows q cell) i ≡ dropped_at rows i = (λ i. dropped_stays rows q cell i (other_tab (dropped_key i) q dropped)) in
-    files-kept rows (alter rows q cell) (quiet-alter rows q cell slices (no_tie q counters)) w (record {
+    files-kept rows (alter rows q cell) (slices-alter rows q cell slices) w (record {
       file = λ i n there is. AsBefore n (sym (node i) ∙ there) is refl;
       owner = λ i was there is. OfFile was (node i ∙ there) is;
       dropped = λ i there none. there (sym (drop i) ∙ none);
@@ -63,8 +54,8 @@ module _ (rows : Rows) (inode : ℕ) (cell : Option Cell) (w : WholeFiles rows) 
   abbrev after : Rows
   after = alter rows (node_key inode) cell
 
-  quiet_node : Quiet rows after
-  quiet_node = quiet-alter rows (node_key inode) cell refl refl
+  same_slices : SlicesStay rows after
+  same_slices = slices-alter rows (node_key inode) cell refl
 
   node_beside : (i : ℕ) → i ≢ inode → node_row_at after i ≡ node_row_at rows i
   node_beside i apart = node_stays rows (node_key inode) cell i (λ same. apart (ap (λ (q : RowKey). q.a) same))
@@ -82,7 +73,7 @@ module _ (rows : Rows) (inode : ℕ) (cell : Option Cell) (w : WholeFiles rows) 
   pub files-node : ((node : NodeRow) → node_in (row_in cell) ≡ Some node → node.kind ≡ 1 → FileIs rows inode node)
       → ((was : NodeRow) → node_row_at rows inode ≡ Some was → was.kind ≡ 1 → HasLists after inode)
       → (dropped_at rows inode ≢ None → node_in (row_in cell) ≡ None) → WholeFiles after
-  files-node file owner dropped = files-kept rows after quiet_node w (record {
+  files-node file owner dropped = files-kept rows after same_slices w (record {
     file = λ i n there is. elim (cases_eq i inode) [
       | inl same ↦ subst (λ j. FileIs rows j n) (sym same) (file n (sym node_there ∙ ap (node_row_at after) (sym same) ∙ there) is)
       | inr apart ↦ AsBefore n (sym (node_beside i apart) ∙ there) is refl
@@ -147,7 +138,7 @@ files-put_counters rows before c w there slice rises =
     let new : (counters_of (alter rows counters_key cell)).inode ≡ c.inode =
     ap (λ o. (or_no_counters (counters_in (row_in o))).inode) (get-alter-here row_key rows counters_key cell) in
     let old : (counters_of rows).inode ≡ before.inode = ap (λ o. (or_no_counters o).inode) there in
-    files-kept rows (alter rows counters_key cell) (quiet-put_counters rows before c there slice) w (record {
+    files-kept rows (alter rows counters_key cell) (slices-alter rows counters_key cell refl) w (record {
       file = λ i n here is. AsBefore n (sym (node i) ∙ here) is refl;
       owner = λ i was here is. OfFile was (node i ∙ here) is;
       dropped = λ i here none. here (sym (drop i) ∙ none);
@@ -167,9 +158,9 @@ module _ (rows : Rows) (inode : ℕ) (was : NodeRow) (dropped_row : Dropped) (w 
   abbrev dropped_rows : Rows
   dropped_rows = insert without_file (dropped_key inode) (Ok (DroppedRow dropped_row))
 
-  quiet_both : Quiet rows dropped_rows
-  quiet_both = quiet-then rows without_file dropped_rows (quiet-alter rows (node_key inode) None refl refl)
-      (quiet-alter without_file (dropped_key inode) drop_cell refl refl)
+  slices_both : SlicesStay rows dropped_rows
+  slices_both = slices-then rows without_file dropped_rows (slices-alter rows (node_key inode) None refl)
+      (slices-alter without_file (dropped_key inode) drop_cell refl)
 
   same_node : (i : ℕ) → i ≢ inode → node_row_at dropped_rows i ≡ node_row_at rows i
   same_node i apart =
@@ -198,7 +189,7 @@ module _ (rows : Rows) (inode : ℕ) (was : NodeRow) (dropped_row : Dropped) (w 
   dropped_here none = (let both : Some dropped_row ≡ None = sym is_dropped ∙ none in absurd (cc))
 
   pub files-drop_file : WholeFiles dropped_rows
-  files-drop_file = files-kept rows dropped_rows quiet_both w (record {
+  files-drop_file = files-kept rows dropped_rows slices_both w (record {
     file = λ i n here is. elim (cases_eq i inode) [
       | inl same ↦ (let none : node_row_at dropped_rows i ≡ None = ap (node_row_at dropped_rows) same ∙ no_node in absurd (cc))
       | inr apart ↦ AsBefore n (sym (same_node i apart) ∙ here) is refl

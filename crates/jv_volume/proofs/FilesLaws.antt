@@ -12,7 +12,7 @@ use Rattle.jv_volume.specs.TypedRows.{Cell, Rows}
 use Rattle.jv_volume.specs.Views.{row_in, records_in, lists_of, node_row_at, dropped_at}
 use Rattle.jv_volume.specs.TreeOf.{counters_of}
 use Rattle.jv_volume.specs.Slices.{place_in, HasLists, OfFile, OfDropped, WholeFiles}
-use Rattle.jv_volume.specs.Whole.{Quiet}
+use Rattle.jv_volume.specs.Whole.{SlicesStay}
 use Rattle.jv_volume.proofs.QuietLaws.{lists_of-stay}
 
 -- a list without records shows no slice anywhere
@@ -55,9 +55,9 @@ nothing_shown : (lists : ℕ → List Rec) (position : ℕ) → ((window : ℕ) 
 unfolding place_in stored_place
 nothing_shown lists position none = ap (λ l. stored_place l (position % WINDOW)) (none (position / WINDOW))
 
-module _ (rows after : Rows) (quiet : Quiet rows after) (w : WholeFiles rows) (g : FilesGo rows after) where
+module _ (rows after : Rows) (stay : SlicesStay rows after) (w : WholeFiles rows) (g : FilesGo rows after) where
   same_lists : (inode : ℕ) → lists_of after inode ≡ lists_of rows inode
-  same_lists inode = λ i window. lists_of-stay rows after quiet.apart inode window i
+  same_lists inode = λ i window. lists_of-stay rows after stay inode window i
 
   small_after : (inode : ℕ) (node : NodeRow) → FileIs rows inode node → node.length ≤ FILE_END
   small_after inode node (AsBefore was there file same) = subst (λ n. n ≤ FILE_END) (sym same) (w.small inode was there file)
@@ -81,6 +81,6 @@ module _ (rows after : Rows) (quiet : Quiet rows after) (w : WholeFiles rows) (g
   files-kept = record {
     small = λ inode node there file. small_after inode node (g.file inode node there file);
     past = λ inode node there file position past. past_after inode node position past (g.file inode node there file);
-    owned = λ key is there. has_lists key.a (w.owned key is (λ none. there (quiet.apart key (ap (λ n. (n == 4) || (n == 5) || (n == 9)) is) ∙ none)));
+    owned = λ key is there. has_lists key.a (w.owned key is (λ none. there (stay key (ap (λ n. (n == 4) || (n == 5) || (n == 9)) is) ∙ none)));
     gone = g.gone;
   }

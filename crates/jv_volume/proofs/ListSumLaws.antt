@@ -1,5 +1,5 @@
 -- Numbers over all lists, of a function that has nothing for no records: what changes them, and what leaves them as they are.
-use Rattle.std.proofs.Common.{◌≡◌, ℕ, ◌+◌, ◌≤◌, Bool, true, false, cond, List, [], length, Option, None, Some, refl, sym, ap, ◌∙◌, arith}
+use Rattle.std.proofs.Common.{◌≡◌, ℕ, ◌+◌, ◌≤◌, Bool, true, false, cond, List, [], Option, None, Some, refl, sym, ap, ◌∙◌, arith}
 use Rattle.std.specs.Prelude.{◌==◌, if◌then◌else◌}
 use Rattle.jv_model.specs.declared.tables.TheConstants.{TABLE_OF_LISTS}
 use Rattle.jv_model.specs.declared.row.RowKey.{RowKey}

@@ -1,11 +1,12 @@
 -- Rows after a creation are whole, and lists and slices are as before.
-use Rattle.std.proofs.Common.{◌≡◌, ℕ, ◌≤◌, ◌<◌, true, None, Some, Ok, refl, sym, ap, subst, ◌∙◌, arith}
+use Rattle.std.proofs.Common.{◌≡◌, ℕ, ◌≤◌, ◌<◌, true, Option, None, Some, Ok, refl, sym, ap, subst, ◌∙◌, arith}
 use Rattle.std.specs.Prelude.{IsTrue}
 use Rattle.std.specs.Option.{option_map}
 use Rattle.jv_model.specs.declared.limits.TheConstants.{FILE_END, FULL_COUNT}
 use Rattle.jv_model.specs.declared.row.RowKey.{RowKey}
 use Rattle.jv_model.specs.declared.row.Counters.{Counters}
 use Rattle.jv_model.specs.declared.row.Node.{Node as NodeRow}
+use Rattle.jv_model.specs.declared.row.Dropped.{Dropped}
 use Rattle.jv_model.specs.declared.row.Row.TheVariants.{OfCounters, OfNode, OfEdge}
 use Rattle.jv_model.specs.FiniteMap.{insert}
 use Rattle.jv_model.specs.rows.RowKeys.{row_key}
@@ -14,7 +15,7 @@ use Rattle.jv_model.specs.tree.Tree.{Tree, EntryKey, node_at, link_count}
 use Rattle.jv_model.specs.tree.Making.{may_be_new, with_next}
 use Rattle.jv_model.proofs.FiniteMapLaws.{get-insert}
 use Rattle.jv_volume.specs.TypedRows.{Cell, Rows, is_entry_name}
-use Rattle.jv_volume.specs.Views.{row_in, counters_in, counters_at, node_in, node_row_at}
+use Rattle.jv_volume.specs.Views.{row_in, counters_in, counters_at, node_in, node_row_at, dropped_at}
 use Rattle.jv_volume.specs.TreeOf.{node_of, or_no_counters, counters_of, tree_of}
 use Rattle.jv_volume.specs.Shape.{Dir, WholeShape, form_of, shape_of}
 use Rattle.jv_volume.specs.Stored.{Stored, node_row, directory_touched}
@@ -25,7 +26,7 @@ use Rattle.jv_volume.proofs.FilesLaws.{fresh_lists}
 use Rattle.jv_volume.proofs.FileStepLaws.{files-other, files-same_length, files-new_node, files-put_counters}
 use Rattle.jv_volume.proofs.LinkLaws.{next_absent}
 use Rattle.jv_volume.proofs.MadeRowsLaws.{grown, made_rows, IsMade, tree_of-made, stored-made}
-use Rattle.jv_volume.proofs.QuietLaws.{quiet-alter, quiet-put_counters, quiet-slices, quiet-then}
+use Rattle.jv_volume.proofs.QuietLaws.{quiet-alter, quiet-new_node, quiet-none, quiet-put_counters, quiet-put_node, quiet-slices}
 use Rattle.jv_volume.proofs.SeenLaws.{AreRows, row-put, rows-alter}
 use Rattle.jv_volume.proofs.ShapeMapLaws.{get-insert_apart}
 use Rattle.jv_volume.proofs.StoredLaws.{same_shape, found_counters, stored-again, stored_node_row, whole-shape, whole-stored}
@@ -94,14 +95,24 @@ module _ (bytes : ℕ → ℕ → ℕ) (rows : Rows) (now : ℕ) (place : EntryK
   dir_2 = ap (λ o. node_in (row_in o)) (get-insert r1 (edge_key place.dir place.name) edge_cell (node_key place.dir)
       ∙ get-insert_apart row_key rows (node_key c.inode) new_cell (node_key place.dir) (λ same. apart (ap (λ (q : RowKey). q.a) same))) ∙ there
 
-  -- lists, slices and the next slice are as before
+  high : (counters_of rows).inode ≤ c.inode
+  high = subst (λ n. n ≤ c.inode) (sym (ap (λ o. (or_no_counters o).inode) counters)) (omega arith)
+
+  -- nothing was removed at an inode that was never given
+  not_dropped : dropped_at rows c.inode ≡ None
+  not_dropped = by_dropped (dropped_at rows c.inode) refl
+    where
+      by_dropped : (o : Option Dropped) → dropped_at rows c.inode ≡ o → o ≡ None
+      by_dropped None e = refl
+      by_dropped (Some dropped) e = (let gone = (whole.files.gone c.inode (λ none. absurd (cc))).1 in absurd (omega (arith, gone, high)))
+
+  -- lists, slices, dropped rows and the next slice are as before
   pub quiet-made : Quiet rows after
   quiet-made =
-      quiet-then rows r3 after
-      (quiet-then rows r2 r3
-      (quiet-then rows r1 r2 (quiet-alter rows (node_key c.inode) (Some new_cell) refl refl) (quiet-alter r1 (edge_key place.dir place.name) (Some edge_cell) refl refl))
-      (quiet-alter r2 (node_key place.dir) (Some dir_cell) refl refl))
-      (quiet-put_counters r3 c (grown space c) counters_3 refl)
+      let quiet_1 : Quiet rows r1 = quiet-new_node rows rows (quiet-none rows) c.inode row none_new not_dropped in
+      let quiet_2 : Quiet rows r2 = quiet-alter rows r1 quiet_1 (edge_key place.dir place.name) (Some edge_cell) refl refl refl refl in
+      let quiet_3 : Quiet rows r3 = quiet-put_node rows r2 quiet_2 place.dir dir (directory_touched now links dir) dir_2 in
+      quiet-put_counters rows r3 quiet_3 c (grown space c) counters_3 refl
 
   module _ (may : MayBeMade place row (bytes c.inode) c) where
     cells_made : AreRows after
@@ -118,7 +129,6 @@ module _ (bytes : ℕ → ℕ → ℕ) (rows : Rows) (now : ℕ) (place : EntryK
 
     files_made : WholeFiles after
     files_made =
-        let high : (counters_of rows).inode ≤ c.inode = subst (λ n. n ≤ c.inode) (sym (ap (λ o. (or_no_counters o).inode) counters)) (omega arith) in
         let files_1 : WholeFiles r1 = files-new_node rows c.inode row whole.files none_new high may.small (λ window. fresh_lists rows c.inode window whole.files none_new high) in
         let files_2 : WholeFiles r2 = files-other r1 (edge_key place.dir place.name) (Some edge_cell) files_1 refl refl refl refl in
         let files_3 : WholeFiles r3 = files-same_length r2 place.dir dir (directory_touched now links dir) files_2 dir_2 refl refl in

@@ -3,7 +3,7 @@ use Rattle.jv_model.specs.declared.op.Reply.TheVariants.{Done}
 use Rattle.jv_model.specs.tree.Removing.{unlink}
 use Rattle.jv_links.specs.Removals.{HoldsFiles}
 use Rattle.jv_links.proofs.RemovingLaws.{unlink_at, unlink-is, removing-stops}
-use Rattle.jv_links.proofs.UnlinkLaws.{unlink-directory, unlink-not_lost, unlink-fails, unlink-done, unlink-says}
+use Rattle.jv_links.proofs.UnlinkLaws.{unlink-directory, unlink-not_lost, unlink-fails, unlink-answers, unlink-done, unlink-says}
 use Rattle.jv_links.proofs.removing.unlink.Goals as goal
 
 pub returns-in_err-entry-clause-does : goal.returns-in_err-entry-clause-does
@@ -44,6 +44,14 @@ returns-in-Ok-clause-does g c caller is_for =
 pub returns-in-Ok-clause-says : goal.returns-in-Ok-clause-says
 returns-in-Ok-clause-says g c caller is_for =
     unlink-says c.args.who.now caller is_for c.args.path.now (g.K.Keeper.seen c.args.k.now)
+    (g.K.Keeper.seen c.find_removable.new.k)
+    c.in_ok-entry.entry c.in_ok-entry.ensures (ne_eqb c.in_ok-entry.entry.node.node.kind 2 c.if-entry-eq2.false)
+    c.seconds.result c.seconds.ensures.seconds c.seconds.ensures.limit c.new-draft.result c.new-draft.ensures
+    c.in_ok-fate.fate (c.in_ok-fate.ensures.says caller is_for)
+
+pub returns-in-Ok-clause-answers : goal.returns-in-Ok-clause-answers
+returns-in-Ok-clause-answers g c caller is_for =
+    unlink-answers c.args.who.now caller is_for c.args.path.now (g.K.Keeper.seen c.args.k.now)
     (g.K.Keeper.seen c.find_removable.new.k)
     c.in_ok-entry.entry c.in_ok-entry.ensures (ne_eqb c.in_ok-entry.entry.node.node.kind 2 c.if-entry-eq2.false)
     c.seconds.result c.seconds.ensures.seconds c.seconds.ensures.limit c.new-draft.result c.new-draft.ensures

@@ -54,3 +54,21 @@ returns-clause-says g c caller asks =
     c.in_ok-ends.ends c.in_ok-ends.ensures (g.K.Keeper.seen c.entry_at.new.k) (g.K.Keeper.seen c.rename_over.new.k)
     c.in-Some.other c.rename_over.result e
     (c.rename_over.ensures caller asks)).says
+
+pub returns-in-None-clause-answers : goal.returns-in-None-clause-answers
+returns-in-None-clause-answers g c caller asks =
+    let e = rw c.in-None.is at c.in_ok-entry_at.ensures in
+    (rename-free caller c.args.path.now c.args.to.now c.args.how c.requires c.args.who.now.sid asks.sid
+    (g.K.Keeper.seen c.args.k.now) (g.K.Keeper.seen c.find_ends.new.k)
+    c.in_ok-ends.ends c.in_ok-ends.ensures (g.K.Keeper.seen c.entry_at.new.k) (g.K.Keeper.seen c.rename_to_none.new.k)
+    c.rename_to_none.result e
+    (c.rename_to_none.ensures caller asks)).answers
+
+pub returns-clause-answers : goal.returns-clause-answers
+returns-clause-answers g c caller asks =
+    let e = rw c.in-Some.is at c.in_ok-entry_at.ensures in
+    (rename-there caller c.args.path.now c.args.to.now c.args.how c.requires c.args.who.now.sid asks.sid
+    (g.K.Keeper.seen c.args.k.now) (g.K.Keeper.seen c.find_ends.new.k)
+    c.in_ok-ends.ends c.in_ok-ends.ensures (g.K.Keeper.seen c.entry_at.new.k) (g.K.Keeper.seen c.rename_over.new.k)
+    c.in-Some.other c.rename_over.result e
+    (c.rename_over.ensures caller asks)).answers

@@ -1,4 +1,4 @@
-use Rattle.jv_rows.proofs.AdjustLaws.{recounts, refuses-recount, recount-memory, recount-fails}
+use Rattle.jv_rows.proofs.AdjustLaws.{recounts}
 use Rattle.jv_rows.proofs.adjusting.recount.Goals as goal
 
 pub returns : goal.returns
