@@ -67,7 +67,8 @@ shelf_refused before after yard.Memory same =
 pub attached-after : {M : Type 0} (place : List ℕ) (before opened after : Holding M) → IsAttached place before opened
     → after.content ≡ opened.content → after.opened ≡ opened.opened → IsAttached place before after
 attached-after place before opened after (AsBefore same) content at = AsBefore (content ∙ same)
-attached-after place before opened after (Unknown none here) content at = Unknown (content ∙ none) (at ∙ here)
+attached-after place before opened after (Unknown elsewhere none here) content at =
+    Unknown elsewhere (content ∙ none) (at ∙ here)
 
 shelf_session : (options : SessionOptions) (answers : Device → ℕ) (before after : WorldValue) (ended : Ended)
     → SessionEnds options answers before after ended
