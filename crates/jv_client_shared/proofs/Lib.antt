@@ -8,4 +8,4 @@ pub mod FlyingLaws
 pub mod RowStepLaws
 pub mod PutLaws
 pub mod SameLaws
-pub mod FreshLaws
+pub mod WholeVolumeLaws

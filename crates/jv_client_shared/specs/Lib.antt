@@ -5,4 +5,4 @@ pub mod Seen
 pub mod Flying
 pub mod Direct
 pub mod Keeping
-pub mod Fresh
+pub mod WholeVolume

@@ -11,9 +11,9 @@ use Rattle.jv_model.specs.declared.setting.Setting.{Setting}
 use Rattle.jv_model.specs.rows.RowKeys.{RowMap}
 use Rattle.jv_outside.specs.Blocks.{StagedMap}
 use Rattle.jv_outside.specs.Causes.{RoseIf, RoseTimes}
-use Rattle.jv_outside.specs.Holding.{Holding}
+use Rattle.jv_outside.specs.Holding.{AsBefore, Holding, IsAttached, Unknown}
 use Rattle.jv_outside.specs.Objects.{ObjectMap}
-use Rattle.jv_outside.specs.Store.{Store}
+use Rattle.jv_outside.specs.Store.{Store, held}
 use Rattle.jv_outside.specs.Stream.{Stream}
 use Rattle.jv_outside.specs.Ticks.{Ticks}
 use Rattle.jv_yard.specs.declared.faults.YardFault.{YardFault}
@@ -34,7 +34,7 @@ use Rattle.jv_cmd.specs.Bounds.{limits_of}
 use Rattle.jv_cmd.specs.Commands.{Attached, Does, SessionEnds, is_drawn, RunsAttached, RunsCommand, RunsNone, RunsSession, RunsVolume, LeavesLines, Stopped, Ran, Unstarted, NotOpened, NotAttached, NotStarted, Opened, Refused, NoMemory, RunsAsked}
 use Rattle.jv_cmd.specs.Ends.{status_of, message_of}
 use Rattle.jv_cmd.specs.Faults.{CountsFaults, UsesKeeper, Unopened, OpenedThere, in_world, source_failed, out_failed, clock_failed}
-use Rattle.jv_cmd.specs.Formatting.{Formats}
+use Rattle.jv_cmd.specs.Formatting.{FormatsAt}
 use Rattle.jv_cmd.specs.Generating.{EndsScript, PrintsSummary, RunsScript, SumsUp, script_text, with_streams}
 use Rattle.jv_cmd.specs.Opening.{CannotOpen, IsKnown}
 use Rattle.jv_cmd.specs.Run.{RunsLines}
@@ -43,7 +43,7 @@ use Rattle.jv_cmd.specs.Stages.{StageValue, stage_value, staged, world_of, yard_
 use Rattle.jv_cmd.specs.Words.{IsRefusalText}
 use Rattle.jv_cmd.specs.Worlds.{BlockDevices, WorldValue}
 
--- the shelf has the blocks that it had
+-- the shelf has the blocks that it had, or they are no longer known
 
 shelf_of : (before after : BlockDevices) → after ≡ before → after.shelf.content ≡ before.shelf.content
 shelf_of before after same = ap (λ (blocks : BlockDevices). blocks.shelf.content) same
@@ -57,21 +57,31 @@ shelf_unattached bucket folder before after ended (NoCarrier down is depot carri
 shelf_unattached bucket folder before after ended (NoShelf down is depot carrier shelf) = shelf.content_is
 
 shelf_refused : (before after : Holding StagedMap) (fault : YardFault) → ShelfRefuses before after fault
-    → after.content ≡ before.content
+    → (after.content ≡ before.content) × (after.opened ≡ before.opened)
 shelf_refused before after yard.Depot refuses = absurd refuses
-shelf_refused before after yard.Shelf refuses = refuses.content_is
-shelf_refused before after yard.Memory same = ap (λ (shelf : Holding StagedMap). shelf.content) same
+shelf_refused before after yard.Shelf refuses = (refuses.content_is, refuses.opened_at)
+shelf_refused before after yard.Memory same =
+    (ap (λ (shelf : Holding StagedMap). shelf.content) same, ap (λ (shelf : Holding StagedMap). shelf.opened) same)
+
+-- what is done after a device was opened leaves content and place
+pub attached-after : {M : Type 0} (place : List ℕ) (before opened after : Holding M) → IsAttached place before opened
+    → after.content ≡ opened.content → after.opened ≡ opened.opened → IsAttached place before after
+attached-after place before opened after (AsBefore same) content at = AsBefore (content ∙ same)
+attached-after place before opened after (Unknown elsewhere none here) content at =
+    Unknown elsewhere (content ∙ none) (at ∙ here)
 
 shelf_session : (options : SessionOptions) (answers : Device → ℕ) (before after : WorldValue) (ended : Ended)
-    → SessionEnds options answers before after ended → after.blocks.shelf.content ≡ before.blocks.shelf.content
+    → SessionEnds options answers before after ended
+    → IsAttached options.cache_dir before.blocks.shelf after.blocks.shelf
 shelf_session options answers before after ended (NotOpened cannot none same) =
-    shelf_of before.blocks after.blocks same
+    AsBefore (shelf_of before.blocks after.blocks same)
 shelf_session options answers before after ended (NotAttached setting known none cannot) =
-    shelf_unattached setting.bucket options.cache_dir before.blocks after.blocks ended cannot
+    AsBefore (shelf_unattached setting.bucket options.cache_dir before.blocks after.blocks ended cannot)
 shelf_session options answers before after ended (NotStarted setting attached known none are cannot) =
-    shelf_refused attached.shelf after.blocks.shelf cannot.fault cannot.shelf ∙ are.shelf.content_is
-shelf_session options answers before after ended (Opened setting opened attached yard left known rows are started runs
-    stays uses is) = uses.direct ∙ are.shelf.content_is
+    let same = shelf_refused attached.shelf after.blocks.shelf cannot.fault cannot.shelf in
+    attached-after options.cache_dir before.blocks.shelf attached.shelf after.blocks.shelf are.shelf.content same.0 same.1
+shelf_session options answers before after ended (Opened setting attached yard left known are started runs stays uses is) =
+    attached-after options.cache_dir before.blocks.shelf attached.shelf after.blocks.shelf are.shelf.content uses.direct uses.shelf_at
 
 pub RunsCommand-session : (command : Command) (place : List ℕ) (options : SessionOptions) (before after : WorldValue)
     (ended : Ended) → command ≡ Session place options → RunsSession place options before after ended
@@ -80,24 +90,28 @@ RunsCommand-session command place options before after ended is runs faults =
     subst (λ (c : Command). RunsCommand c before after ended) (sym is)
     (record {
       answers = runs.answers;
+      found = runs.found;
+      attached = runs.attached;
       does = runs.ends;
       faults = faults;
       keeper = runs.keeper;
-      direct = shelf_session options runs.answers before after ended runs.ends;
+      direct = shelf_session options runs.answers (record before { keeper = runs.found }) after ended runs.ends;
     })
 
 pub RunsCommand-format : (command : Command) (place : List ℕ) (setting : Setting) (before after : WorldValue)
-    (ended : Ended) → command ≡ Format place setting → Formats setting before after ended
+    (ended : Ended) → command ≡ Format place setting → FormatsAt place setting before after ended
     → CountsFaults ended (in_world before) (in_world after) → UsesKeeper ended 0 place before.keeper after.keeper
     → RunsCommand command before after ended
 RunsCommand-format command place setting before after ended is formats faults keeper =
     subst (λ (c : Command). RunsCommand c before after ended) (sym is)
     (record {
       answers = no_failures;
-      does = (formats, λ device. refl);
+      found = formats.found;
+      attached = formats.attached;
+      does = (formats.formats, λ device. refl);
       faults = faults;
       keeper = keeper;
-      direct = shelf_of before.blocks after.blocks formats.blocks;
+      direct = ap (λ (blocks : BlockDevices). blocks.shelf) formats.formats.blocks;
     })
 
 -- they were none
@@ -113,7 +127,7 @@ none_run : (before : WorldValue) → RunsNone no_failures before before
 none_run before = record {
   none = λ device. refl;
   lines = record { source = refl; out = refl; clock = refl; journal = refl };
-  rows = refl;
+  keeper = refl;
 }
 
 -- there was no memory to read them
@@ -125,7 +139,9 @@ unread words (Some (Format place setting)) before err says = record {
   ended = OutOfMemory;
   runs = record {
     answers = no_failures;
-    does = (record { ends = (tt, refl, refl); source = refl; blocks = refl; journal = refl }, λ device. refl);
+    found = before.keeper;
+    attached = AsBefore refl;
+    does = (record { ends = (tt, refl, refl); opened = refl; source = refl; blocks = refl; journal = refl }, λ device. refl);
     faults = record { source = refl; out = refl; clock = refl };
     keeper = record { opened = Unopened refl; faults = refl };
     direct = refl;
@@ -138,10 +154,12 @@ unread words (Some (Session place options)) before err says = record {
   ended = OutOfMemory;
   runs = record {
     answers = no_failures;
+    found = before.keeper;
+    attached = AsBefore refl;
     does = NotOpened tt (none_run before) refl;
     faults = record { source = refl; out = refl; clock = refl };
     keeper = record { opened = Unopened refl; faults = refl };
-    direct = refl;
+    direct = AsBefore refl;
   };
   result = refl;
   drawn = λ drawn same. absurd (omega (arith, same));
@@ -320,9 +338,8 @@ drawn_session options answers before after ended (NotAttached setting known none
     (late_ended setting.bucket options.cache_dir before.blocks after.blocks ended cannot).no_line
 drawn_session options answers before after ended (NotStarted setting attached known none are cannot) drawn =
     (late_started attached after.blocks ended cannot).no_line
-drawn_session options answers before after ended (Opened setting opened attached yard left known rows are started runs stays
-    uses is) drawn =
-    let world = record before { keeper = opened; blocks = attached } in
+drawn_session options answers before after ended (Opened setting attached yard left known are started runs stays uses is) drawn =
+    let world = record before { blocks = attached } in
     drawn_lines options.generate answers (staged (limits_of options setting.block) yard world) left ended runs drawn refl
 
 drawn_command : (command : Command) (answers : Device → ℕ) (before after : WorldValue) (ended : Ended)
@@ -368,19 +385,21 @@ RunsAsked-ran words asked command before after err ended status is runs same res
       ended = ended;
       runs = subst (λ e. RunsCommand command before (record after { err = e }) ended) same runs;
       result = result;
-      drawn = λ drawn same. drawn_command command runs.answers before after ended runs.does drawn (sym result ∙ same);
+      drawn = λ drawn same. drawn_command command runs.answers (record before { keeper = runs.found }) after ended runs.does drawn
+          (sym result ∙ same);
       says = subst (λ e. Says e err (message_of ended)) same says;
     })
 
 -- a session after the keeper was opened and the setting read
 module _ (place : List ℕ) (options : SessionOptions) (before after : WorldValue) (opened : Store) (setting : Setting) (ended : Ended)
-    (known : IsKnown before.keeper.rows setting) (rows : opened.rows ≡ before.keeper.rows)
+    (known : IsKnown opened.rows setting) (rows : IsAttached place (held before.keeper) (held opened))
     (keeper : UsesKeeper Succeeded 0 place before.keeper opened) where
-  none_ran : LeavesLines (record before { keeper = opened }) after → after.keeper ≡ opened → RunsNone no_failures before after
+  none_ran : LeavesLines (record before { keeper = opened }) after → after.keeper ≡ opened
+      → RunsNone no_failures (record before { keeper = opened }) after
   none_ran leaves same = record {
     none = λ device. refl;
     lines = record { source = leaves.source; out = leaves.out; clock = leaves.clock; journal = leaves.journal };
-    rows = ap (λ (store : Store). store.rows) same ∙ rows;
+    keeper = same;
   }
 
   keeper_late : IsLate ended → after.keeper ≡ opened → UsesKeeper ended 0 place before.keeper after.keeper
@@ -392,6 +411,8 @@ module _ (place : List ℕ) (options : SessionOptions) (before after : WorldValu
       → RunsSession place options before after ended
   session_attached attached are (Unstarted cannot leaves same) = record {
     answers = no_failures;
+    found = opened;
+    attached = rows;
     ends = NotStarted setting attached known (none_ran
         (record { source = leaves.source; out = leaves.out; clock = leaves.clock; journal = leaves.journal }) same) are cannot;
     keeper = keeper_late (late_started attached after.blocks ended cannot) same;
@@ -401,7 +422,9 @@ module _ (place : List ℕ) (options : SessionOptions) (before after : WorldValu
       let limits = limits_of options setting.block in
       record {
         answers = e.answers;
-        ends = Opened setting opened attached yard left known rows are started e.runs e.stays
+        found = opened;
+        attached = rows;
+        ends = Opened setting attached yard left known are started e.runs e.stays
             (subst (λ (w : WorldValue). UsesBlocks e.answers attached w.blocks) (sym is)
             (UsesBlocks-lines options.generate setting limits world yard left ended started e)) is;
         keeper = subst (λ (w : WorldValue). UsesKeeper ended (e.answers Keeper) place before.keeper w.keeper) (sym is)
@@ -413,6 +436,8 @@ module _ (place : List ℕ) (options : SessionOptions) (before after : WorldValu
       → RunsSession place options before after ended
   RunsSession-volume (Stopped cannot leaves same) = record {
     answers = no_failures;
+    found = opened;
+    attached = rows;
     ends = NotAttached setting known (none_ran leaves same) cannot;
     keeper = keeper_late (late_ended setting.bucket options.cache_dir before.blocks after.blocks ended cannot) same;
   }

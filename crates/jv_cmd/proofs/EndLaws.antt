@@ -22,6 +22,7 @@ use Rattle.jv_cmd.specs.declared.ended.Ended.TheVariants.{BadRow}
 use Rattle.jv_cmd.specs.Cutting.{BeginsWith}
 use Rattle.jv_cmd.specs.Ends.{status_of}
 use Rattle.jv_cmd.specs.Faults.{CountsFaults, on_stage}
+use Rattle.jv_client_shared.proofs.WholeVolumeLaws.{store-whole}
 use Rattle.jv_cmd.specs.Run.{AreLines, Beginning, EndsBy, IsKnownClock, IsNotRun, IsTextNotRun, Leaves, LineUnbuilt, NoLine, Off, Prints, RunsWhole, StartsWhole, StopsAt, session_run}
 use Rattle.jv_cmd.specs.Stages.{StageValue}
 use Rattle.jv_cmd.specs.Generating.{EndsScript}
@@ -34,7 +35,11 @@ use Rattle.jv_cmd.proofs.StepLaws.{InLine-cut, Legal-cut, Legal-reached, Stands-
 
 -- what the end of a run leaves
 Leaves-in_line : (p : Past) (s : ScheduleValue) (v : Shared) → InLine p s v → Leaves v p.state.tree
-Leaves-in_line p s v stands = record { known = stands.known; store = stands.state.has_store }
+Leaves-in_line p s v stands = record {
+  volume = store-whole p.state.tree stands.known v stands.state.has_store;
+  known = stands.known;
+  store = stands.state.has_store;
+}
 
 Leaves-stands : (p : Past) (s : ScheduleValue) (v : Shared) → Stands p s v → Leaves v p.state.tree
 Leaves-stands p s v stands = Leaves-in_line p s v stands.in_line

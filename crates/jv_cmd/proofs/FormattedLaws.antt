@@ -28,13 +28,13 @@ use Rattle.jv_volume.specs.Fresh.{fresh_counters, fresh_directory}
 use Rattle.jv_rows.specs.FreshRows.{fresh_rows}
 use Rattle.jv_rows.specs.RoundTrips.{SettingWidths}
 use Rattle.jv_rows.proofs.ExactRowLaws.{setting_exact, counters_exact, node_exact}
+use Rattle.jv_volume_bytes.specs.Blocks.{HasBlocks}
 use Rattle.jv_yard.specs.Contents.{blocks_in, is_block}
-use Rattle.jv_yard.specs.Later.{IsCopy, contents_of}
 use Rattle.jv_yard.specs.Staging.{staged_since}
 use Rattle.jv_yard.specs.Starting.{IsStarted}
 use Rattle.jv_yard.proofs.CallLaws.{IsKept-started}
-use Rattle.jv_client_shared.specs.Fresh.{IsFresh}
 use Rattle.jv_client_shared.specs.Shared.{Shared, staged_in}
+use Rattle.jv_client_shared.specs.WholeVolume.{IsCopy, WholeVolume}
 
 -- the rows that `format` puts, over none
 abbrev pub formatted : Setting → ℕ → RowMap
@@ -152,10 +152,6 @@ module _ (setting : Setting) (at : ℕ) (widths : SettingWidths setting) (allowe
   module _ (v : Shared) (depot : Holding ObjectMap) (shelf : Holding StagedMap) (started : IsStarted setting depot shelf v.yard)
       (rows : v.keeper.rows ≡ Some (formatted setting at)) (objects : depot.content ≡ Some empty_map)
       (staged : shelf.content ≡ Some empty_map) where
-    no_copy : (name bytes : List ℕ) → IsCopy (contents_of empty_map empty_map v.yard) name bytes → ⊥
-    no_copy name bytes (inl object) = absurd (let none = none_object name in cc)
-    no_copy name bytes (inr copy) = absurd (let none = none_staged copy.client name in let is = copy.bytes_are in cc)
-
     no_block : (block : Setting) (b : BlockId) (bytes : List ℕ) → blocks_in block empty_map b ≡ Some bytes → ⊥
     no_block block b bytes is = by_test (is_block block.block b) is
       where
@@ -170,8 +166,16 @@ module _ (setting : Setting) (at : ℕ) (widths : SettingWidths setting) (allowe
         by_test true e = absurd (let none = none_staged client (name_in v.yard.setting b) in cc)
         by_test false e = absurd (cc)
 
-    pub IsFresh-formatted : IsFresh v
-    IsFresh-formatted = record {
+    no_copy : (b : BlockId) (bytes : List ℕ) → IsCopy (blocks_in v.yard.setting empty_map) (staged_in v.yard empty_map) b bytes → ⊥
+    no_copy b bytes (inl object) = no_block v.yard.setting b bytes object
+    no_copy b bytes (inr staged) = no_staged staged.0 b bytes staged.1
+
+    -- the depot has all of no blocks
+    all_there : HasBlocks v.yard.setting.block (typed (formatted setting at)) (blocks_in v.yard.setting empty_map)
+    all_there id slice is index low = absurd (let none = no_slices id in cc)
+
+    whole : WholeVolume v
+    whole = record {
       rows = formatted setting at;
       rows_are = rows;
       whole = subst Whole (sym typed_formatted) (whole-first_rows setting at);
@@ -182,7 +186,11 @@ module _ (setting : Setting) (at : ℕ) (widths : SettingWidths setting) (allowe
       staged_are = ap (λ (h : Holding StagedMap). h.content) started.shelf_same ∙ staged;
       there = λ id slice is index low. absurd (let none = no_slices id in cc);
       kept = IsKept-started setting depot shelf v.yard started;
-      alike = λ name one other first second. absurd (no_copy name one first);
+      alike = λ b one other first second. absurd (no_copy b one first);
       below = λ b bytes is. absurd (no_block v.yard.setting b bytes is);
       staged_below = λ client b bytes is. absurd (no_staged client b bytes is);
     }
+
+    pub WholeVolume-formatted : (volume : WholeVolume v)
+        × HasBlocks v.yard.setting.block (typed volume.rows) (blocks_in v.yard.setting volume.objects)
+    WholeVolume-formatted = (whole, all_there)

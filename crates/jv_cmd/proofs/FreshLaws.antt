@@ -9,13 +9,13 @@ use Rattle.jv_model.specs.journal.State.{state_at_start}
 use Rattle.jv_model.specs.tree.Tree.{Tree}
 use Rattle.jv_outside.specs.Objects.{ObjectMap}
 use Rattle.jv_volume.specs.TypedRows.{typed}
-use Rattle.jv_volume_bytes.specs.Blocks.{known_by}
+use Rattle.jv_volume_bytes.specs.Blocks.{HasBlocks, known_by}
 use Rattle.jv_volume_bytes.specs.Bytes.{tree_with}
 use Rattle.jv_volume_bytes.proofs.BlockLaws.{tree-grows}
 use Rattle.jv_yard.specs.Contents.{blocks_in}
-use Rattle.jv_client_shared.specs.Fresh.{IsFresh}
 use Rattle.jv_client_shared.specs.Shared.{HasStore, Known, Shared, rows_in, typed_in}
-use Rattle.jv_client_shared.proofs.FreshLaws.{fresh_store}
+use Rattle.jv_client_shared.specs.WholeVolume.{WholeVolume}
+use Rattle.jv_client_shared.proofs.WholeVolumeLaws.{whole-store}
 use Rattle.jv_client_shared.proofs.RowStepLaws.{setting_stored}
 use Rattle.jv_client_shared.proofs.SettingLaws.{setting_length}
 use Rattle.jv_client_requests.specs.Request.{IsWithin}
@@ -28,17 +28,17 @@ use Rattle.std.proofs.lemmas.Option.{same_Some}
 use Rattle.jv_session.proofs.NoteLaws.{fresh_stands}
 
 -- The depot's blocks have the bytes that all known blocks have.
-known_same : (v : Shared) (fresh : IsFresh v) (g : Known) (t : Tree) → HasStore t g v
-    → HasStore (tree_with (known_by v.yard.setting.block (blocks_in v.yard.setting fresh.objects)) (typed fresh.rows)) g v
-known_same v fresh g t store =
-    let rows : store.rows ≡ fresh.rows = same_Some _ _ (sym store.rows_are ∙ fresh.rows_are) in
-    let objects : store.objects ≡ fresh.objects = same_Some _ _ (sym store.objects_are ∙ fresh.objects_are) in
+known_same : (v : Shared) (whole : WholeVolume v) (g : Known) (t : Tree) → HasStore t g v
+    → HasStore (tree_with (known_by v.yard.setting.block (blocks_in v.yard.setting whole.objects)) (typed whole.rows)) g v
+known_same v whole g t store =
+    let rows : store.rows ≡ whole.rows = same_Some _ _ (sym store.rows_are ∙ whole.rows_are) in
+    let objects : store.objects ≡ whole.objects = same_Some _ _ (sym store.objects_are ∙ whole.objects_are) in
     let long = setting_length store.rows v.yard.setting store.setting in
     let some : 0 < v.yard.setting.block = (let least = long.least in omega (arith, least)) in
     let by_depot : t ≡ tree_with (known_by v.yard.setting.block (blocks_in v.yard.setting store.objects)) (typed store.rows) =
     store.tree ∙ tree-grows (typed store.rows) store.whole.slices v.yard.setting.block (blocks_in v.yard.setting store.objects) g.blocks
     some store.direct store.copies in
-    subst (λ (m : ObjectMap). HasStore (tree_with (known_by v.yard.setting.block (blocks_in v.yard.setting m)) (typed fresh.rows)) g v) objects
+    subst (λ (m : ObjectMap). HasStore (tree_with (known_by v.yard.setting.block (blocks_in v.yard.setting m)) (typed whole.rows)) g v) objects
     (subst (λ (m : RowMap). HasStore (tree_with (known_by v.yard.setting.block (blocks_in v.yard.setting store.objects)) (typed m)) g v) rows
     (subst (λ (tree : Tree). HasStore tree g v) by_depot store))
 
@@ -49,21 +49,27 @@ module _ (start : Beginning) (before : StageValue) (w : StartsWhole before start
   abbrev first : Tree
   first = (start_of start).tree
 
-  same_rows : w.fresh.rows ≡ start.rows
-  same_rows = same_Some _ _ (sym w.fresh.rows_are ∙ w.known)
+  same_rows : w.volume.rows ≡ start.rows
+  same_rows = same_Some _ _ (sym w.volume.rows_are ∙ w.known)
 
-  same_objects : w.fresh.objects ≡ start.objects
-  same_objects = same_Some _ _ (sym w.fresh.objects_are ∙ w.objects)
+  same_objects : w.volume.objects ≡ start.objects
+  same_objects = same_Some _ _ (sym w.volume.objects_are ∙ w.objects)
+
+  all_there : HasBlocks v.yard.setting.block (typed w.volume.rows) (blocks_in v.yard.setting w.volume.objects)
+  all_there =
+      subst (λ (m : RowMap). HasBlocks v.yard.setting.block (typed m) (blocks_in v.yard.setting w.volume.objects)) (sym same_rows)
+      (subst (λ (m : ObjectMap). HasBlocks v.yard.setting.block (typed start.rows) (blocks_in v.yard.setting m)) (sym same_objects)
+      (subst (λ (s : Setting). HasBlocks s.block (typed start.rows) (blocks_in s start.objects)) w.setting w.direct))
 
   abbrev known_first : Known
-  known_first = (fresh_store v w.fresh).0
+  known_first = (whole-store v w.volume all_there).0
 
   HasStore-start : HasStore first known_first v
   HasStore-start =
       subst (λ (s : Setting). HasStore (tree_with (known_by s.block (blocks_in s start.objects)) (typed start.rows)) known_first v) (sym w.setting)
       (subst (λ (m : ObjectMap). HasStore (tree_with (known_by v.yard.setting.block (blocks_in v.yard.setting m)) (typed start.rows)) known_first v) same_objects
-      (subst (λ (m : RowMap). HasStore (tree_with (known_by v.yard.setting.block (blocks_in v.yard.setting w.fresh.objects)) (typed m)) known_first v) same_rows
-      (known_same v w.fresh known_first _ (fresh_store v w.fresh).1)))
+      (subst (λ (m : RowMap). HasStore (tree_with (known_by v.yard.setting.block (blocks_in v.yard.setting w.volume.objects)) (typed m)) known_first v) same_rows
+      (known_same v w.volume known_first _ (whole-store v w.volume all_there).1)))
 
   setting_first : first.setting ≡ v.yard.setting
   setting_first =

@@ -17,14 +17,13 @@ use Rattle.jv_volume.specs.TypedRows.{typed}
 use Rattle.jv_volume.specs.Slices.{next_slice}
 use Rattle.jv_volume_bytes.specs.Blocks.{AreBelow, HasBlocks}
 use Rattle.jv_yard.specs.Contents.{blocks_in, is_block}
-use Rattle.jv_yard.specs.Later.{AreAlike, Contents, IsCopy, IsStagedWith, contents_of}
 use Rattle.jv_yard.specs.Staging.{ClientStaging, Staging, staged_since}
 use Rattle.jv_yard.specs.Starting.{IsFound, IsStarted}
 use Rattle.jv_yard.specs.YardValue.{NamesBlock}
 use Rattle.jv_yard.proofs.CallLaws.{IsKept-started}
 use Rattle.jv_yard.proofs.ContentsLaws.{is_block-passes, is_block-says}
-use Rattle.jv_client_shared.specs.Fresh.{IsFresh}
-use Rattle.jv_client_shared.specs.Shared.{HasStore, Known, Shared, staged_in}
+use Rattle.jv_client_shared.specs.Shared.{HasStore, InDepot, Known, Shared, staged_in}
+use Rattle.jv_client_shared.specs.WholeVolume.{IsCopy, WholeVolume}
 use Rattle.jv_session.specs.Lines.{StaysPut}
 use Rattle.jv_cmd.specs.Run.{Leaves}
 use Rattle.std.proofs.lemmas.Option.{same_Some}
@@ -49,9 +48,6 @@ module _ (t : Tree) (g : Known) (v w : Shared) (store : HasStore t g v)
     (blocks : shelf.content ≡ v.yard.shelf.content) where
   abbrev setting : Setting
   setting = v.yard.setting
-
-  abbrev contents : Contents
-  contents = contents_of store.objects store.staged w.yard
 
   -- each copy of a block has the bytes that are known of it
 
@@ -79,41 +75,10 @@ module _ (t : Tree) (g : Known) (v w : Shared) (store : HasStore t g v)
       by_number (inl high) = absurd (false≢true (sym (ap is_some (no_others client name high)) ∙ some))
       by_number (inr low) = low
 
-  known_copy : (b : BlockId) (bytes : List ℕ) → IsBlock setting.block b → IsCopy contents (name_in setting b) bytes
+  -- what the next yard has staged
+  known_staged : (client : ℕ) (b : BlockId) (bytes : List ℕ) → staged_in w.yard store.staged client b ≡ Some bytes
       → g.blocks b ≡ Some bytes
-  known_copy b bytes is (inl object) = store.copies b bytes
-      (ap (λ test. if test then bytes_at (name_in setting b) store.objects else None) (is_block-passes setting.block b is) ∙ object)
-  known_copy b bytes is (inr copy) =
-      known_shelved copy.client b bytes (client_is copy.client (name_in setting b) copy.is) is copy.bytes_are
-
-  -- so they are alike
-
-  staged_name : (name bytes : List ℕ) → IsStagedWith contents name bytes → NamesBlock setting name
-  staged_name name bytes copy =
-      (started.staged_are copy.client (client_is copy.client name copy.is)).names name copy.is
-
-  alike_named : (name first second : List ℕ) → NamesBlock setting name → IsCopy contents name first
-      → IsCopy contents name second → first ≡ second
-  alike_named name first second named a b =
-      let is = named.is.is_block in
-      same_Some first second
-      (sym (known_copy named.block first is (subst (λ n. IsCopy contents n first) named.is.spelled a))
-      ∙ known_copy named.block second is (subst (λ n. IsCopy contents n second) named.is.spelled b))
-
-  alike_left : AreAlike contents
-  alike_left name first second (inl a) (inl b) = same_Some first second (sym a ∙ b)
-  alike_left name first second (inl a) (inr b) =
-      alike_named name first second (staged_name name second b) (inl a) (inr b)
-  alike_left name first second (inr a) b = alike_named name first second (staged_name name first a) (inr a) b
-
-  -- and of slices that have their numbers
-
-  below_left : AreBelow (typed store.rows) (blocks_in w.yard.setting store.objects)
-  below_left b bytes there = store.below b bytes (store.copies b bytes
-      (subst (λ (s : Setting). blocks_in s store.objects b ≡ Some bytes) started.setting_is there))
-
-  staged_below_left : (client : ℕ) → AreBelow (typed store.rows) (staged_in w.yard store.staged client)
-  staged_below_left client b bytes there =
+  known_staged client b bytes there =
       by_tests (is_block setting.block b) (is_some (staged_since client (name_in setting b) w.yard.staged)) refl refl
       (subst (λ (s : Setting). (if is_block s.block b && is_some (staged_since client (name_in s b) w.yard.staged)
       then staged_at client (name_in s b) store.staged else None) ≡ Some bytes) started.setting_is there)
@@ -121,14 +86,27 @@ module _ (t : Tree) (g : Known) (v w : Shared) (store : HasStore t g v)
       by_tests : (block staged : Bool) → is_block setting.block b ≡ block
           → is_some (staged_since client (name_in setting b) w.yard.staged) ≡ staged
           → (if block && staged then staged_at client (name_in setting b) store.staged else None) ≡ Some bytes
-          → b.id < next_slice (typed store.rows)
-      by_tests true true is some e = store.below b bytes (known_copy b bytes (is_block-says setting.block b is)
-          (inr (record { client = client; is = some; bytes_are = e })))
+          → g.blocks b ≡ Some bytes
+      by_tests true true is some e =
+          known_shelved client b bytes (client_is client (name_in setting b) some) (is_block-says setting.block b is) e
       by_tests true false is some e = absurd (cc)
       by_tests false staged is some e = absurd (cc)
 
-  IsFresh-after : IsFresh w
-  IsFresh-after = record {
+  known_object : (b : BlockId) (bytes : List ℕ) → blocks_in w.yard.setting store.objects b ≡ Some bytes → g.blocks b ≡ Some bytes
+  known_object b bytes there =
+      store.copies b bytes (subst (λ (s : Setting). blocks_in s store.objects b ≡ Some bytes) started.setting_is there)
+
+  known_copy : (b : BlockId) (bytes : List ℕ) → IsCopy (blocks_in w.yard.setting store.objects) (staged_in w.yard store.staged) b bytes
+      → g.blocks b ≡ Some bytes
+  known_copy b bytes (inl object) = known_object b bytes object
+  known_copy b bytes (inr staged) = known_staged staged.0 b bytes staged.1
+
+  direct_after : HasBlocks w.yard.setting.block (typed store.rows) (blocks_in w.yard.setting store.objects)
+  direct_after = subst (λ (s : Setting). HasBlocks s.block (typed store.rows) (blocks_in s store.objects))
+      (sym started.setting_is) store.direct
+
+  WholeVolume-after : WholeVolume w
+  WholeVolume-after = record {
     rows = store.rows;
     rows_are = rows ∙ store.rows_are;
     whole = store.whole;
@@ -137,20 +115,22 @@ module _ (t : Tree) (g : Known) (v w : Shared) (store : HasStore t g v)
     objects_are = ap (λ (d : Holding ObjectMap). d.content) started.depot_same ∙ objects ∙ store.objects_are;
     staged = store.staged;
     staged_are = ap (λ (h : Holding StagedMap). h.content) started.shelf_same ∙ blocks ∙ store.staged_are;
-    there = subst (λ (s : Setting). HasBlocks s.block (typed store.rows) (blocks_in s store.objects))
-        (sym started.setting_is) store.direct;
+    there = λ id slice is index low. InDepot (direct_after id slice is index low);
     kept = IsKept-started setting depot shelf w.yard started;
-    alike = alike_left;
-    below = below_left;
-    staged_below = staged_below_left;
+    alike = λ b first second one two. same_Some first second (sym (known_copy b first one) ∙ known_copy b second two);
+    below = λ b bytes is. store.below b bytes (known_object b bytes is);
+    staged_below = λ client b bytes is. store.below b bytes (known_staged client b bytes is);
   }
 
 -- A session began with a yard that was started (`before`) and has left `left`, with its tree. The next one begins with the rows left, and
 -- with a yard that is started over a depot and a shelf with what is left there.
-pub IsFresh-left : (setting : Setting) (depot depot' : Holding ObjectMap) (shelf shelf' : Holding StagedMap)
+pub WholeVolume-left : (setting : Setting) (depot depot' : Holding ObjectMap) (shelf shelf' : Holding StagedMap)
     (before left next : Shared) (t : Tree) → IsStarted setting depot shelf before.yard → StaysPut before left → Leaves left t
     → IsStarted left.yard.setting depot' shelf' next.yard → next.keeper.rows ≡ left.keeper.rows
-    → depot'.content ≡ left.yard.depot.content → shelf'.content ≡ left.yard.shelf.content → IsFresh next
-IsFresh-left setting depot depot' shelf shelf' before left next t started stays leaves again rows objects blocks =
-    IsFresh-after t leaves.known left next leaves.store (Found-left setting depot shelf before left started stays)
-    depot' shelf' again rows objects blocks
+    → depot'.content ≡ left.yard.depot.content → shelf'.content ≡ left.yard.shelf.content
+    → (whole : WholeVolume next) × HasBlocks next.yard.setting.block (typed whole.rows) (blocks_in next.yard.setting whole.objects)
+WholeVolume-left setting depot depot' shelf shelf' before left next t started stays leaves again rows objects blocks =
+    let found = Found-left setting depot shelf before left started stays in (
+      WholeVolume-after t leaves.known left next leaves.store found depot' shelf' again rows objects blocks,
+      direct_after t leaves.known left next leaves.store found depot' shelf' again rows objects blocks,
+    )

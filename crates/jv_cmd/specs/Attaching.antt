@@ -21,7 +21,7 @@ ended_at failed Failed = failed
 ended_at failed Memory = OutOfMemory
 
 -- the depot and the carrier were opened at the bucket, and the shelf at the folder; what they hold
--- is the same
+-- is the same, or no longer known
 pub record AreAttached (bucket folder : List ℕ) (before after : BlockDevices) : Type 0 where
   pub depot : Attaches before.depot after.depot (Ok tt) bucket
   pub carrier : Moves before.carrier after.carrier (Ok tt) bucket

@@ -4,7 +4,8 @@ use Rattle.clap.specs.Words.{Text}
 use Rattle.jv_model.specs.declared.fault.Device.{Device}
 use Rattle.jv_model.specs.declared.fault.Device.TheVariants.{Keeper}
 use Rattle.jv_model.specs.declared.setting.Setting.{Setting}
-use Rattle.jv_outside.specs.Store.{Store}
+use Rattle.jv_outside.specs.Holding.{IsAttached}
+use Rattle.jv_outside.specs.Store.{Store, held}
 use Rattle.jv_yard.specs.Starting.{IsStarted}
 use Rattle.jv_yard.specs.YardValue.{YardValue}
 use Rattle.jv_client.specs.Shared.{shared}
@@ -34,17 +35,18 @@ pub record LeavesLines (before after : WorldValue) : Type 0 where
   pub clock : after.clock ≡ before.clock
   pub journal : after.journal ≡ before.journal
 
--- no line was run, and the rows are the same
+-- no line was run, and the keeper is as it was
 pub record RunsNone (answers : Device → ℕ) (before after : WorldValue) : Type 0 where
   pub none : (device : Device) → answers device ≡ 0
   pub lines : LeavesLines before after
-  pub rows : after.keeper.rows ≡ before.keeper.rows
+  pub keeper : after.keeper ≡ before.keeper
 
--- A session with these options: there is no volume to run on, and no device for blocks is opened;
--- or one of them isn't opened for the volume of that setting; or the shelf's blocks couldn't be
--- read; or the script runs on that volume, with depot and shelf in a yard, which are back where
--- they were in the end; blocks were put, all other objects are as they were, and so is the shelf
--- (`StaysPut`). `answers` is how often each device failed and an operation was answered so.
+-- A session with these options, once the keeper was opened: there is no volume to run on, and no
+-- device for blocks is opened; or one of them isn't opened for the volume of that setting; or the
+-- shelf's blocks couldn't be read; or the script runs on that volume, with depot and shelf in a
+-- yard, which are back where they were in the end; blocks were put, all other objects are as they
+-- were, and so is the shelf (`StaysPut`). `answers` is how often each device failed and an operation
+-- was answered so.
 pub data SessionEnds (options : SessionOptions) (answers : Device → ℕ) (before after : WorldValue)
     (ended : Ended) : Type 0 where
   NotOpened : CannotOpen before.keeper.rows ended → RunsNone answers before after
@@ -59,19 +61,19 @@ pub data SessionEnds (options : SessionOptions) (answers : Device → ℕ) (befo
       → AreAttached setting.bucket options.cache_dir before.blocks attached
       → CannotStart attached after.blocks ended
       → SessionEnds options answers before after ended
-  Opened : (setting : Setting) (opened : Store) (attached : BlockDevices) (yard : YardValue)
-      (left : StageValue)
-      → IsKnown before.keeper.rows setting → opened.rows ≡ before.keeper.rows
+  Opened : (setting : Setting) (attached : BlockDevices) (yard : YardValue) (left : StageValue)
+      → IsKnown before.keeper.rows setting
       → AreAttached setting.bucket options.cache_dir before.blocks attached
       → IsStarted setting attached.depot attached.shelf yard
       → RunsScript options.generate answers
       (staged (limits_of options setting.block) yard
-      (record before { keeper = opened; blocks = attached }))
+      (record before { blocks = attached }))
       left ended
-      → StaysPut (shared opened yard attached.carrier) left.devices
+      → StaysPut (shared before.keeper yard attached.carrier) left.devices
       → UsesBlocks answers attached after.blocks
       → after ≡ world_of before.err left → SessionEnds options answers before after ended
 
+-- what a command does once the keeper was opened
 abbrev pub Does : Command → (Device → ℕ) → WorldValue → WorldValue → Ended → Type 0
 Does (Format place setting) answers before after ended =
     Formats setting before after ended × ((device : Device) → answers device ≡ 0)
@@ -112,23 +114,34 @@ pub data RunsVolume (options : SessionOptions) (setting : Setting) (before after
       → RunsAttached options setting (record before { blocks = attached }) after ended
       → RunsVolume options setting before after ended
 
--- a session at a place: how it ended, and what it did with the keeper
+-- a session at a place: what the keeper was found to be there, how it ended, and what it did with
+-- the keeper
 pub record RunsSession (place : List ℕ) (options : SessionOptions) (before after : WorldValue)
     (ended : Ended) : Type 0 where
   pub answers : Device → ℕ
-  pub ends : SessionEnds options answers before after ended
+  pub found : Store
+  pub attached : IsAttached place (held before.keeper) (held found)
+  pub ends : SessionEnds options answers (record before { keeper = found }) after ended
   pub keeper : UsesKeeper ended (answers Keeper) place before.keeper after.keeper
 
--- a command: what it did, which device failed, and where the keeper is opened; by `direct` the
--- shelf has the blocks that it had
+-- the shelf has the blocks that it had, or, where a session opened it, they are no longer known
+abbrev pub ShelfStays : Command → WorldValue → WorldValue → Type 0
+ShelfStays (Format place setting) before after = after.blocks.shelf ≡ before.blocks.shelf
+ShelfStays (Session place options) before after =
+    IsAttached options.cache_dir before.blocks.shelf after.blocks.shelf
+
+-- A command: what it found once the keeper was opened at its place, what it did with that, which
+-- device failed, and where the keeper is opened. By `direct` it changes no block on the shelf.
 pub record RunsCommand (command : Command) (before after : WorldValue)
     (ended : Ended) : Type 0 where
   pub answers : Device → ℕ
-  pub does : Does command answers before after ended
+  pub found : Store
+  pub attached : IsAttached (place_of_command command) (held before.keeper) (held found)
+  pub does : Does command answers (record before { keeper = found }) after ended
   pub faults : CountsFaults ended (in_world before) (in_world after)
   pub keeper : UsesKeeper ended (answers Keeper) (place_of_command command) before.keeper
       after.keeper
-  pub direct : after.blocks.shelf.content ≡ before.blocks.shelf.content
+  pub direct : ShelfStays command before after
 
 -- how the command ended: what it did apart from standard error, its status, and its text there; no
 -- line of a drawn script ends it

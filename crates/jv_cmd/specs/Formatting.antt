@@ -3,8 +3,9 @@ use Rattle.std.specs.Prelude.{◌≡◌, ℕ, List, ◌∷◌, ◌++◌, [], Opt
 use Rattle.std.specs.Option.{option_map}
 use Rattle.jv_model.specs.declared.setting.Setting.{Setting}
 use Rattle.jv_model.specs.rows.RowKeys.{RowMap}
+use Rattle.jv_outside.specs.Holding.{IsAttached}
 use Rattle.jv_outside.specs.Rows.{applied}
-use Rattle.jv_outside.specs.Store.{Store}
+use Rattle.jv_outside.specs.Store.{Store, held}
 use Rattle.jv_outside.specs.Stream.{HasAll, IsCut}
 use Rattle.jv_outside.specs.Ticks.{Ticks, Passes}
 use Rattle.jv_rows.specs.FreshRows.{fresh_rows}
@@ -35,14 +36,24 @@ CannotPut rows before after KeeperFailed = Unit {0}
 CannotPut rows before after OutOfMemory = Unit {0}
 CannotPut rows before after _ = ⊥
 
--- rows were put, or not
-abbrev pub PutsVolume : Setting → Store → Store → Ticks → Ticks → Result (Unit {0}) Ended → Type 0
-PutsVolume setting store store' clock clock' (Ok unit) =
-    PutsRows setting store.rows store'.rows clock.answers clock'.answers
-PutsVolume setting store store' clock clock' (Err ended) =
-    CannotPut store.rows clock clock' ended × (store'.rows ≡ store.rows)
+-- rows were put where these are known to be, or not
+abbrev pub PutsAfter : Setting → Option RowMap → Option RowMap → Ticks → Ticks
+    → Result (Unit {0}) Ended → Type 0
+PutsAfter setting rows after clock clock' (Ok unit) =
+    PutsRows setting rows after clock.answers clock'.answers
+PutsAfter setting rows after clock clock' (Err ended) =
+    CannotPut rows clock clock' ended × (after ≡ rows)
 
--- the rows of a fresh volume are there and the text is printed, or no row was put
+-- the keeper was opened at a place, and then rows were put, or not
+pub record PutsVolume (place : List ℕ) (setting : Setting) (before after : Store)
+    (clock clock' : Ticks) (result : Result (Unit {0}) Ended) : Type 0 where
+  pub found : Store
+  pub attached : IsAttached place (held before) (held found)
+  pub opened : after.opened ≡ found.opened
+  pub puts : PutsAfter setting found.rows after.rows clock clock' result
+
+-- The rows of a fresh volume are there and the text is printed, or no row was put. The rows before
+-- are those once the keeper was opened.
 abbrev pub FormatEnds : Setting → WorldValue → WorldValue → Ended → Type 0
 FormatEnds setting before after Succeeded =
     PutsRows setting before.keeper.rows after.keeper.rows before.clock.answers after.clock.answers
@@ -54,9 +65,18 @@ FormatEnds setting before after ended =
     CannotPut before.keeper.rows before.clock after.clock ended
     × (after.keeper.rows ≡ before.keeper.rows) × (after.out ≡ before.out)
 
--- format reads no line, and uses none of the devices for blocks
+-- Format reads no line, and uses none of the devices for blocks. The keeper stays where it was
+-- opened.
 pub record Formats (setting : Setting) (before after : WorldValue) (ended : Ended) : Type 0 where
   pub ends : FormatEnds setting before after ended
+  pub opened : after.keeper.opened ≡ before.keeper.opened
   pub source : after.source ≡ before.source
   pub blocks : after.blocks ≡ before.blocks
   pub journal : after.journal ≡ before.journal
+
+-- the same where the keeper is opened at a place first
+pub record FormatsAt (place : List ℕ) (setting : Setting) (before after : WorldValue)
+    (ended : Ended) : Type 0 where
+  pub found : Store
+  pub attached : IsAttached place (held before.keeper) (held found)
+  pub formats : Formats setting (record before { keeper = found }) after ended

@@ -6,7 +6,8 @@ use Rattle.jv_model.specs.FiniteMap.{get}
 use Rattle.jv_model.specs.rows.RowGrammar.{is_setting, setting_of}
 use Rattle.jv_model.specs.rows.RowKeys.{RowMap}
 use Rattle.jv_model.specs.rows.RowPlaces.{setting_key}
-use Rattle.jv_outside.specs.Store.{Store}
+use Rattle.jv_outside.specs.Holding.{IsAttached}
+use Rattle.jv_outside.specs.Store.{Store, held}
 use Rattle.jv_cmd.specs.declared.ended.Ended.{Ended}
 use Rattle.jv_cmd.specs.declared.ended.Ended.TheVariants.{NoVolume, NewerVersion, MalformedSetting, KeeperFailed, OutOfMemory}
 use Rattle.jv_cmd.specs.Faults.{UsesKeeper, ended_by}
@@ -47,14 +48,14 @@ abbrev pub IsStored : Option RowMap → Option Setting → Type 0
 IsStored rows None = SettingRow rows IsAbsent
 IsStored rows (Some setting) = SettingRow rows (Spells setting)
 
--- the keeper was opened, and the setting read; the rows are the same
+-- the keeper was opened, and the setting read among the rows that are known then
 pub record ReadsSetting (place : List ℕ) (before after : Store)
     (result : Result (Option Setting) Ended) : Type 0 where
-  pub rows_are : after.rows ≡ before.rows
+  pub rows : IsAttached place (held before) (held after)
   pub keeper : UsesKeeper (ended_by result) 0 place before after
-  pub found : IfOk result (IsStored before.rows)
+  pub found : IfOk result (IsStored after.rows)
   pub allowed : IfOk result (λ found. IfSome found (λ setting. IsTrue (is_setting setting)))
-  pub refused : IfErr result (CannotRead before.rows)
+  pub refused : IfErr result (CannotRead after.rows)
 
 -- why there is no volume to run a session on
 abbrev pub CannotOpen : Option RowMap → Ended → Type 0
@@ -68,11 +69,11 @@ pub record IsKnown (rows : Option RowMap) (setting : Setting) : Type 0 where
   pub stored : SettingRow rows (Spells setting)
   pub version : setting.version ≡ ROWS_VERSION
 
--- the volume's setting was read, or there is no volume to run a session on; the rows are the same
+-- the keeper was opened, and the volume's setting read, or there is no volume to run a session on
 pub record OpensVolume (place : List ℕ) (before after : Store)
     (result : Result Setting Ended) : Type 0 where
-  pub rows_are : after.rows ≡ before.rows
+  pub rows : IsAttached place (held before) (held after)
   pub keeper : UsesKeeper (ended_by result) 0 place before after
-  pub ok : IfOk result (IsKnown before.rows)
+  pub ok : IfOk result (IsKnown after.rows)
   pub allowed : IfOk result (λ setting. IsTrue (is_setting setting))
-  pub refused : IfErr result (CannotOpen before.rows)
+  pub refused : IfErr result (CannotOpen after.rows)

@@ -18,12 +18,12 @@ use Rattle.jv_outside.specs.Ticks.{Ticks}
 use Rattle.jv_rows.specs.Transactions.{IsBad}
 use Rattle.jv_volume.specs.Slices.{next_slice}
 use Rattle.jv_volume.specs.TypedRows.{typed}
-use Rattle.jv_volume_bytes.specs.Blocks.{known_by}
+use Rattle.jv_volume_bytes.specs.Blocks.{HasBlocks, known_by}
 use Rattle.jv_volume_bytes.specs.Bytes.{tree_with}
 use Rattle.jv_volume_bytes.specs.Counts.{record_count}
 use Rattle.jv_yard.specs.Contents.{blocks_in}
-use Rattle.jv_client_shared.specs.Fresh.{IsFresh}
 use Rattle.jv_client_shared.specs.Shared.{HasStore, Known, Shared}
+use Rattle.jv_client_shared.specs.WholeVolume.{WholeVolume}
 use Rattle.jv_client.specs.Built.{is_built_line}
 use Rattle.jv_session.specs.Direct.{BlocksStay}
 use Rattle.jv_session.specs.Lines.{AreFailures}
@@ -54,19 +54,20 @@ start_of start = record {
   records = record_count (typed start.rows);
 }
 
--- The rows, the depot and the shelf are known, and a session may begin on them: the rows are whole,
--- the depot has each block of their slices, copies of one name are alike, and no block is of a
--- slice that is still to get its number.
+-- A session may begin on a whole volume, of which these are the rows and the objects. By `direct` the
+-- depot has each block.
 pub record StartsWhole (before : StageValue) (start : Beginning) : Type 0 where
   pub limits : start.limits ≡ before.limits
   pub setting : start.setting ≡ before.devices.yard.setting
   pub known : before.devices.keeper.rows ≡ Some start.rows
   pub objects : before.devices.yard.depot.content ≡ Some start.objects
-  pub fresh : IsFresh before.devices
+  pub volume : WholeVolume before.devices
+  pub direct : HasBlocks start.setting.block (typed start.rows)
+      (blocks_in start.setting start.objects)
 
--- Rows, depot and shelf are known, and the volume in them is whole, with all blocks of its files,
--- and stands for this tree.
+-- what is left is a whole volume, and stands for this tree
 pub record Leaves (devices : Shared) (t : Tree) : Type 0 where
+  pub volume : WholeVolume devices
   pub known : Known
   pub store : HasStore t known devices
 

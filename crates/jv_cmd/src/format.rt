@@ -2,7 +2,7 @@ ghost use Rattle.std.specs.Prelude.{◌≡◌, IfOk, IsTrue};
 ghost use Rattle.jv_model.specs.rows.RowGrammar.{is_setting};
 ghost use Rattle.jv_outside.specs.Causes.{RoseIf};
 ghost use Rattle.jv_cmd.specs.Faults.{CountsFaults, UsesKeeper, clock_failed, ended_by, in_world};
-ghost use Rattle.jv_cmd.specs.Formatting.{formatted_text, Formats, PutsVolume};
+ghost use Rattle.jv_cmd.specs.Formatting.{formatted_text, FormatsAt, PutsVolume};
 
 use crate::ended::Ended;
 use crate::volume::stored_setting;
@@ -31,7 +31,7 @@ fn put_volume<K: Keeper, C: Clock>(
     clock: &mut C,
 ) -> Result<(), Ended>
     requires { IsTrue (is_setting setting.now) }
-    ensures puts { PutsVolume setting.now (K.seen keeper.old) (K.seen keeper.new)
+    ensures puts { PutsVolume place.now setting.now (K.seen keeper.old) (K.seen keeper.new)
         (C.seen clock.old) (C.seen clock.new) result }
     ensures keeper { UsesKeeper (ended_by result) 0 place.now (K.seen keeper.old)
         (K.seen keeper.new) }
@@ -63,7 +63,7 @@ pub(crate) fn run_format<S: Source, O: Sink, E: Sink, K: Keeper, D: Depot, H: Sh
 ) -> Ended
     requires { IsTrue (is_setting setting.now) }
     ensures formats { let seen = ⟦<World<S, O, E, K, D, H, C> as Observed>⟧.seen in
-        Formats setting.now (seen world.old) (seen world.new) result }
+        FormatsAt place.now setting.now (seen world.old) (seen world.new) result }
     ensures faults { let seen = ⟦<World<S, O, E, K, D, H, C> as Observed>⟧.seen in
         CountsFaults result (in_world (seen world.old)) (in_world (seen world.new)) }
     ensures keeper { UsesKeeper result 0 place.now (K.seen world.old.keeper)

@@ -1,4 +1,6 @@
-ghost use Rattle.std.specs.Prelude.{◌≡◌, IfErr};
+ghost use Rattle.std.specs.Prelude.{IfErr};
+ghost use Rattle.jv_outside.specs.Holding.{IsAttached};
+ghost use Rattle.jv_outside.specs.Store.{held};
 ghost use Rattle.jv_cmd.specs.Faults.{UsesKeeper, ended_by};
 ghost use Rattle.jv_cmd.specs.Opening.{CannotRead, ReadsSetting, OpensVolume};
 
@@ -11,10 +13,10 @@ use std::alloc::Global;
 
 /// Opens the keeper at a place.
 fn attach<K: Keeper>(keeper: &mut K, place: &Text) -> Result<(), Ended>
-    ensures rows { (K.seen keeper.new).rows ≡ (K.seen keeper.old).rows }
+    ensures rows { IsAttached place.now (held (K.seen keeper.old)) (held (K.seen keeper.new)) }
     ensures keeper { UsesKeeper (ended_by result) 0 place.now (K.seen keeper.old)
         (K.seen keeper.new) }
-    ensures refused { IfErr result (CannotRead (K.seen keeper.old).rows) }
+    ensures refused { IfErr result (CannotRead (K.seen keeper.new).rows) }
 {
     match keeper.attach(place) {
         Ok(()) => Ok(()),

@@ -1,5 +1,5 @@
 -- What contracts see of staged blocks in memory.
-use Rattle.std.specs.Prelude.{ℕ, [], List, Option, None, Some}
+use Rattle.std.specs.Prelude.{ℕ, List, Option, None, Some}
 use Rattle.std.specs.declared.ops.Bound.{Bound}
 use Rattle.std.specs.declared.ops.Bound.TheVariants.{Included, Excluded}
 use Rattle.jv_model.specs.FiniteMap.{map_of}

@@ -14,7 +14,8 @@ pub trait Depot {
     // of 64 bits at least, which saturates.
     ghost seen: { Self → Holding ObjectMap };
 
-    /// Opens the objects at a place. The objects stay the same: a depot of objects in memory takes any place.
+    /// Opens the objects at a place. They are then the same as before, or, but at `:memory:`, no longer known. A depot of
+    /// objects in memory takes any place, and keeps them.
     fn attach(&mut self, place: &Text) -> Result<(), Down>
         ensures { Attaches (seen self.old) (seen self.new) result place.now };
 

@@ -15,7 +15,8 @@ pub trait Keeper {
     // 64 bits at least, which saturates.
     ghost seen: { Self → Store };
 
-    /// Opens the rows at a place. The rows stay the same: a keeper of rows in memory takes any place.
+    /// Opens the rows at a place. They are then the same as before, or, but at `:memory:`, no longer known: nobody knows the
+    /// rows of a file. A keeper of rows in memory takes any place, and keeps them.
     fn attach(&mut self, place: &Text) -> Result<(), Down>
         ensures { Opens (seen self.old) (seen self.new) result place.now };
 

@@ -67,6 +67,7 @@ impl Depot for MemDepot {
 
     fn attach(&mut self, place: &Text) -> Result<(), Down>
         ensures attaches { Attaches (holding_of self.old) (holding_of self.new) result place.now }
+        ensures kept { self.new.content ≡ self.old.content }
         ensures fails { (result ≡ Err Failed) ↔ IsTrue (fails_next self.old.calls) }
         ensures calls { self.new.calls ≡ after_call (fails_next self.old.calls) self.old.calls }
     {
@@ -174,6 +175,7 @@ impl Depot for NeverDepot {
     fn attach(&mut self, place: &Text) -> Result<(), Down>
         ensures attaches { Attaches (faulted_holding self.old) (faulted_holding self.new) result
             place.now }
+        ensures kept { self.new.content ≡ self.old.content }
         ensures memory { IfErr result (λ e. e ≡ Memory) }
     {
         self.opened = Some(copied(self.alloc, place.as_slice())?);

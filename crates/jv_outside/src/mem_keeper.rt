@@ -60,6 +60,7 @@ impl Keeper for MemKeeper {
 
     fn attach(&mut self, place: &Text) -> Result<(), Down>
         ensures opens { Opens (store_of self.old) (store_of self.new) result place.now }
+        ensures kept { self.new.rows ≡ self.old.rows }
         ensures fails { (result ≡ Err Failed) ↔ IsTrue (fails_next self.old.calls) }
         ensures calls { self.new.calls ≡ after_call (fails_next self.old.calls) self.old.calls }
     {
@@ -137,6 +138,7 @@ impl Keeper for NeverKeeper {
     fn attach(&mut self, place: &Text) -> Result<(), Down>
         ensures opens { Opens (never_failing_store self.old) (never_failing_store self.new)
             result place.now }
+        ensures kept { self.new.rows ≡ self.old.rows }
         ensures memory { IfErr result (λ e. e ≡ Memory) }
     {
         self.opened = Some(copied(self.alloc, place.as_slice())?);

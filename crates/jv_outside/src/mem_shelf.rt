@@ -65,6 +65,7 @@ impl Shelf for MemShelf {
 
     fn attach(&mut self, place: &Text) -> Result<(), Down>
         ensures attaches { Attaches (holding_of self.old) (holding_of self.new) result place.now }
+        ensures kept { self.new.content ≡ self.old.content }
         ensures fails { (result ≡ Err Failed) ↔ IsTrue (fails_next self.old.calls) }
         ensures calls { self.new.calls ≡ after_call (fails_next self.old.calls) self.old.calls }
     {
@@ -157,6 +158,7 @@ impl Shelf for NeverShelf {
     fn attach(&mut self, place: &Text) -> Result<(), Down>
         ensures attaches { Attaches (never_failing_holding self.old)
             (never_failing_holding self.new) result place.now }
+        ensures kept { self.new.content ≡ self.old.content }
         ensures memory { IfErr result (λ e. e ≡ Memory) }
     {
         self.opened = Some(copied(self.alloc, place.as_slice())?);

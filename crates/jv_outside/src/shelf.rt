@@ -15,7 +15,8 @@ pub trait Shelf {
     // 64 bits at least, which saturates.
     ghost seen: { Self → Holding StagedMap };
 
-    /// Opens the blocks at a place. The blocks stay the same: a shelf of blocks in memory takes any place.
+    /// Opens the blocks at a place. They are then the same as before, or, but at `:memory:`, no longer known. A shelf of
+    /// blocks in memory takes any place, and keeps them.
     fn attach(&mut self, place: &Text) -> Result<(), Down>
         ensures { Attaches (seen self.old) (seen self.new) result place.now };
 

@@ -11,22 +11,24 @@ run_volume-requires-clause-block g c = allowed_length c.in-Ok.setting c.in-Ok.en
 pub returns-in-Ok-clause-runs : goal.returns-in-Ok-clause-runs
 returns-in-Ok-clause-runs g c =
     RunsSession-volume c.args.place.now c.args.options.now _ _ (g.K.Keeper.seen c.open_volume.new.keeper)
-    c.in-Ok.setting c.run_volume.result.0 c.in-Ok.ensures.ok c.in-Ok.ensures.rows_are c.in-Ok.ensures.keeper
+    c.in-Ok.setting c.run_volume.result.0 c.in-Ok.ensures.ok c.in-Ok.ensures.rows c.in-Ok.ensures.keeper
     c.run_volume.ensures.runs
 
 pub returns-in-Ok-clause-faults : goal.returns-in-Ok-clause-faults
 returns-in-Ok-clause-faults g c =
     CountsFaults-volume c.args.place.now c.args.options.now _ _ (g.K.Keeper.seen c.open_volume.new.keeper)
-    c.in-Ok.setting c.run_volume.result.0 c.in-Ok.ensures.ok c.in-Ok.ensures.rows_are c.in-Ok.ensures.keeper
+    c.in-Ok.setting c.run_volume.result.0 c.in-Ok.ensures.ok c.in-Ok.ensures.rows c.in-Ok.ensures.keeper
     c.run_volume.ensures.runs
 
 pub returns-in-Err-clause-runs : goal.returns-in-Err-clause-runs
 returns-in-Err-clause-runs g c = record {
   answers = no_failures;
+  found = g.K.Keeper.seen c.open_volume.new.keeper;
+  attached = c.in-Err.ensures.rows;
   ends = NotOpened c.in-Err.ensures.refused (record {
     none = λ device. refl;
     lines = record { source = refl; out = refl; clock = refl; journal = refl };
-    rows = c.in-Err.ensures.rows_are;
+    keeper = refl;
   }) refl;
   keeper = c.in-Err.ensures.keeper;
 }

@@ -1,5 +1,5 @@
 -- A row that is found is the next one of the rest.
-use Rattle.std.proofs.Common.{ℕ, ◌<◌, ◌==◌, List, length, eq-eqb, ◌∙◌, arith}
+use Rattle.std.proofs.Common.{ℕ, ◌<◌, ◌==◌, List, length, eq-eqb, arith}
 use Rattle.jv_model.specs.declared.row.RowKey.{RowKey}
 use Rattle.jv_outside.proofs.ScanLaws.{glimpse-next_while}
 use Rattle.jv_outside.proofs.store.copied_rows.Goals as goal

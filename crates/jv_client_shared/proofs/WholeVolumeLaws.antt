@@ -1,4 +1,5 @@
--- What is known at the start: the blocks of the depot and of all clients that staged some, and the sizes of slices with rows.
+-- What is known of a whole volume: the blocks of the depot and of all clients that staged some, and the sizes of slices with
+-- rows. With that it is the volume of its tree, and the volume of a tree is whole.
 use Rattle.std.proofs.Common.{◌≡◌, ℕ, ◌<◌, Bool, true, false, inl, inr, List, Option, None, Some, refl, sym, ap, ◌∙◌}
 use Rattle.std.specs.Prelude.{◌&&◌, if◌then◌else◌, is_some}
 use Rattle.std.specs.Ordering.{eq_by_cmp}
@@ -12,16 +13,18 @@ use Rattle.jv_outside.specs.Objects.{bytes_at}
 use Rattle.jv_volume.specs.TypedRows.{typed}
 use Rattle.jv_volume.specs.Slices.{next_slice}
 use Rattle.jv_volume.proofs.ShapeMapLaws.{first_where-none, tied_same}
-use Rattle.jv_volume_bytes.specs.Blocks.{AreBelow, Blocks, Grows, known_by}
+use Rattle.jv_volume_bytes.specs.Blocks.{AreBelow, Blocks, Grows, HasBlocks, known_by}
 use Rattle.jv_volume_bytes.specs.Bytes.{tree_with}
+use Rattle.jv_model.specs.declared.slice.BlockId.{BlockId}
+use Rattle.jv_model.specs.tree.Tree.{Tree}
+use Rattle.std.proofs.lemmas.Option.{same_Some}
 use Rattle.jv_yard.specs.Contents.{blocks_in, is_block}
-use Rattle.jv_yard.specs.Later.{IsStagedWith, contents_of}
 use Rattle.jv_yard.specs.Staging.{staged_since}
-use Rattle.jv_client_shared.specs.Shared.{HasStore, InDepot, Known, Shared, staged_in}
-use Rattle.jv_client_shared.specs.Fresh.{IsFresh}
+use Rattle.jv_client_shared.specs.Shared.{HasStore, Known, Shared, staged_in}
+use Rattle.jv_client_shared.specs.WholeVolume.{IsCopy, WholeVolume}
 use Rattle.jv_client_shared.proofs.RowStepLaws.{sized-slices}
 
-module _ (v : Shared) (s : IsFresh v) where
+module _ (v : Shared) (s : WholeVolume v) where
   -- a client has staged it under this name
   abbrev is_copy : List ℕ → ℕ × List ℕ → List ℕ → Bool
   is_copy name at bytes = eq_by_cmp text_key.cmp at.1 name && is_some (staged_since at.0 at.1 v.yard.staged)
@@ -63,34 +66,39 @@ module _ (v : Shared) (s : IsFresh v) where
   -- so is what a client has staged
   client_copies : (client : ℕ) → Grows (staged_in v.yard s.staged client) all_blocks
   client_copies client b bytes there =
-      by_tests (is_block v.yard.setting.block b) (is_some (staged_since client (name_in v.yard.setting b) v.yard.staged)) refl there
+      by_tests (is_block v.yard.setting.block b) (is_some (staged_since client (name_in v.yard.setting b) v.yard.staged)) refl refl there
     where
       name : List ℕ
       name = name_in v.yard.setting b
 
-      its : is_some (staged_since client name v.yard.staged) ≡ true → staged_at client name s.staged ≡ Some bytes
-          → IsStagedWith (contents_of s.objects s.staged v.yard) name bytes
-      its staged e = record { client = client; is = staged; bytes_are = e }
+      -- a block's staged copies are those under its name
+      as_copy : (at : ℕ) (found : List ℕ) → is_block v.yard.setting.block b ≡ true
+          → is_some (staged_since at name v.yard.staged) ≡ true → staged_at at name s.staged ≡ Some found
+          → IsCopy (blocks_in v.yard.setting s.objects) (staged_in v.yard s.staged) b found
+      as_copy at found passes staged e =
+          inr (at, ap (λ test. if test then staged_at at name s.staged else None) (λ i. passes i && staged i) ∙ e)
 
-      by_first : is_some (staged_since client name v.yard.staged) ≡ true → staged_at client name s.staged ≡ Some bytes
-          → (o : Option ((ℕ × List ℕ) × List ℕ)) → first_where (is_copy name) s.staged ≡ o → bytes_found o ≡ Some bytes
-      by_first staged e None first =
+      by_first : is_block v.yard.setting.block b ≡ true → is_some (staged_since client name v.yard.staged) ≡ true
+          → staged_at client name s.staged ≡ Some bytes → (o : Option ((ℕ × List ℕ) × List ℕ)) → first_where (is_copy name) s.staged ≡ o → bytes_found o ≡ Some bytes
+      by_first passes staged e None first =
           absurd (first_where-none staged_key (is_copy name) s.staged (client, name) bytes first e
           (λ i. (eq_by_cmp_equiv text_key.total).refl name i && staged i))
-      by_first staged e (Some found) first =
+      by_first passes staged e (Some found) first =
           let is = staged_copy name found first in
-          ap Some (s.alike name found.1 bytes (inr (record { client = found.0.0; is = is.1; bytes_are = is.0 })) (inr (its staged e)))
+          ap Some (s.alike b found.1 bytes (as_copy found.0.0 found.1 passes is.1 is.0) (as_copy client bytes passes staged e))
 
-      by_object : is_some (staged_since client name v.yard.staged) ≡ true → staged_at client name s.staged ≡ Some bytes
-          → (o : Option (List ℕ)) → bytes_at name s.objects ≡ o → either o (bytes_found (first_where (is_copy name) s.staged)) ≡ Some bytes
-      by_object staged e None object = by_first staged e (first_where (is_copy name) s.staged) refl
-      by_object staged e (Some other) object = ap Some (s.alike name other bytes (inl object) (inr (its staged e)))
+      by_object : is_block v.yard.setting.block b ≡ true → is_some (staged_since client name v.yard.staged) ≡ true
+          → staged_at client name s.staged ≡ Some bytes → (o : Option (List ℕ)) → bytes_at name s.objects ≡ o → either o (bytes_found (first_where (is_copy name) s.staged)) ≡ Some bytes
+      by_object passes staged e None object = by_first passes staged e (first_where (is_copy name) s.staged) refl
+      by_object passes staged e (Some other) object =
+          ap Some (s.alike b other bytes (inl (ap (λ test. if test then bytes_at name s.objects else None) passes ∙ object))
+          (as_copy client bytes passes staged e))
 
-      by_tests : (test staged : Bool) → is_some (staged_since client name v.yard.staged) ≡ staged
+      by_tests : (test staged : Bool) → is_block v.yard.setting.block b ≡ test → is_some (staged_since client name v.yard.staged) ≡ staged
           → (if test && staged then staged_at client name s.staged else None) ≡ Some bytes → (if test then copy name else None) ≡ Some bytes
-      by_tests true true staged e = by_object staged e (bytes_at name s.objects) refl
-      by_tests true false staged e = absurd (cc)
-      by_tests false staged is e = absurd (cc)
+      by_tests true true passes staged e = by_object passes staged e (bytes_at name s.objects) refl
+      by_tests true false passes staged e = absurd (cc)
+      by_tests false staged passes is e = absurd (cc)
 
   -- and no such block is of a slice that is still to get its number
   all_below : AreBelow (typed s.rows) all_blocks
@@ -117,9 +125,10 @@ module _ (v : Shared) (s : IsFresh v) where
       by_test true passes e = by_object passes (bytes_at name s.objects) refl e
       by_test false passes e = absurd (cc)
 
-  -- At the start something is known with which the tree is that of the rows.
-  pub fresh_store : (g : Known) × HasStore (tree_with (known_by v.yard.setting.block g.blocks) (typed s.rows)) g v
-  fresh_store = (
+  -- Something is known with which the tree is that of the rows, as long as the depot has each block.
+  pub whole-store : HasBlocks v.yard.setting.block (typed s.rows) (blocks_in v.yard.setting s.objects)
+      → (g : Known) × HasStore (tree_with (known_by v.yard.setting.block g.blocks) (typed s.rows)) g v
+  whole-store direct = (
     record { blocks = all_blocks; sizes = s.whole.slices.sizes },
     record {
       rows = s.rows;
@@ -131,12 +140,35 @@ module _ (v : Shared) (s : IsFresh v) where
       objects_are = s.objects_are;
       staged = s.staged;
       staged_are = s.staged_are;
-      there = λ id slice is index low. InDepot (s.there id slice is index low);
+      there = s.there;
       copies = depot_copies;
       staged_copies = client_copies;
       kept = s.kept;
       below = all_below;
       tree = refl;
-      direct = s.there;
+      direct = direct;
     },
   )
+
+-- the volume of a tree is whole
+pub store-whole : (t : Tree) (g : Known) (v : Shared) → HasStore t g v → WholeVolume v
+store-whole t g v store = record {
+  rows = store.rows;
+  rows_are = store.rows_are;
+  whole = store.whole;
+  setting = store.setting;
+  objects = store.objects;
+  objects_are = store.objects_are;
+  staged = store.staged;
+  staged_are = store.staged_are;
+  there = store.there;
+  kept = store.kept;
+  alike = λ b first second one two. same_Some first second (sym (known_copy b first one) ∙ known_copy b second two);
+  below = λ b bytes is. store.below b bytes (store.copies b bytes is);
+  staged_below = λ client b bytes is. store.below b bytes (store.staged_copies client b bytes is);
+}
+  where
+    known_copy : (b : BlockId) (bytes : List ℕ)
+        → IsCopy (blocks_in v.yard.setting store.objects) (staged_in v.yard store.staged) b bytes → g.blocks b ≡ Some bytes
+    known_copy b bytes (inl object) = store.copies b bytes object
+    known_copy b bytes (inr staged) = store.staged_copies staged.0 b bytes staged.1
