@@ -193,4 +193,5 @@ module _ (setting : Setting) (at : ℕ) (widths : SettingWidths setting) (allowe
 
     pub WholeVolume-formatted : (volume : WholeVolume v)
         × HasBlocks v.yard.setting.block (typed volume.rows) (blocks_in v.yard.setting volume.objects)
+    unfolding whole insert
     WholeVolume-formatted = (whole, all_there)

@@ -129,6 +129,7 @@ pub WholeVolume-left : (setting : Setting) (depot depot' : Holding ObjectMap) (s
     → IsStarted left.yard.setting depot' shelf' next.yard → next.keeper.rows ≡ left.keeper.rows
     → depot'.content ≡ left.yard.depot.content → shelf'.content ≡ left.yard.shelf.content
     → (whole : WholeVolume next) × HasBlocks next.yard.setting.block (typed whole.rows) (blocks_in next.yard.setting whole.objects)
+unfolding WholeVolume-after
 WholeVolume-left setting depot depot' shelf shelf' before left next t started stays leaves again rows objects blocks =
     let found = Found-left setting depot shelf before left started stays in (
       WholeVolume-after t leaves.known left next leaves.store found depot' shelf' again rows objects blocks,
