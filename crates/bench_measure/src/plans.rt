@@ -1,6 +1,6 @@
 //! Plans over the records of a window.
 ghost use Rattle.std.specs.Prelude.{◌≤◌, All, IfOk};
-ghost use Rattle.jv_model.specs.blocks.Slices.{IsRecord};
+ghost use Rattle.jv_model.specs.promise.blocks.Slices.{IsRecord};
 
 use jv_model::{Down, List, Rec, WINDOW};
 use jv_slices::plan;

@@ -1,7 +1,7 @@
 -- What contracts see of a cache of blocks.
 use Rattle.std.specs.Prelude.{◌≡◌, ℕ, ◌+◌, ◌-◌, ◌^◌, ◌<◌, ◌≤◌, ◌==◌, min, length, slice_get, is_some, if◌then◌else◌, List, [], Option, None, Some}
 use Rattle.std.specs.Map.{lookup}
-use Rattle.jv_model.specs.Counts.{counted}
+use Rattle.jv_model.specs.promise.Counts.{counted}
 use Rattle.lru.specs.LruCache.{LruCache, lru_cache, promoted, put_entries}
 use Rattle.jv_cache.specs.declared.key.BlockKey.{BlockKey}
 use Rattle.jv_cache.specs.Keys.{same_key}

@@ -10,13 +10,14 @@ use Rattle.jv_model.specs.declared.fault.Fault.TheVariants.{DeviceFailed, NoMemo
 use Rattle.jv_model.specs.declared.fault.Gone.TheVariants.{Session}
 use Rattle.jv_model.specs.declared.op.Op.{Op}
 use Rattle.jv_model.specs.declared.slice.BlockId.{BlockId}
-use Rattle.jv_model.specs.blocks.BlockNames.{name_in}
-use Rattle.jv_model.specs.blocks.Slices.{block_count}
-use Rattle.jv_model.specs.client.OpForms.{is_read, is_umount}
+use Rattle.jv_model.specs.promise.blocks.BlockNames.{name_in}
+use Rattle.jv_model.specs.promise.blocks.Slices.{block_count}
+use Rattle.jv_model.specs.promise.client.OpForms.{is_read}
+use Rattle.jv_model.specs.client.OpForms.{is_umount}
 use Rattle.jv_cache.specs.Cached.{Cached}
 use Rattle.jv_volume_bytes.specs.Flights.{Flight}
 use Rattle.jv_yard.specs.BlockCalls.{GetsBlock}
-use Rattle.jv_yard.specs.YardValue.{YardValue}
+use Rattle.jv_yard.specs.promise.YardValue.{YardValue}
 use Rattle.jv_client_handles.specs.declared.views.View.{View}
 use Rattle.jv_client_handles.specs.Views.{SeenViews, with_view}
 use Rattle.jv_client_reads.specs.declared.need.Need.{Need}

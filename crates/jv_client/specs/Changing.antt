@@ -7,10 +7,10 @@ use Rattle.jv_model.specs.declared.limits.TheConstants.{FILE_END}
 use Rattle.jv_model.specs.declared.op.Op.{Op}
 use Rattle.jv_model.specs.declared.op.Op.TheVariants as op
 use Rattle.jv_model.specs.declared.op.Reply.TheVariants.{Done, Count}
-use Rattle.jv_model.specs.tree.Caller.{Caller}
-use Rattle.jv_model.specs.tree.FileBytes as model
+use Rattle.jv_model.specs.promise.tree.Caller.{Caller}
+use Rattle.jv_model.specs.promise.tree.FileBytes as model
 use Rattle.jv_model.specs.tree.Trash.{due_after}
-use Rattle.jv_outside.specs.Store.{Store}
+use Rattle.jv_outside.specs.promise.Store.{Store}
 use Rattle.jv_rows.specs.Transactions.{IsFor}
 use Rattle.jv_data.specs.Changing.{Changes, AnyBytes, IsCrowded, Never, count_in}
 use Rattle.jv_client_handles.specs.declared.handle.Handle.{Handle}

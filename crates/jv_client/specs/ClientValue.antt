@@ -1,7 +1,7 @@
 -- What contracts see of a client.
 use Rattle.std.specs.Prelude.{◌≡◌, ℕ, List, [], Option, None, IfSome, unwrap_or}
 use Rattle.jv_model.specs.declared.basics.Limits.{Limits}
-use Rattle.jv_model.specs.client.Pending.{PendingByte}
+use Rattle.jv_model.specs.promise.client.Pending.{PendingByte}
 use Rattle.jv_pending.specs.Held.{PendingValue}
 use Rattle.jv_cache.specs.Cached.{Cached}
 use Rattle.jv_client_handles.specs.declared.handle.Handle.{Handle}

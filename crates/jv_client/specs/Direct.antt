@@ -1,10 +1,8 @@
--- What holds of a client and of its steps while each block goes to the depot at once and none is
--- removed.
+-- What only inner contracts cite: of `promise/Direct`.
 use Rattle.std.specs.Prelude.{◌≡◌, ℕ, Bool, false, IfSome, List, Option}
 use Rattle.std.specs.List.{AllByRecursion}
-use Rattle.jv_volume_bytes.specs.Blocks.{Blocks}
+use Rattle.jv_volume_bytes.specs.promise.Blocks.{Blocks}
 use Rattle.jv_client_shared.specs.Direct.{HasNamed}
-use Rattle.jv_client_shared.specs.Shared.{Shared}
 use Rattle.jv_client_handles.specs.declared.handle.Handle.{Handle}
 use Rattle.jv_client_handles.specs.Views.{view_at}
 
@@ -18,7 +16,3 @@ pub record GoesDirect (block : ℕ) (depot : Blocks) (writeback : Bool)
     (handles : List (Option Handle)) : Type 0 where
   pub mode : writeback ≡ false
   pub seen : AllByRecursion (λ place. IfSome place (HasSeen block depot)) handles
-
--- the shelf has the blocks that it had
-abbrev pub KeepsShelf : Shared → Shared → Type 0
-KeepsShelf before after = after.yard.shelf.content ≡ before.yard.shelf.content

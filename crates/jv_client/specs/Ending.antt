@@ -7,8 +7,8 @@ use Rattle.jv_model.specs.declared.fault.Fault.TheVariants.{Stale}
 use Rattle.jv_model.specs.declared.fault.Gone.TheVariants.{Session, Node}
 use Rattle.jv_model.specs.declared.op.Op.{Op}
 use Rattle.jv_model.specs.declared.op.Op.TheVariants as op
-use Rattle.jv_model.specs.client.Pending.{pending_of_others}
-use Rattle.jv_model.specs.client.ModelClient.{with_file}
+use Rattle.jv_model.specs.promise.client.Pending.{pending_of_others}
+use Rattle.jv_model.specs.promise.client.ModelClient.{with_file}
 use Rattle.jv_client.specs.ClientValue.{ClientValue, crashed}
 use Rattle.jv_client_handles.specs.Handles.{inode_here}
 use Rattle.jv_client.specs.Held.{is_last_here}

@@ -5,7 +5,7 @@ use Rattle.jv_model.specs.declared.act.Told.TheVariants.{Fine}
 use Rattle.jv_model.specs.declared.op.Op.{Op}
 use Rattle.jv_model.specs.declared.op.Op.TheVariants as op
 use Rattle.jv_model.specs.declared.op.Reply.TheVariants.{Count}
-use Rattle.jv_model.specs.client.Pending.{PendingByte, Segment, bytes_in_range, without_range, written}
+use Rattle.jv_model.specs.promise.client.Pending.{PendingByte, Segment, bytes_in_range, without_range, written}
 use Rattle.jv_client_handles.specs.declared.handle.Handle.{Handle}
 use Rattle.jv_client_handles.specs.Handles.{inode_here, unseen}
 use Rattle.jv_client.specs.declared.doing.Doing.{Doing}

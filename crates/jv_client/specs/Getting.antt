@@ -7,11 +7,11 @@ use Rattle.jv_model.specs.declared.fault.Fault.{Fault}
 use Rattle.jv_model.specs.declared.fault.Fault.TheVariants.{TryAgain}
 use Rattle.jv_model.specs.declared.op.Reply.TheVariants.{Refused as RefusedReply}
 use Rattle.jv_model.specs.declared.slice.BlockId.{BlockId}
-use Rattle.jv_model.specs.client.Profile.{handle_of}
-use Rattle.jv_model.specs.journal.Reading.{Asked}
-use Rattle.jv_model.specs.blocks.BlockNames.{name_in}
+use Rattle.jv_model.specs.promise.client.Profile.{handle_of}
+use Rattle.jv_model.specs.promise.journal.Reading.{Asked}
+use Rattle.jv_model.specs.promise.blocks.BlockNames.{name_in}
 use Rattle.jv_cache.specs.Cached.{Cached}
-use Rattle.jv_volume_bytes.specs.Blocks.{Blocks}
+use Rattle.jv_volume_bytes.specs.promise.Blocks.{Blocks}
 use Rattle.jv_client_handles.specs.Handles.{inode_here}
 use Rattle.jv_client_handles.specs.Views.{SeenViews}
 use Rattle.jv_client_reads.specs.Ahead.{blocks_ahead}
@@ -21,7 +21,7 @@ use Rattle.jv_client_reads.specs.Going.{CanFetch, IsFetching}
 use Rattle.jv_yard.specs.declared.faults.YardFault.{YardFault}
 use Rattle.jv_yard.specs.BlockCalls.{GetsBlock}
 use Rattle.jv_yard.specs.Refusals.{yard_fault}
-use Rattle.jv_yard.specs.YardValue.{YardValue}
+use Rattle.jv_yard.specs.promise.YardValue.{YardValue}
 use Rattle.jv_client.specs.declared.doing.Doing.{Doing}
 use Rattle.jv_client.specs.declared.made.Made.{Made}
 use Rattle.jv_client.specs.declared.made.Made.TheVariants as made

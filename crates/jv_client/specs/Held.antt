@@ -8,14 +8,14 @@ use Rattle.jv_model.specs.declared.profile.Profile.{Profile}
 use Rattle.jv_model.specs.declared.profile.Flushes.TheVariants.{Nothing, ItsFiles, IfFull, Everything}
 use Rattle.jv_model.specs.declared.profile.Handles.{Handles}
 use Rattle.jv_model.specs.declared.profile.Handles.TheVariants as named
-use Rattle.jv_model.specs.blocks.Slices.{block_count}
-use Rattle.jv_model.specs.tree.Tree.{Tree}
-use Rattle.jv_model.specs.client.Pending.{PendingByte, Segment, bytes_in_range}
-use Rattle.jv_model.specs.client.Profile.{handle_of}
-use Rattle.jv_model.specs.client.ModelClient.{ModelClient, View as ModelView, Doing as ModelDoing, Flush as ModelFlush, OfFiles, OfAll, Stage, Working, Reading, file_of, with_file, held_inodes}
-use Rattle.jv_model.specs.client.Submission.{next_segment}
-use Rattle.jv_model.specs.journal.Steps.{asked_of}
-use Rattle.jv_model.specs.Lists.{is_among}
+use Rattle.jv_model.specs.promise.blocks.Slices.{block_count}
+use Rattle.jv_model.specs.promise.tree.Tree.{Tree}
+use Rattle.jv_model.specs.promise.client.Pending.{PendingByte, Segment, bytes_in_range}
+use Rattle.jv_model.specs.promise.client.Profile.{handle_of}
+use Rattle.jv_model.specs.promise.client.ModelClient.{ModelClient, View as ModelView, Doing as ModelDoing, Flush as ModelFlush, OfFiles, OfAll, Stage, Working, Reading, file_of, with_file, held_inodes}
+use Rattle.jv_model.specs.promise.client.Submission.{next_segment}
+use Rattle.jv_model.specs.promise.journal.Steps.{asked_of}
+use Rattle.jv_model.specs.promise.Lists.{is_among}
 use Rattle.jv_volume.specs.Holding.{IsHoldable}
 use Rattle.jv_volume_bytes.specs.Flights.{Flight}
 use Rattle.jv_client_reads.specs.Going.{IsFetching}
@@ -25,7 +25,7 @@ use Rattle.jv_client_handles.specs.Handles.{held_here, inode_here}
 use Rattle.jv_client_handles.specs.Held.{AreHandles, SamePlace}
 use Rattle.jv_client_shared.specs.Direct.{HasPut}
 use Rattle.jv_client_shared.specs.Flying.{Flies}
-use Rattle.jv_client_shared.specs.Shared.{Known, Shared, depot_in}
+use Rattle.jv_client_shared.specs.promise.Shared.{Known, Shared, depot_in}
 use Rattle.jv_client.specs.declared.doing.Doing.{Doing}
 use Rattle.jv_client.specs.declared.doing.Flush.{Flush}
 use Rattle.jv_client.specs.declared.doing.Flush.TheVariants as flush

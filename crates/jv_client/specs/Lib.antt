@@ -1,7 +1,6 @@
 -- The definitions that contracts cite.
+pub mod promise
 pub mod ClientValue
-pub mod Shared
-pub mod Built
 pub mod Direct
 pub mod Held
 pub mod Ending

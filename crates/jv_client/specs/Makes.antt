@@ -1,4 +1,4 @@
--- What a step makes of a client and of what all clients share.
+-- What only inner contracts cite: of `promise/Makes`.
 use Rattle.std.specs.Prelude.{◌≡◌, ℕ, ◌+◌, ◌<◌, Bool, true, false, List, [], ◌∷◌, ◌++◌, map, length, IsSome, IsTrue, IfSome, None}
 use Rattle.std.specs.Option.{option_map}
 use Rattle.jv_model.specs.declared.act.Act.{Act}
@@ -9,22 +9,23 @@ use Rattle.jv_model.specs.declared.fault.Device.{Device}
 use Rattle.jv_model.specs.declared.fault.Device.TheVariants.{Keeper, Depot, Shelf, Carrier}
 use Rattle.jv_model.specs.declared.op.Step.{Step}
 use Rattle.jv_model.specs.declared.op.Step.TheVariants.{More, Done, Broken}
-use Rattle.jv_model.specs.tree.Tree.{Tree}
-use Rattle.jv_model.specs.client.ModelClient.{ModelClient}
-use Rattle.jv_model.specs.journal.State.{State}
+use Rattle.jv_model.specs.promise.tree.Tree.{Tree}
+use Rattle.jv_model.specs.promise.client.ModelClient.{ModelClient}
+use Rattle.jv_model.specs.promise.journal.State.{State}
 use Rattle.jv_model.specs.journal.Stepping.{entry_of, is_answer}
-use Rattle.jv_outside.specs.Causes.{RoseIf}
-use Rattle.jv_rows.specs.Transactions.{IsBad}
-use Rattle.jv_volume.specs.TypedRows.{typed}
-use Rattle.jv_client_shared.specs.Shared.{HasStore, Known, Shared}
+use Rattle.jv_outside.specs.promise.Causes.{RoseIf}
+use Rattle.jv_rows.specs.promise.Transactions.{IsBad}
+use Rattle.jv_volume.specs.promise.TypedRows.{typed}
+use Rattle.jv_client_shared.specs.promise.Shared.{HasStore, Known, Shared}
 use Rattle.jv_client_requests.specs.Request.{Request}
 use Rattle.jv_client.specs.declared.doing.Progress.{Progress}
 use Rattle.jv_client.specs.declared.made.Made.{Made}
 use Rattle.jv_client.specs.declared.made.Made.TheVariants as made
 use Rattle.jv_client.specs.CacheUse.{CacheUse}
 use Rattle.jv_client.specs.ClientValue.{ClientValue}
-use Rattle.jv_client.specs.Direct.{KeepsShelf}
-use Rattle.jv_client.specs.Failures.{is_failure_of, says_failure}
+use Rattle.jv_client.specs.promise.Direct.{KeepsShelf}
+use Rattle.jv_client.specs.promise.Failures.{is_failure_of}
+use Rattle.jv_client.specs.Failures.{says_failure}
 use Rattle.jv_client.specs.Held.{IsClient, Holds, in_flight}
 use Rattle.jv_client.specs.Reading.{put_at}
 use Rattle.jv_client.specs.Stats.{AnswersStats}
@@ -140,11 +141,6 @@ pub record Makes (now entry : ℕ) (h after : ClientValue) (before used : Shared
       → Holds s.tree (s.clients h.id)
       → IsClient g before (s.clients h.id) s.count h
       → StepsTo s g before h now (kinds_of done) (step_of done) after used
-
--- an entry answers that the device failed
-abbrev pub is_failure_entry : Device → ActKind → Bool
-is_failure_entry device (Answered told) = is_failure_of device told
-is_failure_entry device _ = false
 
 -- A step was made, and its entries are appended to a journal.
 pub record Steps (line now : ℕ) (h after : ClientValue) (before used : Shared)

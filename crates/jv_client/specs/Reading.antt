@@ -8,14 +8,14 @@ use Rattle.jv_model.specs.declared.act.Told.TheVariants.{Looks}
 use Rattle.jv_model.specs.declared.op.Op.{Op}
 use Rattle.jv_model.specs.declared.op.Reply.TheVariants.{Data}
 use Rattle.jv_model.specs.declared.profile.Does.TheVariants as does
-use Rattle.jv_model.specs.client.ModelClient.{ModelClient, file_of}
-use Rattle.jv_model.specs.client.Profile.{handle_of}
+use Rattle.jv_model.specs.promise.client.ModelClient.{ModelClient, file_of}
+use Rattle.jv_model.specs.promise.client.Profile.{handle_of}
 use Rattle.jv_model.specs.declared.slice.BlockId.{BlockId}
-use Rattle.jv_model.specs.journal.Reading.{Asked, asked_parts}
-use Rattle.jv_model.specs.journal.Steps.{asked_of}
+use Rattle.jv_model.specs.promise.journal.Reading.{Asked, asked_parts}
+use Rattle.jv_model.specs.promise.journal.Steps.{asked_of}
 use Rattle.jv_cache.specs.Cached.{Cached}
-use Rattle.jv_volume_bytes.specs.Blocks.{Blocks, known_by}
-use Rattle.jv_client_shared.specs.Shared.{Known, Shared}
+use Rattle.jv_volume_bytes.specs.promise.Blocks.{Blocks, known_by}
+use Rattle.jv_client_shared.specs.promise.Shared.{Known, Shared}
 use Rattle.jv_client_handles.specs.declared.handle.Handle.{Handle}
 use Rattle.jv_client_handles.specs.Views.{SeenViews, no_views}
 use Rattle.jv_client_reads.specs.declared.need.Need.{Need}

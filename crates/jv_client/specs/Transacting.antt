@@ -12,17 +12,18 @@ use Rattle.jv_model.specs.declared.fault.TxFault.{TxFault}
 use Rattle.jv_model.specs.declared.fault.TxFault.TheVariants.{Refused, Moved, Rows as OfRows}
 use Rattle.jv_model.specs.declared.op.Op.{Op}
 use Rattle.jv_model.specs.declared.op.Reply.TheVariants.{Refused as RefusedReply}
-use Rattle.jv_model.specs.tree.Caller.{Caller}
-use Rattle.jv_model.specs.client.ModelClient.{free_handle, with_file}
-use Rattle.jv_model.specs.client.Profile.{handle_of}
-use Rattle.jv_model.specs.journal.State.{Gift, NewSession, NewHandle, Nothing, gift_of}
-use Rattle.jv_model.specs.journal.Steps.{told_of}
-use Rattle.jv_outside.specs.Store.{Store}
+use Rattle.jv_model.specs.promise.tree.Caller.{Caller}
+use Rattle.jv_model.specs.promise.client.ModelClient.{free_handle, with_file}
+use Rattle.jv_model.specs.promise.client.Profile.{handle_of}
+use Rattle.jv_model.specs.promise.journal.State.{Gift, NewSession, NewHandle, Nothing, gift_of}
+use Rattle.jv_model.specs.promise.journal.Steps.{told_of}
+use Rattle.jv_outside.specs.promise.Store.{Store}
 use Rattle.jv_rows.specs.Transactions.{Transacts, FaultCause, BadFault}
-use Rattle.jv_volume.specs.TypedRows.{typed}
+use Rattle.jv_volume.specs.promise.TypedRows.{typed}
 use Rattle.jv_links.specs.Removals.{HoldsFiles}
 use Rattle.jv_client_metadata.specs.declared.answers.Answer.{Answer}
-use Rattle.jv_client_metadata.specs.Attempts.{AnswersPlainly, attempt, SaysKept}
+use Rattle.jv_client_metadata.specs.Attempts.{AnswersPlainly, SaysKept}
+use Rattle.jv_model.specs.promise.tree.TreeAct.{attempt}
 use Rattle.jv_client_handles.specs.declared.handle.Handle.{Handle}
 use Rattle.jv_client_handles.specs.Handles.{held_here, inode_here, new_handle}
 use Rattle.jv_client.specs.declared.made.Made.{Made}

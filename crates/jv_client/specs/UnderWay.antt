@@ -10,13 +10,13 @@ use Rattle.jv_model.specs.declared.act.Told.TheVariants.{Fine, Looks}
 use Rattle.jv_model.specs.declared.profile.Answer.TheVariants as answer
 use Rattle.jv_model.specs.declared.profile.Does.{Does}
 use Rattle.jv_model.specs.declared.profile.Does.TheVariants as does
-use Rattle.jv_model.specs.script.Spelled.{is_spelled}
+use Rattle.jv_model.specs.promise.script.Spelled.{is_spelled}
 use Rattle.jv_pending.specs.Held.{PendingValue}
-use Rattle.jv_model.specs.client.Pending.{PendingByte, Segment, written}
-use Rattle.jv_model.specs.client.Profile.{handle_of, profile}
-use Rattle.jv_model.specs.client.ModelClient.{Flush as ModelFlush, OfFiles, OfAll, file_of}
+use Rattle.jv_model.specs.promise.client.Pending.{PendingByte, Segment, written}
+use Rattle.jv_model.specs.promise.client.Profile.{handle_of, profile}
+use Rattle.jv_model.specs.promise.client.ModelClient.{Flush as ModelFlush, OfFiles, OfAll, file_of}
 use Rattle.jv_model.specs.client.OpForms.{closed_by, is_transaction}
-use Rattle.jv_model.specs.Lists.{is_among}
+use Rattle.jv_model.specs.promise.Lists.{is_among}
 use Rattle.jv_cache.specs.Cached.{Cached}
 use Rattle.jv_client_reads.specs.declared.need.Need.{Need}
 use Rattle.jv_client_reads.specs.declared.need.Need.TheVariants as need

@@ -1,11 +1,11 @@
 -- What a step does to the yard: which block it put, if any, and that all else stays.
 use Rattle.std.specs.Prelude.{◌≡◌, ℕ, [], ◌∷◌, ◌++◌, Some}
 use Rattle.jv_model.specs.declared.act.ActKind.TheVariants.{Quiet}
-use Rattle.jv_model.specs.blocks.BlockNames.{IsBlock}
+use Rattle.jv_model.specs.promise.blocks.BlockNames.{IsBlock}
 use Rattle.jv_volume_bytes.specs.Flights.{Flight, flight_block}
 use Rattle.jv_yard.specs.declared.note.What.TheVariants.{Put}
 use Rattle.jv_yard.specs.BlockCalls.{note_of}
-use Rattle.jv_yard.specs.YardValue.{YardValue}
+use Rattle.jv_yard.specs.promise.YardValue.{YardValue}
 use Rattle.jv_client_puts.specs.Putting.{IsNextPut}
 use Rattle.jv_client.specs.declared.made.Made.{Made}
 use Rattle.jv_client.specs.declared.made.Made.TheVariants.{Request}

@@ -1,10 +1,10 @@
 //! Answers that need no further request.
 ghost use Rattle.std.specs.Prelude.{◌≡◌, ℕ, IfSome, IsSome, IsTrue, IfOk, OnErr, false, None, Some, if◌then◌else◌};
 ghost use Rattle.jv_model.specs.declared.act.Told.TheVariants.{Looks};
-ghost use Rattle.jv_model.specs.client.ModelClient.{file_of};
-ghost use Rattle.jv_model.specs.client.Profile.{handle_of};
+ghost use Rattle.jv_model.specs.promise.client.ModelClient.{file_of};
+ghost use Rattle.jv_model.specs.promise.client.Profile.{handle_of};
 ghost use Rattle.jv_model.specs.client.OpForms.{closed_by};
-ghost use Rattle.jv_client_shared.specs.Shared.{Shared};
+ghost use Rattle.jv_client_shared.specs.promise.Shared.{Shared};
 ghost use Rattle.jv_client.specs.Ending.{Finishes, closed, finished_here, refused_here, told_here, without};
 ghost use Rattle.jv_client.specs.UnderWay.{IsReady, ClosesOpen, Ends, HasKept, MayKeep, does_of, ends_itself, keeps, left, says_stats};
 ghost use Rattle.jv_client.specs.Stats.{AnswersStats, IsStatsOf, numbers_in};

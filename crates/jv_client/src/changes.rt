@@ -2,10 +2,10 @@
 ghost use Rattle.std.specs.Prelude.{◌≡◌, ℕ, IfSome, IsSome, IsTrue, None, map};
 ghost use Rattle.jv_model.specs.Optional.{mapped};
 ghost use Rattle.jv_model.specs.client.OpForms.{changes_bytes};
-ghost use Rattle.jv_outside.specs.Carriage.{Carriage};
-ghost use Rattle.jv_yard.specs.YardValue.{YardValue};
+ghost use Rattle.jv_outside.specs.promise.Carriage.{Carriage};
+ghost use Rattle.jv_yard.specs.promise.YardValue.{YardValue};
 ghost use Rattle.jv_client_handles.specs.Handles.{unseen};
-ghost use Rattle.jv_client.specs.Shared.{shared};
+ghost use Rattle.jv_client.specs.promise.Shared.{shared};
 ghost use Rattle.jv_model_steps.specs.Stages.{changes_files};
 ghost use Rattle.jv_client.specs.UnderWay.{IsReady, left};
 ghost use Rattle.jv_client.specs.Makes.{Makes};

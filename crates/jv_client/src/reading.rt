@@ -3,14 +3,14 @@ ghost use Rattle.std.specs.Prelude.{◌≡◌, ◌≢◌, ◌≤◌, ℕ, length
 ghost use Rattle.std.specs.Option.{option_map};
 ghost use Rattle.jv_model.specs.declared.limits.TheConstants.{LAST_CLIENT};
 ghost use Rattle.jv_model.specs.declared.profile.Does.TheVariants.{Reads};
-ghost use Rattle.jv_outside.specs.Carriage.{Carriage};
-ghost use Rattle.jv_outside.specs.Store.{Store};
-ghost use Rattle.jv_yard.specs.YardValue.{YardValue};
+ghost use Rattle.jv_outside.specs.promise.Carriage.{Carriage};
+ghost use Rattle.jv_outside.specs.promise.Store.{Store};
+ghost use Rattle.jv_yard.specs.promise.YardValue.{YardValue};
 ghost use Rattle.jv_client_shared.specs.Lengths.{IsLength};
 ghost use Rattle.jv_client_reads.specs.Fetching.{block_needed, first_window};
 ghost use Rattle.jv_client.specs.declared.doing.Progress.TheVariants.{Reading, Working};
 ghost use Rattle.jv_client.specs.ClientValue.{ClientValue};
-ghost use Rattle.jv_client.specs.Shared.{shared};
+ghost use Rattle.jv_client.specs.promise.Shared.{shared};
 ghost use Rattle.jv_client.specs.UnderWay.{IsReady, does_of, left, names_open};
 ghost use Rattle.jv_client.specs.Makes.{Makes};
 ghost use Rattle.jv_yard.specs.Refusals.{yard_fault};

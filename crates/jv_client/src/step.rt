@@ -2,7 +2,7 @@
 ghost use Rattle.std.specs.Prelude.{◌≡◌, ◌+◌, ◌≤◌, IsSome};
 ghost use Rattle.std.specs.Option.{option_map};
 ghost use Rattle.jv_client_shared.specs.Lengths.{IsLength};
-ghost use Rattle.jv_client.specs.Shared.{shared};
+ghost use Rattle.jv_client.specs.promise.Shared.{shared};
 ghost use Rattle.jv_client.specs.UnderWay.{IsReady, moved_to};
 ghost use Rattle.jv_client.specs.Makes.{Makes, Steps};
 ghost use Rattle.jv_client.specs.Stats.{AnswersStats};

@@ -2,11 +2,11 @@
 ghost use Rattle.std.specs.Prelude.{◌≡◌, ℕ, ◌<◌, IfErr, IsSome, IsTrue, is_some, length, OnOk, OnErr, Some, None};
 ghost use Rattle.jv_model.specs.declared.act.Told.TheVariants.{Refused};
 ghost use Rattle.jv_model.specs.declared.limits.TheConstants.{MAX_HANDLES, FILE_END};
-ghost use Rattle.jv_model.specs.client.ModelClient.{ModelClient, open_count};
-ghost use Rattle.jv_model.specs.client.Profile.{profile};
-ghost use Rattle.jv_model.specs.client.Submission.{submission, submission_of, submitted, names_closed, is_closed, is_mount, by_limits};
-ghost use Rattle.jv_client.specs.Built.{is_built_op};
-ghost use Rattle.jv_client_shared.specs.Shared.{Known, Shared};
+ghost use Rattle.jv_model.specs.promise.client.ModelClient.{ModelClient, open_count};
+ghost use Rattle.jv_model.specs.promise.client.Profile.{profile};
+ghost use Rattle.jv_model.specs.promise.client.Submission.{submission, submission_of, submitted, names_closed, is_closed, is_mount, by_limits};
+ghost use Rattle.jv_client.specs.promise.Built.{is_built_op};
+ghost use Rattle.jv_client_shared.specs.promise.Shared.{Known, Shared};
 ghost use Rattle.jv_client.specs.Makes.{IsCalm};
 ghost use Rattle.jv_client.specs.UnderWay.{IsReady, most_steps, steps_left};
 ghost use Rattle.jv_client.specs.Held.{IsClient, begun, flush_here, full_flush, files_here, in_flight, refused_with};

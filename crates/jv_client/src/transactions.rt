@@ -1,14 +1,14 @@
 //! Operations that are one metadata transaction, after what they flush.
 ghost use Rattle.std.specs.Prelude.{◌≡◌, ◌+◌, ◌≤◌, IsSome, IsTrue, IfSome, OnOk, None, Some, vec_len, vec_capacity};
 ghost use Rattle.jv_model.specs.Optional.{mapped};
-ghost use Rattle.jv_model.specs.client.ModelClient.{free_handle, with_file};
-ghost use Rattle.jv_model.specs.journal.State.{gift_of};
-ghost use Rattle.jv_model.specs.journal.Steps.{entry_of_gift, told_of};
+ghost use Rattle.jv_model.specs.promise.client.ModelClient.{free_handle, with_file};
+ghost use Rattle.jv_model.specs.promise.journal.State.{gift_of};
+ghost use Rattle.jv_model.specs.promise.journal.Steps.{entry_of_gift, told_of};
 ghost use Rattle.jv_client_metadata.specs.Attempts.{plain};
-ghost use Rattle.jv_outside.specs.Carriage.{Carriage};
-ghost use Rattle.jv_yard.specs.YardValue.{YardValue};
+ghost use Rattle.jv_outside.specs.promise.Carriage.{Carriage};
+ghost use Rattle.jv_yard.specs.promise.YardValue.{YardValue};
 ghost use Rattle.jv_client.specs.ClientValue.{ClientValue};
-ghost use Rattle.jv_client.specs.Shared.{shared};
+ghost use Rattle.jv_client.specs.promise.Shared.{shared};
 ghost use Rattle.jv_client_handles.specs.Handles.{new_handle};
 ghost use Rattle.jv_client.specs.Held.{is_last_here};
 ghost use Rattle.jv_client.specs.UnderWay.{IsReady, asks_more, does_of, left, makes_transaction};

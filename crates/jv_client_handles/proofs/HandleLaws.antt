@@ -7,12 +7,12 @@ use Rattle.std.specs.List.{AllByRecursion}
 use Rattle.std.proofs.lemmas.Bool.Decides.{eqb_tells}
 use Rattle.std.proofs.lemmas.Bool.{cases_eq}
 use Rattle.std.proofs.Common.{inl, inr}
-use Rattle.jv_model.specs.client.ModelClient.{OpenFile, View as ModelView, file_of, free_handle, held_inodes, inode_in}
-use Rattle.jv_model.specs.client.ModelClient.{open_count, views_without, with_file}
-use Rattle.jv_model.specs.journal.Reading.{fresh_view}
-use Rattle.jv_model.specs.tree.Tree.{Tree}
-use Rattle.jv_model.specs.Lists.{is_among}
-use Rattle.jv_client_shared.specs.Shared.{HasStore, Known, Shared}
+use Rattle.jv_model.specs.promise.client.ModelClient.{OpenFile, View as ModelView, file_of, free_handle, held_inodes, inode_in}
+use Rattle.jv_model.specs.promise.client.ModelClient.{open_count, views_without, with_file}
+use Rattle.jv_model.specs.promise.journal.Reading.{fresh_view}
+use Rattle.jv_model.specs.promise.tree.Tree.{Tree}
+use Rattle.jv_model.specs.promise.Lists.{is_among}
+use Rattle.jv_client_shared.specs.promise.Shared.{HasStore, Known, Shared}
 use Rattle.jv_client_shared.specs.Seen.{IsView}
 use Rattle.jv_client_shared.specs.Keeping.{KeepsShared}
 use Rattle.jv_client_shared.proofs.StoreLaws.{view-stays}

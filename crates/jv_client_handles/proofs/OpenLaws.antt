@@ -5,8 +5,8 @@ use Rattle.std.proofs.Common.{add-one, drop-cons}
 use Rattle.std.specs.Prelude.{◌==◌, nat_le, if◌then◌else◌}
 use Rattle.std.proofs.lemmas.List.{drop_all, get_or_default}
 use Rattle.std.proofs.lemmas.Bool.{eq-eqb, ne_eqb, leb-false}
-use Rattle.jv_model.specs.client.ModelClient.{with_file}
-use Rattle.jv_model.specs.Lists.{is_among}
+use Rattle.jv_model.specs.promise.client.ModelClient.{with_file}
+use Rattle.jv_model.specs.promise.Lists.{is_among}
 use Rattle.jv_client_handles.specs.declared.handle.Handle.{Handle}
 use Rattle.jv_client_handles.specs.Handles.{held_here}
 

@@ -11,8 +11,8 @@ use Rattle.std.specs.declared.cmp.Ordering.TheVariants.{Less, Equal, Greater}
 use Rattle.std.proofs.lemmas.Bool.{le-ltb}
 use Rattle.std.proofs.lemmas.Bool.Decides.{eqb_tells, nat_tests}
 use Rattle.std.proofs.lemmas.Cmp.{ranked}
-use Rattle.jv_model.specs.client.ModelClient.{OpenFile, View as ModelView, views_without}
-use Rattle.jv_model.specs.journal.Reading.{fresh_view, is_fresh}
+use Rattle.jv_model.specs.promise.client.ModelClient.{OpenFile, View as ModelView, views_without}
+use Rattle.jv_model.specs.promise.journal.Reading.{fresh_view, is_fresh}
 use Rattle.jv_client_handles.specs.declared.views.View.{View}
 use Rattle.jv_client_handles.specs.Views.{SeenViews, view_at, with_view, without_view}
 

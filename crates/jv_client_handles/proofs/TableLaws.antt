@@ -4,7 +4,7 @@ use Rattle.std.proofs.Common.{map, slice_get, slice_set, Option, None, Some, ref
 use Rattle.std.specs.Prelude.{nat_le, is_some, ◌==◌, if◌then◌else◌}
 use Rattle.std.proofs.lemmas.Bool.{le-leb}
 use Rattle.std.proofs.lemmas.Bool.Decides.{nat_tests}
-use Rattle.jv_model.specs.client.ModelClient.{file_in, file_of, free_from, open_count, with_file}
+use Rattle.jv_model.specs.promise.client.ModelClient.{file_in, file_of, free_from, open_count, with_file}
 use Rattle.jv_client_handles.specs.Held.{SamePlace, SameTable}
 
 -- one table

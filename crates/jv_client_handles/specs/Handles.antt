@@ -1,10 +1,10 @@
 -- The table of a client's open files.
 use Rattle.std.specs.Prelude.{ℕ, ◌==◌, if◌then◌else◌, List, [], ◌∷◌, Option, None, Some}
-use Rattle.jv_model.specs.client.ModelClient.{file_of}
+use Rattle.jv_model.specs.promise.client.ModelClient.{file_of}
 use Rattle.jv_client_handles.specs.declared.handle.Handle.{Handle}
 use Rattle.jv_client_handles.specs.declared.views.View.{View}
 use Rattle.jv_client_handles.specs.Views.{no_views, with_view, without_view}
-use Rattle.jv_model.specs.Lists.{numbers_of}
+use Rattle.jv_model.specs.promise.Lists.{numbers_of}
 use Rattle.std.specs.Option.{option_map_or}
 
 -- the inode of a handle's file, 0 where it isn't open

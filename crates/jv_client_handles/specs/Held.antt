@@ -1,8 +1,8 @@
 -- When open files of a client stand for those of the model.
 use Rattle.std.specs.Prelude.{◌≡◌, ℕ, ◌+◌, ◌≤◌, List, [], ◌∷◌, Option, None, Some}
-use Rattle.jv_model.specs.client.ModelClient.{OpenFile, View as ModelView}
-use Rattle.jv_model.specs.journal.Reading.{fresh_view}
-use Rattle.jv_client_shared.specs.Shared.{Known, Shared}
+use Rattle.jv_model.specs.promise.client.ModelClient.{OpenFile, View as ModelView}
+use Rattle.jv_model.specs.promise.journal.Reading.{fresh_view}
+use Rattle.jv_client_shared.specs.promise.Shared.{Known, Shared}
 use Rattle.jv_client_shared.specs.Seen.{IsView}
 use Rattle.jv_client_handles.specs.declared.handle.Handle.{Handle}
 use Rattle.jv_client_handles.specs.declared.views.View.{View}

@@ -2,8 +2,8 @@
 ghost use Rattle.std.specs.Prelude.{◌≡◌, ◌+◌, ◌-◌, ◌<◌, ◌≤◌, ◌^◌, ◌==◌, ◌&&◌, not, None, Some, IsSome, IfOk, OnOk};
 ghost use Rattle.std.specs.Prelude.{OnErr, is_some, [], ◌∷◌, length, map, vec_len, vec_capacity};
 ghost use Rattle.std.specs.Option.{option_copied};
-ghost use Rattle.jv_model.specs.client.ModelClient.{file_of, free_handle, open_count, with_file};
-ghost use Rattle.jv_model.specs.Lists.{is_among};
+ghost use Rattle.jv_model.specs.promise.client.ModelClient.{file_of, free_handle, open_count, with_file};
+ghost use Rattle.jv_model.specs.promise.Lists.{is_among};
 ghost use Rattle.jv_client_handles.specs.Handles.{held_here, inode_here, seen_by, unseen, unseen_by};
 ghost use Rattle.jv_client_handles.specs.Views.{HasRecords};
 

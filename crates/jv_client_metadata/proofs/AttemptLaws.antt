@@ -9,16 +9,16 @@ use Rattle.jv_model.specs.declared.op.Op.{Op}
 use Rattle.jv_model.specs.declared.op.Op.TheVariants as op
 use Rattle.jv_model.specs.declared.op.Reply.{Reply}
 use Rattle.jv_model.specs.declared.op.Reply.TheVariants.{Done}
-use Rattle.jv_model.specs.rows.RowKeys.{RowMap}
-use Rattle.jv_model.specs.tree.Tree.{Tree}
-use Rattle.jv_model.specs.tree.Caller.{Caller, Outcome}
-use Rattle.jv_model.specs.tree.Removing.{unlink}
-use Rattle.jv_model.specs.tree.Renaming.{rename}
-use Rattle.jv_outside.specs.Store.{Store}
-use Rattle.jv_model.specs.journal.State.{is_refused}
+use Rattle.jv_model.specs.promise.rows.RowKeys.{RowMap}
+use Rattle.jv_model.specs.promise.tree.Tree.{Tree}
+use Rattle.jv_model.specs.promise.tree.Caller.{Caller, Outcome}
+use Rattle.jv_model.specs.promise.tree.Removing.{unlink}
+use Rattle.jv_model.specs.promise.tree.Renaming.{rename}
+use Rattle.jv_outside.specs.promise.Store.{Store}
+use Rattle.jv_model.specs.promise.journal.State.{is_refused}
 use Rattle.jv_rows.specs.Transactions.{Landed, Lands, Transacts, Always}
-use Rattle.jv_volume.specs.TypedRows.{typed}
-use Rattle.jv_volume.specs.TreeOf.{tree_of}
+use Rattle.jv_volume.specs.promise.TypedRows.{typed}
+use Rattle.jv_volume.specs.promise.TreeOf.{tree_of}
 use Rattle.jv_links.specs.declared.fates.Removed.{Removed}
 use Rattle.jv_links.specs.Removals.{HoldsFiles, SaysSustained, kept_of, removed_in, renamed_in}
 use Rattle.jv_client_metadata.specs.declared.answers.Answer.{Answer}

@@ -3,15 +3,15 @@ use Rattle.std.specs.Prelude.{◌≡◌, ℕ, false, Option, None, Some, Result,
 use Rattle.jv_model.specs.declared.fault.TxFault.{TxFault}
 use Rattle.jv_model.specs.declared.op.Op.{Op}
 use Rattle.jv_model.specs.declared.op.Reply.{Reply}
-use Rattle.jv_model.specs.journal.State.{is_refused}
-use Rattle.jv_model.specs.rows.RowKeys.{RowMap}
-use Rattle.jv_model.specs.tree.Caller.{Caller, outcome}
-pub use Rattle.jv_model.specs.tree.TreeAct.{attempt}
+use Rattle.jv_model.specs.promise.journal.State.{is_refused}
+use Rattle.jv_model.specs.promise.rows.RowKeys.{RowMap}
+use Rattle.jv_model.specs.promise.tree.Caller.{Caller, outcome}
+pub use Rattle.jv_model.specs.promise.tree.TreeAct.{attempt}
 use Rattle.jv_model.specs.client.OpForms.{takes_entries}
-use Rattle.jv_outside.specs.Store.{Store}
-use Rattle.jv_volume.specs.TypedRows.{typed}
-use Rattle.jv_volume.specs.TreeOf.{tree_of}
-use Rattle.jv_volume.specs.Whole.{Whole}
+use Rattle.jv_outside.specs.promise.Store.{Store}
+use Rattle.jv_volume.specs.promise.TypedRows.{typed}
+use Rattle.jv_volume.specs.promise.TreeOf.{tree_of}
+use Rattle.jv_volume.specs.promise.Whole.{Whole}
 use Rattle.jv_links.specs.Removals.{HoldsFiles, KeepsAnew}
 use Rattle.jv_client_metadata.specs.declared.answers.Answer.{Answer}
 

@@ -1,9 +1,10 @@
 //! Each operation on metadata goes to the crate of its transaction.
 ghost use Rattle.std.specs.Prelude.{IsTrue};
-ghost use Rattle.jv_client_metadata.specs.Attempts.{AnswersPlainly, Asks, attempt, SaysKept};
-ghost use Rattle.jv_model.specs.script.Spelled.{is_spelled};
+ghost use Rattle.jv_client_metadata.specs.Attempts.{AnswersPlainly, Asks, SaysKept};
+ghost use Rattle.jv_model.specs.promise.tree.TreeAct.{attempt};
+ghost use Rattle.jv_model.specs.promise.script.Spelled.{is_spelled};
 ghost use Rattle.jv_links.specs.Removals.{HoldsFiles};
-ghost use Rattle.jv_model.specs.tree.Caller.{Caller};
+ghost use Rattle.jv_model.specs.promise.tree.Caller.{Caller};
 ghost use Rattle.jv_model.specs.client.OpForms.{is_metadata};
 ghost use Rattle.jv_rows.specs.Transactions.{IsFor, Transacts};
 

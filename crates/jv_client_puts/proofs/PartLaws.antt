@@ -3,8 +3,8 @@ use Rattle.std.proofs.Common.{◌≡◌, ℕ, ◌+◌, ◌-◌, ◌*◌, ◌<◌
 use Rattle.std.proofs.lemmas.List.{length-take, length-drop}
 use Rattle.jv_model.specs.declared.limits.TheConstants.{WINDOW}
 use Rattle.jv_model.specs.declared.setting.Setting.{Setting}
-use Rattle.jv_model.specs.blocks.BlockNames.{block_name_of}
-use Rattle.jv_model.specs.blocks.Slices.{block_at, block_count, block_length}
+use Rattle.jv_model.specs.promise.blocks.BlockNames.{block_name_of}
+use Rattle.jv_model.specs.promise.blocks.Slices.{block_at, block_count, block_length}
 use Rattle.jv_outside.specs.declared.parcel.Parcel.{Parcel}
 use Rattle.jv_outside.specs.Parcels.{StandsFor}
 use Rattle.jv_client_shared.proofs.FlyingLaws.{slice_block-is}

@@ -3,13 +3,14 @@
 use Rattle.std.proofs.Common.{◌≡◌, ℕ, ◌+◌, ◌<◌, ◌≤◌, length, refl, sym, subst}
 use Rattle.std.specs.Prelude.{Ok, Err}
 use Rattle.jv_model.specs.declared.limits.TheConstants.{WINDOW}
-use Rattle.jv_model.specs.blocks.Slices.{block_count}
-use Rattle.jv_model.specs.tree.Tree.{Tree}
-use Rattle.jv_outside.specs.Carriage.{Carriage}
+use Rattle.jv_model.specs.promise.blocks.Slices.{block_count}
+use Rattle.jv_model.specs.promise.tree.Tree.{Tree}
+use Rattle.jv_outside.specs.promise.Carriage.{Carriage}
 use Rattle.jv_volume_bytes.specs.Flights.{Flight, flight_block, flight_bytes}
 use Rattle.jv_yard.specs.declared.faults.YardFault.TheVariants.{Depot as YardDepot}
-use Rattle.jv_yard.specs.YardValue.{YardValue}
-use Rattle.jv_client_shared.specs.Shared.{HasStore, Known, Shared, depot_in, with_block}
+use Rattle.jv_yard.specs.promise.YardValue.{YardValue}
+use Rattle.jv_client_shared.specs.promise.Shared.{HasStore, Known, Shared, depot_in}
+use Rattle.jv_client_shared.specs.Shared.{with_block}
 use Rattle.jv_client_shared.specs.Flying.{Flies}
 use Rattle.jv_client_shared.specs.Direct.{HasPut}
 use Rattle.jv_client_shared.specs.Keeping.{HoldsSame, Leads}

@@ -3,10 +3,10 @@ use Rattle.std.proofs.Common.{◌≡◌, ℕ, Bool, true, false, refl, ap}
 use Rattle.std.specs.Prelude.{Result, Ok, Err}
 use Rattle.jv_model.specs.declared.fault.Device.{Device}
 use Rattle.jv_model.specs.declared.fault.Device.TheVariants.{Carrier as OfCarrier, Depot as OfDepot}
-use Rattle.jv_outside.specs.Carriage.{Carriage}
-use Rattle.jv_outside.specs.Causes.{RoseIf}
+use Rattle.jv_outside.specs.promise.Carriage.{Carriage}
+use Rattle.jv_outside.specs.promise.Causes.{RoseIf}
 use Rattle.jv_volume_bytes.specs.Flights.{Flight}
-use Rattle.jv_yard.specs.YardValue.{YardValue}
+use Rattle.jv_yard.specs.promise.YardValue.{YardValue}
 use Rattle.jv_client_puts.specs.declared.putting.PutFault.{PutFault}
 use Rattle.jv_client_puts.specs.declared.putting.PutFault.TheVariants.{Carrier, Depot, Memory}
 use Rattle.jv_client_puts.specs.Putting.{PutsFlight}

@@ -6,15 +6,15 @@ use Rattle.jv_model.specs.declared.fault.Down.{Down}
 use Rattle.jv_model.specs.declared.fault.Down.TheVariants.{Failed, Memory as OutOfMemory}
 use Rattle.jv_model.specs.declared.fault.Fault.{Fault}
 use Rattle.jv_model.specs.declared.fault.Fault.TheVariants.{DeviceFailed, NoMemory}
-use Rattle.jv_model.specs.blocks.BlockNames.{name_in}
+use Rattle.jv_model.specs.promise.blocks.BlockNames.{name_in}
 use Rattle.jv_outside.specs.declared.parcel.Parcel.{Parcel}
-use Rattle.jv_outside.specs.Carriage.{Carriage, FailsToCarry, IsAt}
+use Rattle.jv_outside.specs.promise.Carriage.{Carriage, FailsToCarry, IsAt}
 use Rattle.jv_outside.specs.Parcels.{StandsFor}
 use Rattle.jv_volume_bytes.specs.Flights.{Flight, flight_block, flight_bytes}
 use Rattle.jv_yard.specs.declared.faults.YardFault.TheVariants.{Depot as YardDepot}
 use Rattle.jv_yard.specs.BlockCalls.{IsPut}
 use Rattle.jv_yard.specs.Refusals.{Refuses}
-use Rattle.jv_yard.specs.YardValue.{YardValue}
+use Rattle.jv_yard.specs.promise.YardValue.{YardValue}
 use Rattle.jv_client_puts.specs.declared.putting.PutFault.{PutFault}
 use Rattle.jv_client_puts.specs.declared.putting.PutFault.TheVariants.{Carrier, Depot, Memory}
 

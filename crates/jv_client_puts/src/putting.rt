@@ -1,7 +1,7 @@
 //! Blocks of a slice, put where the volume's objects are.
 ghost use Rattle.std.specs.Prelude.{◌≡◌, ◌<◌, ◌≤◌, length};
 ghost use Rattle.jv_client_puts.specs.Putting.{PutsFlight, carrier_fault_of};
-ghost use Rattle.jv_model.specs.blocks.Slices.{block_count};
+ghost use Rattle.jv_model.specs.promise.blocks.Slices.{block_count};
 ghost use Rattle.jv_model.specs.declared.limits.TheConstants.{WINDOW};
 ghost use Rattle.jv_client_shared.specs.Lengths.{IsLength};
 

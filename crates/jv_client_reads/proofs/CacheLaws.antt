@@ -7,17 +7,17 @@ use Rattle.std.specs.Map.{lookup, lookup_entry, remove_entry}
 use Rattle.std.specs.Option.{option_map_or}
 use Rattle.std.proofs.lemmas.List.Sums.{fold-append}
 use Rattle.std.proofs.lemmas.List.Elements.{All-append, All-cons, All-contains, All-from_recursion, All-nil, All-weaker}
-use Rattle.jv_model.specs.Counts.{counted}
+use Rattle.jv_model.specs.promise.Counts.{counted}
 use Rattle.jv_model.specs.declared.slice.BlockId.{BlockId}
 use Rattle.jv_model.specs.declared.slice.Rec.{Rec}
-use Rattle.jv_model.specs.blocks.Slices.{block_at}
+use Rattle.jv_model.specs.promise.blocks.Slices.{block_at}
 use Rattle.lru.specs.LruCache.{lru_cache, promoted, put_entries}
 use Rattle.jv_cache.specs.declared.key.BlockKey.{BlockKey}
 use Rattle.jv_cache.specs.Keys.{same_key}
 use Rattle.jv_cache.specs.Cached.{Cached, found_in, kept_in, noted_in, promoted_in}
 use Rattle.jv_cache.proofs.CachedLaws.{equal_if_same}
 use Rattle.jv_cache.proofs.PairLaws.{entry_found}
-use Rattle.jv_volume_bytes.specs.Blocks.{Blocks, Grows}
+use Rattle.jv_volume_bytes.specs.promise.Blocks.{Blocks, Grows}
 use Rattle.jv_client_handles.specs.declared.views.View.{View}
 use Rattle.jv_client_handles.specs.Views.{SeenViews, view_at}
 use Rattle.jv_slices_reading.specs.Parts.{IsNamed}

@@ -9,8 +9,8 @@ use Rattle.std.proofs.lemmas.List.Elements.{All-head}
 use Rattle.std.proofs.lemmas.Nat.{div-add-mod', mod_below}
 use Rattle.jv_model.specs.declared.limits.TheConstants.{FILE_END, WINDOW}
 use Rattle.jv_model.specs.declared.slice.BlockId.{BlockId}
-use Rattle.jv_model.specs.journal.Reading.{Asked, asked_parts}
-use Rattle.jv_volume_bytes.specs.Blocks.{Blocks, Grows, known_by}
+use Rattle.jv_model.specs.promise.journal.Reading.{Asked, asked_parts}
+use Rattle.jv_volume_bytes.specs.promise.Blocks.{Blocks, Grows, known_by}
 use Rattle.jv_volume_bytes.proofs.BlockLaws.{grows-none, grows-then}
 use Rattle.jv_client_handles.specs.declared.views.View.{View}
 use Rattle.jv_client_handles.specs.Views.{SeenViews, view_at, with_view}

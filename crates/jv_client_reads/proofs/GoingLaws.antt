@@ -7,10 +7,10 @@ use Rattle.std.proofs.lemmas.List.{append_assoc, drop-drop}
 use Rattle.std.proofs.lemmas.List.Elements.{All-drop}
 use Rattle.jv_model.specs.declared.slice.BlockId.{BlockId}
 use Rattle.jv_model.specs.declared.slice.Rec.{Rec}
-use Rattle.jv_model.specs.journal.Reading.{Asked, bytes_from, window_start}
+use Rattle.jv_model.specs.promise.journal.Reading.{Asked, bytes_from, window_start}
 use Rattle.jv_cache.specs.Cached.{Cached, found_in, noted_in}
-use Rattle.jv_volume_bytes.specs.Blocks.{Blocks, known_by}
-use Rattle.jv_volume_bytes.specs.Bytes.{KnownBytes}
+use Rattle.jv_volume_bytes.specs.promise.Blocks.{Blocks, known_by}
+use Rattle.jv_volume_bytes.specs.promise.Bytes.{KnownBytes}
 use Rattle.jv_client_handles.specs.declared.views.View.{View}
 use Rattle.jv_client_handles.specs.Views.{SeenViews, view_at}
 use Rattle.jv_slices_reading.specs.Parts.{IsNamed, Part, ReadsAs, window_byte}

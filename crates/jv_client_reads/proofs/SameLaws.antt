@@ -6,15 +6,16 @@ use Rattle.std.specs.Prelude.{◌≢◌, ◌==◌, ◌&&◌, nat_le, if◌then�
 use Rattle.std.specs.List.{AllByRecursion}
 use Rattle.std.specs.Option.{option_map}
 use Rattle.jv_model.specs.declared.limits.TheConstants.{WINDOW}
-use Rattle.jv_model.specs.client.ModelClient.{OpenFile, View as ModelView}
-use Rattle.jv_model.specs.journal.Reading.{Asked, asked_parts, bytes_between, bytes_from, cited_view}
-use Rattle.jv_model.specs.journal.Reading.{fresh_view, is_fresh, is_full, joined, part_read, part_to_look}
-use Rattle.jv_model.specs.journal.Reading.{read_on, reading, window_start}
+use Rattle.jv_model.specs.promise.client.ModelClient.{OpenFile, View as ModelView}
+use Rattle.jv_model.specs.promise.journal.Reading.{Asked, asked_parts, bytes_between, bytes_from, cited_view}
+use Rattle.jv_model.specs.promise.journal.Reading.{fresh_view, is_fresh, is_full, joined, part_read, part_to_look}
+use Rattle.jv_model.specs.promise.journal.Reading.{read_on, reading, window_start}
 use Rattle.jv_model.specs.declared.slice.Rec.{Rec}
-use Rattle.jv_model.specs.Optional.{provided}
-use Rattle.jv_volume_bytes.specs.Blocks.{known_by}
-use Rattle.jv_volume_bytes.specs.Bytes.{KnownBytes}
-use Rattle.jv_client_shared.specs.Shared.{Known, Shared, rows_in}
+use Rattle.jv_model.specs.promise.Optional.{provided}
+use Rattle.jv_volume_bytes.specs.promise.Blocks.{known_by}
+use Rattle.jv_volume_bytes.specs.promise.Bytes.{KnownBytes}
+use Rattle.jv_client_shared.specs.promise.Shared.{Known, Shared}
+use Rattle.jv_client_shared.specs.Shared.{rows_in}
 use Rattle.jv_client_shared.specs.Seen.{IsFound}
 use Rattle.jv_client_shared.proofs.SeenLaws.{bytes_from-same}
 use Rattle.jv_client_handles.specs.declared.handle.Handle.{Handle}

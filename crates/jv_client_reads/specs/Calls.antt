@@ -4,11 +4,11 @@ use Rattle.std.specs.Prelude.{true, Option, None, Some, Result, Ok, Err}
 use Rattle.std.specs.List.{AllByRecursion}
 use Rattle.jv_model.specs.declared.slice.BlockId.{BlockId}
 use Rattle.jv_model.specs.declared.slice.Rec.{Rec}
-use Rattle.jv_model.specs.blocks.Slices.{block_at}
-use Rattle.jv_model.specs.journal.Reading.{Asked}
+use Rattle.jv_model.specs.promise.blocks.Slices.{block_at}
+use Rattle.jv_model.specs.promise.journal.Reading.{Asked}
 use Rattle.jv_cache.specs.declared.key.BlockKey.{BlockKey}
 use Rattle.jv_cache.specs.Cached.{Cached, found_in, kept_in, noted_in}
-use Rattle.jv_volume_bytes.specs.Blocks.{Blocks}
+use Rattle.jv_volume_bytes.specs.promise.Blocks.{Blocks}
 use Rattle.jv_client_handles.specs.declared.views.View.{View}
 use Rattle.jv_client_handles.specs.Views.{SeenViews, view_at}
 use Rattle.jv_slices_reading.specs.Parts.{IsNamed}

@@ -1,7 +1,7 @@
 -- A reading of a range, window by window.
 use Rattle.std.specs.Prelude.{ℕ, zero, suc, ◌+◌, ◌-◌, List, [], ◌∷◌, ◌++◌, drop, length, slice_get, Option, None, Some}
 use Rattle.jv_model.specs.declared.slice.BlockId.{BlockId}
-use Rattle.jv_model.specs.journal.Reading.{Asked}
+use Rattle.jv_model.specs.promise.journal.Reading.{Asked}
 use Rattle.jv_client_reads.specs.declared.begun.Begun.{Begun}
 use Rattle.jv_client_reads.specs.declared.begun.Read.{Read}
 

@@ -1,8 +1,8 @@
 -- What holds of a reading while it goes on.
 use Rattle.std.specs.Prelude.{◌≡◌, ℕ, ◌+◌, ◌<◌, ◌≤◌, nat_le, All, IfSome, List, [], ◌∷◌, length, Option, None}
 use Rattle.std.specs.Prelude.{Some}
-use Rattle.jv_model.specs.journal.Reading.{Asked}
-use Rattle.jv_volume_bytes.specs.Blocks.{Blocks, Grows, known_by}
+use Rattle.jv_model.specs.promise.journal.Reading.{Asked}
+use Rattle.jv_volume_bytes.specs.promise.Blocks.{Blocks, Grows, known_by}
 use Rattle.jv_client_handles.specs.declared.views.View.{View}
 use Rattle.jv_client_handles.specs.Views.{SeenViews, view_at}
 use Rattle.jv_slices_reading.specs.Parts.{IsNamed, IsPartOf}

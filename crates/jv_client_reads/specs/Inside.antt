@@ -4,10 +4,10 @@ use Rattle.std.specs.Prelude.{slice_get, Option, None, Some, IfSome, IsSomeAnd}
 use Rattle.std.specs.List.{AllByRecursion}
 use Rattle.jv_model.specs.declared.limits.TheConstants.{WINDOW}
 use Rattle.jv_model.specs.declared.slice.BlockId.{BlockId}
-use Rattle.jv_model.specs.journal.Reading.{Asked, bytes_from, window_start}
+use Rattle.jv_model.specs.promise.journal.Reading.{Asked, bytes_from, window_start}
 use Rattle.jv_cache.specs.Cached.{Cached, found_in, noted_in}
-use Rattle.jv_volume_bytes.specs.Blocks.{Blocks}
-use Rattle.jv_volume_bytes.specs.Bytes.{KnownBytes}
+use Rattle.jv_volume_bytes.specs.promise.Blocks.{Blocks}
+use Rattle.jv_volume_bytes.specs.promise.Bytes.{KnownBytes}
 use Rattle.jv_client_handles.specs.declared.views.View.{View}
 use Rattle.jv_client_handles.specs.Views.{SeenViews, view_at}
 use Rattle.jv_slices_reading.specs.Parts.{FillsIn, IsPartOf, Part, ReadsAs, window_byte}

@@ -3,13 +3,13 @@ use Rattle.std.specs.Prelude.{◌≡◌, ℕ, ◌+◌, ◌<◌, ◌≤◌, List,
 use Rattle.std.specs.Option.{option_map}
 use Rattle.jv_model.specs.declared.limits.TheConstants.{FILE_END, WINDOW}
 use Rattle.jv_model.specs.declared.slice.BlockId.{BlockId}
-use Rattle.jv_model.specs.blocks.Slices.{block_at}
-use Rattle.jv_model.specs.client.ModelClient.{OpenFile, View as ModelView}
-use Rattle.jv_model.specs.journal.Reading.{Asked, asked_parts, part_to_look, reading}
+use Rattle.jv_model.specs.promise.blocks.Slices.{block_at}
+use Rattle.jv_model.specs.promise.client.ModelClient.{OpenFile, View as ModelView}
+use Rattle.jv_model.specs.promise.journal.Reading.{Asked, asked_parts, part_to_look, reading}
 use Rattle.jv_cache.specs.declared.key.BlockKey.{BlockKey}
 use Rattle.jv_cache.specs.Cached.{Cached, found_in}
-use Rattle.jv_volume_bytes.specs.Blocks.{Blocks, Grows, known_by}
-use Rattle.jv_client_shared.specs.Shared.{Known, Shared}
+use Rattle.jv_volume_bytes.specs.promise.Blocks.{Blocks, Grows, known_by}
+use Rattle.jv_client_shared.specs.promise.Shared.{Known, Shared}
 use Rattle.jv_client_handles.specs.declared.handle.Handle.{Handle}
 use Rattle.jv_client_handles.specs.declared.views.View.{View}
 use Rattle.jv_client_handles.specs.Held.{IsHandle}

@@ -1,8 +1,8 @@
 -- What a range of a file reads as, by what its handle saw.
 use Rattle.std.specs.Prelude.{◌≡◌, ◌⊎◌, ℕ, ◌-◌, ◌<◌, ◌≤◌, min, nat_le, if◌then◌else◌, List, [], ◌∷◌, ◌++◌, Option, None}
 use Rattle.std.specs.Prelude.{Some}
-use Rattle.jv_model.specs.journal.Reading.{Asked, bytes_from, window_start}
-use Rattle.jv_volume_bytes.specs.Bytes.{KnownBytes}
+use Rattle.jv_model.specs.promise.journal.Reading.{Asked, bytes_from, window_start}
+use Rattle.jv_volume_bytes.specs.promise.Bytes.{KnownBytes}
 use Rattle.jv_client_handles.specs.declared.views.View.{View}
 use Rattle.jv_client_handles.specs.Views.{SeenViews, view_at}
 use Rattle.jv_slices_reading.specs.Parts.{window_byte}

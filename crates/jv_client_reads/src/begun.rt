@@ -1,7 +1,7 @@
 //! A part of a range, while its blocks come.
 ghost use Rattle.std.specs.Prelude.{◌≡◌, ◌≢◌, ◌≤◌, ◌<◌, ◌-◌, Some, length, slice_get, IfOk, true, false};
 ghost use Rattle.std.specs.List.{AllByRecursion};
-ghost use Rattle.jv_volume_bytes.specs.Blocks.{Blocks};
+ghost use Rattle.jv_volume_bytes.specs.promise.Blocks.{Blocks};
 ghost use Rattle.jv_cache.specs.Cached.{noted_in};
 ghost use Rattle.jv_client_handles.specs.Views.{HasRecords};
 ghost use Rattle.jv_slices_reading.specs.Laws.{ReadsBlocks};

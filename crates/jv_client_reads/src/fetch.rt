@@ -50,8 +50,8 @@ impl Model for Fetch {
 impl Fetch {
     ghost use Rattle.std.specs.Prelude.{ℕ, ◌-◌, ◌<◌, List, [], ◌∷◌, OnOk, Some, None};
     ghost use Rattle.jv_model.specs.declared.limits.TheConstants.{WINDOW, FILE_END};
-    ghost use Rattle.jv_model.specs.journal.Reading.{Asked, asked_parts};
-    ghost use Rattle.jv_volume_bytes.specs.Blocks.{Blocks};
+    ghost use Rattle.jv_model.specs.promise.journal.Reading.{Asked, asked_parts};
+    ghost use Rattle.jv_volume_bytes.specs.promise.Blocks.{Blocks};
     ghost use Rattle.jv_client_handles.specs.Views.{SeenViews};
     ghost use Rattle.jv_client_reads.specs.Fetching.{begins, block_needed, fetch_left, fetched_of, first_window};
     ghost use Rattle.jv_client_reads.specs.Going.{CanFetch, IsFetching};

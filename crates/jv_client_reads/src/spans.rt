@@ -2,7 +2,7 @@
 ghost use Rattle.std.specs.Prelude.{◌≡◌, ◌<◌, ◌≤◌, length};
 ghost use Rattle.std.specs.List.{AllByRecursion};
 ghost use Rattle.jv_model.specs.declared.limits.TheConstants.{WINDOW, FILE_END};
-ghost use Rattle.jv_model.specs.journal.Reading.{asked_parts};
+ghost use Rattle.jv_model.specs.promise.journal.Reading.{asked_parts};
 ghost use Rattle.jv_client_reads.specs.Inside.{IsWithin, parts_of};
 
 use jv_model::{FILE_END, WINDOW};

@@ -21,21 +21,22 @@ use Rattle.jv_model.specs.declared.row.RowKey.{RowKey}
 use Rattle.jv_model.specs.declared.setting.Setting.{Setting}
 use Rattle.jv_model.specs.declared.slice.Rec.{Rec}
 use Rattle.jv_model.specs.rows.RowFaults.{row_fault}
-use Rattle.jv_model.specs.rows.RowKeys.{RowMap}
-use Rattle.jv_model.specs.tree.Tree.{Tree}
-use Rattle.jv_model.specs.tree.Caller.{Caller, Outcome, outcome}
-use Rattle.jv_model.specs.tree.FileBytes.{copy, truncate}
-use Rattle.jv_model.specs.client.ModelClient.{ModelClient, Doing, Working, inode_at}
-use Rattle.jv_model.specs.client.Submission.{is_flushed}
-use Rattle.jv_model.specs.journal.State.{State, after_told, caller, without_views}
-use Rattle.jv_model.specs.journal.Steps.{Start, is_crowded}
-use Rattle.jv_outside.specs.Store.{Store}
-use Rattle.jv_volume.specs.TypedRows.{Rows, typed}
-use Rattle.jv_volume_bytes.specs.Bytes.{tree_with}
-use Rattle.jv_volume_bytes.specs.Counts.{record_count}
+use Rattle.jv_model.specs.promise.rows.RowKeys.{RowMap}
+use Rattle.jv_model.specs.promise.tree.Tree.{Tree}
+use Rattle.jv_model.specs.promise.tree.Caller.{Caller, Outcome, outcome}
+use Rattle.jv_model.specs.promise.tree.FileBytes.{copy, truncate}
+use Rattle.jv_model.specs.promise.client.ModelClient.{ModelClient, Doing, Working, inode_at}
+use Rattle.jv_model.specs.promise.client.Submission.{is_flushed}
+use Rattle.jv_model.specs.promise.journal.State.{State, after_told, caller, without_views}
+use Rattle.jv_model.specs.promise.journal.Steps.{Start, is_crowded}
+use Rattle.jv_outside.specs.promise.Store.{Store}
+use Rattle.jv_volume.specs.promise.TypedRows.{Rows, typed}
+use Rattle.jv_volume_bytes.specs.promise.Bytes.{tree_with}
+use Rattle.jv_volume_bytes.specs.promise.Counts.{record_count}
 use Rattle.jv_data.specs.Changing.{AnyBytes, Changes, IsCrowded, IsFull, LandsChanged, Makes, Never}
 use Rattle.jv_client_shared.specs.Keeping.{HoldsSame}
-use Rattle.jv_client_shared.specs.Shared.{HasStore, Known, Shared, rows_in, typed_in}
+use Rattle.jv_client_shared.specs.promise.Shared.{HasStore, Known, Shared}
+use Rattle.jv_client_shared.specs.Shared.{rows_in, typed_in}
 use Rattle.jv_client_shared.proofs.SameLaws.{same-rows}
 use Rattle.jv_model_steps.specs.IsStep.{IsStep}
 use Rattle.jv_model_steps.proofs.ChangeStepLaws.{truncate-made, truncate-refused, copy-made, copy-refused, copy-crowded}

@@ -18,19 +18,20 @@ use Rattle.jv_model.specs.declared.row.RowKey.{RowKey}
 use Rattle.jv_model.specs.declared.setting.Setting.{Setting}
 use Rattle.jv_model.specs.declared.slice.Rec.{Rec}
 use Rattle.jv_model.specs.rows.RowFaults.{row_fault}
-use Rattle.jv_model.specs.tree.Tree.{Tree, node_at}
-use Rattle.jv_model.specs.tree.FileBytes.{commit_of, committed}
-use Rattle.jv_model.specs.client.Pending.{Segment, bytes_in_range, without_range}
-use Rattle.jv_model.specs.client.Submission.{next_segment}
-use Rattle.jv_model.specs.client.ModelClient.{ModelClient, Doing, Working, session_of}
-use Rattle.jv_model.specs.journal.State.{State, after_told, answer_then, finished, without_committed}
-use Rattle.jv_model.specs.journal.Steps.{Start, Commits, is_failure, told_of}
-use Rattle.jv_outside.specs.Store.{Store}
-use Rattle.jv_volume.specs.TypedRows.{typed}
+use Rattle.jv_model.specs.promise.tree.Tree.{Tree, node_at}
+use Rattle.jv_model.specs.tree.FileBytes.{commit_of}
+use Rattle.jv_model.specs.promise.tree.FileBytes.{committed}
+use Rattle.jv_model.specs.promise.client.Pending.{Segment, bytes_in_range, without_range}
+use Rattle.jv_model.specs.promise.client.Submission.{next_segment}
+use Rattle.jv_model.specs.promise.client.ModelClient.{ModelClient, Doing, Working, session_of}
+use Rattle.jv_model.specs.promise.journal.State.{State, after_told, answer_then, finished, without_committed}
+use Rattle.jv_model.specs.promise.journal.Steps.{Start, Commits, is_failure, told_of}
+use Rattle.jv_outside.specs.promise.Store.{Store}
+use Rattle.jv_volume.specs.promise.TypedRows.{typed}
 use Rattle.jv_volume.specs.Holding.{IsHoldable}
-use Rattle.jv_volume.proofs.HoldingLaws.{stays-committed}
-use Rattle.jv_volume_bytes.specs.Blocks.{known_by}
-use Rattle.jv_volume_bytes.specs.Bytes.{KnownBytes, tree_with}
+use Rattle.jv_volume.proofs.holding.HoldingLaws.{stays-committed}
+use Rattle.jv_volume_bytes.specs.promise.Blocks.{known_by}
+use Rattle.jv_volume_bytes.specs.promise.Bytes.{KnownBytes, tree_with}
 use Rattle.jv_volume_bytes.specs.Flights.{EachPut, Flight, IsComplete}
 use Rattle.jv_volume_bytes.proofs.FlightLaws.{complete-shown}
 use Rattle.jv_data.specs.Changing.{Changed}
@@ -38,7 +39,8 @@ use Rattle.jv_data.specs.Records.{CommitsRecord, IsNew, committing}
 use Rattle.jv_client_shared.specs.Direct.{HasPut}
 use Rattle.jv_client_shared.specs.Flying.{Flies}
 use Rattle.jv_client_shared.specs.Keeping.{Leads}
-use Rattle.jv_client_shared.specs.Shared.{HasStore, InStore, Known, Shared, depot_in, rows_in}
+use Rattle.jv_client_shared.specs.promise.Shared.{HasStore, Known, Shared, depot_in}
+use Rattle.jv_client_shared.specs.Shared.{InStore, rows_in}
 use Rattle.jv_client_shared.proofs.RowStepLaws.{commit-leads}
 use Rattle.jv_client_shared.proofs.SameLaws.{same-rows}
 use Rattle.jv_client_shared.proofs.StoreLaws.{block_some, rows_are}

@@ -2,12 +2,12 @@
 use Rattle.std.proofs.Common.{◌≢◌, ℕ, List, arith}
 use Rattle.jv_model.specs.declared.act.ActKind.{ActKind}
 use Rattle.jv_model.specs.declared.op.Step.{Step}
-use Rattle.jv_model.specs.tree.Tree.{Tree}
-use Rattle.jv_model.specs.client.ModelClient.{ModelClient}
-use Rattle.jv_model.specs.journal.State.{State}
+use Rattle.jv_model.specs.promise.tree.Tree.{Tree}
+use Rattle.jv_model.specs.promise.client.ModelClient.{ModelClient}
+use Rattle.jv_model.specs.promise.journal.State.{State}
 use Rattle.jv_volume_bytes.specs.Flights.{Flight}
 use Rattle.jv_client_shared.specs.Flying.{Flies}
-use Rattle.jv_client_shared.specs.Shared.{Known, Shared}
+use Rattle.jv_client_shared.specs.promise.Shared.{Known, Shared}
 use Rattle.jv_client_requests.specs.Request.{IsApart, Request}
 
 module _ (g : Known) (v : Shared) where

@@ -11,24 +11,24 @@ use Rattle.jv_model.specs.declared.op.Step.TheVariants.{More, Done}
 use Rattle.jv_model.specs.declared.profile.Does.TheVariants.{Reads}
 use Rattle.jv_model.specs.declared.slice.BlockId.{BlockId}
 use Rattle.jv_model.specs.declared.slice.Rec.{Rec}
-use Rattle.jv_model.specs.blocks.Slices.{block_at, block_count}
-use Rattle.jv_model.specs.tree.Tree.{Content}
-use Rattle.jv_model.specs.client.ModelClient.{ModelClient, OpenFile, Doing, Reading, Working}
-use Rattle.jv_model.specs.client.Profile.{handle_of}
-use Rattle.jv_model.specs.client.Submission.{is_flushed}
-use Rattle.jv_model.specs.journal.Reading.{asked_parts, reading}
-use Rattle.jv_model.specs.journal.State.{State, after_told, sees_first}
-use Rattle.jv_model.specs.journal.Steps.{Start, file_in_use, is_failure, must_answer}
-use Rattle.jv_model.specs.blocks.BlockNames.{name_in}
+use Rattle.jv_model.specs.promise.blocks.Slices.{block_at, block_count}
+use Rattle.jv_model.specs.promise.tree.Tree.{Content}
+use Rattle.jv_model.specs.promise.client.ModelClient.{ModelClient, OpenFile, Doing, Reading, Working}
+use Rattle.jv_model.specs.promise.client.Profile.{handle_of}
+use Rattle.jv_model.specs.promise.client.Submission.{is_flushed}
+use Rattle.jv_model.specs.promise.journal.Reading.{asked_parts, reading}
+use Rattle.jv_model.specs.promise.journal.State.{State, after_told, sees_first}
+use Rattle.jv_model.specs.promise.journal.Steps.{Start, file_in_use, is_failure, must_answer}
+use Rattle.jv_model.specs.promise.blocks.BlockNames.{name_in}
 use Rattle.jv_yard.specs.Refusals.{yard_fault}
 use Rattle.jv_yard.specs.declared.faults.YardFault.{YardFault}
 use Rattle.jv_yard.specs.declared.faults.YardFault.TheVariants.{Depot, Shelf, Memory}
 use Rattle.jv_yard.specs.BlockCalls.{GetsBlock}
-use Rattle.jv_yard.specs.YardValue.{YardValue}
+use Rattle.jv_yard.specs.promise.YardValue.{YardValue}
 use Rattle.jv_client_shared.specs.Keeping.{HoldsSame}
 use Rattle.jv_client_shared.specs.Direct.{HasNamed}
 use Rattle.jv_client_shared.specs.Seen.{IsView}
-use Rattle.jv_client_shared.specs.Shared.{HasStore, Known, Shared, depot_in}
+use Rattle.jv_client_shared.specs.promise.Shared.{HasStore, Known, Shared, depot_in}
 use Rattle.jv_client_shared.proofs.SameLaws.{same-gets}
 use Rattle.jv_client_shared.proofs.StoreLaws.{named_read}
 use Rattle.jv_model_steps.specs.IsStep.{IsStep, at_stage}

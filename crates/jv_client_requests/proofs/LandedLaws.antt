@@ -3,25 +3,25 @@ use Rattle.std.proofs.Common.{◌≡◌, ℕ, ◌+◌, ◌≤◌, Bool, List, le
 use Rattle.jv_model.specs.declared.act.ActKind.{ActKind}
 use Rattle.jv_model.specs.declared.op.Op.{Op}
 use Rattle.jv_model.specs.declared.op.Step.{Step}
-use Rattle.jv_model.specs.rows.RowKeys.{RowMap}
-use Rattle.jv_model.specs.tree.Tree.{Tree}
-use Rattle.jv_model.specs.tree.Caller.{Caller, Outcome}
-use Rattle.jv_model.specs.tree.TreeAct.{tree_act}
-use Rattle.jv_model.specs.client.ModelClient.{ModelClient}
-use Rattle.jv_model.specs.journal.State.{State}
-use Rattle.jv_model.specs.journal.Steps.{Start}
-use Rattle.jv_outside.specs.Store.{Store}
-use Rattle.jv_volume.specs.TypedRows.{typed}
+use Rattle.jv_model.specs.promise.rows.RowKeys.{RowMap}
+use Rattle.jv_model.specs.promise.tree.Tree.{Tree}
+use Rattle.jv_model.specs.promise.tree.Caller.{Caller, Outcome}
+use Rattle.jv_model.specs.promise.tree.TreeAct.{tree_act}
+use Rattle.jv_model.specs.promise.client.ModelClient.{ModelClient}
+use Rattle.jv_model.specs.promise.journal.State.{State}
+use Rattle.jv_model.specs.promise.journal.Steps.{Start}
+use Rattle.jv_outside.specs.promise.Store.{Store}
+use Rattle.jv_volume.specs.promise.TypedRows.{typed}
 use Rattle.jv_volume.specs.Whole.{FilesDrop}
-use Rattle.jv_volume.specs.Shape.{WholeShape, shape_of}
+use Rattle.jv_volume.specs.promise.Shape.{WholeShape, shape_of}
 use Rattle.jv_volume.specs.Holding.{Stays}
-use Rattle.jv_volume.specs.Whole.{Whole}
-use Rattle.jv_volume.proofs.HoldingLaws.{stays-tree_act}
-use Rattle.jv_volume.proofs.StoredLaws.{whole-shape}
-use Rattle.jv_volume_bytes.specs.Blocks.{known_by}
-use Rattle.jv_volume_bytes.specs.Bytes.{KnownBytes, bytes_of, tree_with}
+use Rattle.jv_volume.specs.promise.Whole.{Whole}
+use Rattle.jv_volume.proofs.holding.HoldingLaws.{stays-tree_act}
+use Rattle.jv_volume.proofs.stored.StoredLaws.{whole-shape}
+use Rattle.jv_volume_bytes.specs.promise.Blocks.{known_by}
+use Rattle.jv_volume_bytes.specs.promise.Bytes.{KnownBytes, bytes_of, tree_with}
 use Rattle.jv_volume_bytes.specs.Counts.{KeepsOthers}
-use Rattle.jv_client_shared.specs.Shared.{HasStore, Known, Shared}
+use Rattle.jv_client_shared.specs.promise.Shared.{HasStore, Known, Shared}
 use Rattle.jv_client_shared.proofs.RowStepLaws.{others-lead}
 use Rattle.jv_model_steps.specs.IsStep.{IsStep}
 use Rattle.jv_client_requests.specs.Request.{Request}

@@ -17,28 +17,28 @@ use Rattle.jv_model.specs.declared.op.Step.TheVariants.{More, Done}
 use Rattle.jv_model.specs.declared.profile.Does.TheVariants.{Reads}
 use Rattle.jv_model.specs.declared.row.RowKey.{RowKey}
 use Rattle.jv_model.specs.declared.slice.Rec.{Rec}
-use Rattle.jv_model.specs.FiniteMap.{get}
+use Rattle.jv_model.specs.promise.FiniteMap.{get}
 use Rattle.jv_model.specs.rows.RowFaults.{row_fault}
-use Rattle.jv_model.specs.tree.Attempt.{◌>>=◌, require, some_or}
-use Rattle.jv_model.specs.tree.Tree.{Tree, Content, File, Directory, Symlink, Node as TreeNode, content_at}
-use Rattle.jv_model.specs.tree.Tree.{content_in, node_at}
-use Rattle.jv_model.specs.client.ModelClient.{ModelClient, OpenFile, Doing, Reading, session_of}
-use Rattle.jv_model.specs.client.Profile.{handle_of}
-use Rattle.jv_model.specs.journal.Reading.{asked_parts, reading}
-use Rattle.jv_model.specs.journal.State.{State, after_told, or_empty, with_look}
-use Rattle.jv_model.specs.journal.Steps.{file_in_use, is_failure, must_answer, window_to_look}
+use Rattle.jv_model.specs.promise.tree.Attempt.{◌>>=◌, require, some_or}
+use Rattle.jv_model.specs.promise.tree.Tree.{Tree, Content, File, Directory, Symlink, Node as TreeNode, content_at}
+use Rattle.jv_model.specs.promise.tree.Tree.{content_in, node_at}
+use Rattle.jv_model.specs.promise.client.ModelClient.{ModelClient, OpenFile, Doing, Reading, session_of}
+use Rattle.jv_model.specs.promise.client.Profile.{handle_of}
+use Rattle.jv_model.specs.promise.journal.Reading.{asked_parts, reading}
+use Rattle.jv_model.specs.promise.journal.State.{State, after_told, or_empty, with_look}
+use Rattle.jv_model.specs.promise.journal.Steps.{file_in_use, is_failure, must_answer, window_to_look}
 use Rattle.jv_model.specs.tree.FileBytes.{length_seen}
-use Rattle.jv_outside.specs.Store.{Store}
-use Rattle.jv_volume.specs.TypedRows.{typed}
-use Rattle.jv_volume.specs.Views.{lists_of}
+use Rattle.jv_outside.specs.promise.Store.{Store}
+use Rattle.jv_volume.specs.promise.TypedRows.{typed}
+use Rattle.jv_volume.specs.promise.Views.{lists_of}
 use Rattle.jv_volume.specs.Holding.{IsHoldable}
-use Rattle.jv_volume.specs.Shape.{Regular, form_of, is_there}
+use Rattle.jv_volume.specs.promise.Shape.{Regular, form_of, is_there}
 use Rattle.jv_data.specs.declared.looking.View.{View}
 use Rattle.jv_data.specs.Records.{LooksAt}
 use Rattle.jv_client_shared.specs.Keeping.{HoldsSame}
 use Rattle.jv_client_shared.specs.Direct.{HasNamed}
 use Rattle.jv_client_shared.specs.Seen.{IsView}
-use Rattle.jv_client_shared.specs.Shared.{HasStore, Known, Shared, depot_in}
+use Rattle.jv_client_shared.specs.promise.Shared.{HasStore, Known, Shared, depot_in}
 use Rattle.jv_client_shared.proofs.SameLaws.{same-rows, same-stays}
 use Rattle.jv_client_shared.proofs.StoreLaws.{look-has, look-view, view-stays}
 use Rattle.jv_model_steps.specs.IsStep.{at_stage}

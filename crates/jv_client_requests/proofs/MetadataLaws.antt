@@ -16,24 +16,25 @@ use Rattle.jv_model.specs.declared.op.Step.TheVariants.{Done}
 use Rattle.jv_model.specs.declared.row.RowKey.{RowKey}
 use Rattle.jv_model.specs.declared.slice.Rec.{Rec}
 use Rattle.jv_model.specs.rows.RowFaults.{row_fault}
-use Rattle.jv_model.specs.tree.Tree.{Tree, is_sustained}
-use Rattle.jv_model.specs.tree.Caller.{Caller, Outcome, outcome}
-use Rattle.jv_model.specs.tree.TreeAct.{tree_act}
-use Rattle.jv_model.specs.client.ModelClient.{ModelClient, Doing, Working}
-use Rattle.jv_model.specs.client.Submission.{is_flushed}
-use Rattle.jv_model.specs.journal.State.{State, after_told, caller, gift_of, transacted}
-use Rattle.jv_model.specs.journal.Steps.{entry_of_gift, is_failure, told_of, transacts, is_device_or_memory}
-use Rattle.jv_outside.specs.Store.{Store}
+use Rattle.jv_model.specs.promise.tree.Tree.{Tree, is_sustained}
+use Rattle.jv_model.specs.promise.tree.Caller.{Caller, Outcome, outcome}
+use Rattle.jv_model.specs.promise.tree.TreeAct.{tree_act}
+use Rattle.jv_model.specs.promise.client.ModelClient.{ModelClient, Doing, Working}
+use Rattle.jv_model.specs.promise.client.Submission.{is_flushed}
+use Rattle.jv_model.specs.promise.journal.State.{State, after_told, caller, gift_of, transacted}
+use Rattle.jv_model.specs.promise.journal.Steps.{entry_of_gift, is_failure, told_of, transacts, is_device_or_memory}
+use Rattle.jv_outside.specs.promise.Store.{Store}
 use Rattle.jv_rows.specs.Transactions.{Lands, Transacts}
-use Rattle.jv_volume.specs.TypedRows.{typed}
-use Rattle.jv_volume.specs.TreeOf.{tree_of}
-use Rattle.jv_volume.proofs.ReplyLaws.{no_device_or_memory}
-use Rattle.jv_volume_bytes.specs.Bytes.{bytes_of, tree_with}
+use Rattle.jv_volume.specs.promise.TypedRows.{typed}
+use Rattle.jv_volume.specs.promise.TreeOf.{tree_of}
+use Rattle.jv_volume.proofs.operations.ReplyLaws.{no_device_or_memory}
+use Rattle.jv_volume_bytes.specs.promise.Bytes.{bytes_of, tree_with}
 use Rattle.jv_volume_bytes.proofs.KeepLaws.{bytes-stay, keeps-quiet}
 use Rattle.jv_links.specs.Removals.{HoldsFiles, is_inode}
-use Rattle.jv_client_metadata.specs.Attempts.{KeepsOne, attempt}
+use Rattle.jv_client_metadata.specs.Attempts.{KeepsOne}
+use Rattle.jv_model.specs.promise.tree.TreeAct.{attempt}
 use Rattle.jv_client_shared.specs.Keeping.{HoldsSame}
-use Rattle.jv_client_shared.specs.Shared.{HasStore, Known, Shared}
+use Rattle.jv_client_shared.specs.promise.Shared.{HasStore, Known, Shared}
 use Rattle.jv_client_shared.proofs.SameLaws.{same-rows}
 use Rattle.jv_model_steps.specs.Stages.{handed}
 use Rattle.jv_model_steps.proofs.TransactionStepLaws.{transaction-step, transaction-refused}

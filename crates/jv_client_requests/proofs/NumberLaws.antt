@@ -16,30 +16,32 @@ use Rattle.jv_model.specs.declared.op.Reply.TheVariants.{Refused}
 use Rattle.jv_model.specs.declared.op.Step.TheVariants.{More, Done}
 use Rattle.jv_model.specs.declared.row.RowKey.{RowKey}
 use Rattle.jv_model.specs.declared.slice.Rec.{Rec}
-use Rattle.jv_model.specs.FiniteMap.{get}
+use Rattle.jv_model.specs.promise.FiniteMap.{get}
 use Rattle.jv_model.specs.rows.RowFaults.{row_fault}
-use Rattle.jv_model.specs.rows.RowPlaces.{counters_key, dropped_key, node_key}
-use Rattle.jv_model.specs.tree.Attempt.{◌>>=◌, require}
-use Rattle.jv_model.specs.tree.Tree.{Tree}
-use Rattle.jv_model.specs.client.Pending.{Segment}
-use Rattle.jv_model.specs.client.Submission.{next_segment}
-use Rattle.jv_model.specs.client.ModelClient.{ModelClient, Doing, Working, session_of}
-use Rattle.jv_model.specs.journal.State.{State, after_told, has_session}
-use Rattle.jv_model.specs.journal.Steps.{Start, is_crowded, is_failure}
-use Rattle.jv_outside.specs.Store.{Store}
-use Rattle.jv_volume.specs.TypedRows.{Rows, typed}
-use Rattle.jv_volume.specs.TreeOf.{sessions_of, tree_of}
-use Rattle.jv_volume.specs.Slices.{next_slice}
-use Rattle.jv_volume.specs.Views.{row_in, node_in}
-use Rattle.jv_volume.specs.Whole.{FilesDrop, no_bytes}
-use Rattle.jv_volume.proofs.QuietLaws.{drop-beside, drop-none}
-use Rattle.jv_volume_bytes.specs.Blocks.{known_by}
-use Rattle.jv_volume_bytes.specs.Bytes.{bytes_of}
-use Rattle.jv_volume_bytes.specs.Counts.{record_count}
+use Rattle.jv_model.specs.promise.rows.RowPlaces.{counters_key, dropped_key, node_key}
+use Rattle.jv_model.specs.promise.tree.Attempt.{◌>>=◌, require}
+use Rattle.jv_model.specs.promise.tree.Tree.{Tree}
+use Rattle.jv_model.specs.promise.client.Pending.{Segment}
+use Rattle.jv_model.specs.promise.client.Submission.{next_segment}
+use Rattle.jv_model.specs.promise.client.ModelClient.{ModelClient, Doing, Working, session_of}
+use Rattle.jv_model.specs.promise.journal.State.{State, after_told, has_session}
+use Rattle.jv_model.specs.promise.journal.Steps.{Start, is_crowded, is_failure}
+use Rattle.jv_outside.specs.promise.Store.{Store}
+use Rattle.jv_volume.specs.promise.TypedRows.{Rows, typed}
+use Rattle.jv_volume.specs.promise.TreeOf.{sessions_of, tree_of}
+use Rattle.jv_volume.specs.promise.Slices.{next_slice}
+use Rattle.jv_volume.specs.promise.Views.{row_in, node_in}
+use Rattle.jv_volume.specs.Whole.{FilesDrop}
+use Rattle.jv_volume.specs.promise.Whole.{no_bytes}
+use Rattle.jv_volume.proofs.stored.QuietLaws.{drop-beside, drop-none}
+use Rattle.jv_volume_bytes.specs.promise.Blocks.{known_by}
+use Rattle.jv_volume_bytes.specs.promise.Bytes.{bytes_of}
+use Rattle.jv_volume_bytes.specs.promise.Counts.{record_count}
 use Rattle.jv_volume_bytes.proofs.KeepLaws.{record_count-stay, stay-counters}
 use Rattle.jv_data.specs.Records.{Numbered, TakesNumber, number_given}
 use Rattle.jv_client_shared.specs.Flying.{Flies}
-use Rattle.jv_client_shared.specs.Shared.{HasStore, Known, Shared, rows_in, with_size}
+use Rattle.jv_client_shared.specs.promise.Shared.{HasStore, Known, Shared}
+use Rattle.jv_client_shared.specs.Shared.{rows_in, with_size}
 use Rattle.jv_client_shared.proofs.RowStepLaws.{number-apart, number-flies, number-leads}
 use Rattle.jv_client_shared.proofs.SameLaws.{same-rows}
 use Rattle.jv_client_shared.proofs.StoreLaws.{rows_are}

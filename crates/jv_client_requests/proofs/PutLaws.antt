@@ -6,17 +6,18 @@ use Rattle.jv_model.specs.declared.act.ActKind.TheVariants.{Quiet, Answered}
 use Rattle.jv_model.specs.declared.act.Told.TheVariants.{Refused as ToldRefused}
 use Rattle.jv_model.specs.declared.op.Reply.TheVariants.{Refused}
 use Rattle.jv_model.specs.declared.op.Step.TheVariants.{More, Done}
-use Rattle.jv_model.specs.blocks.Slices.{block_count}
-use Rattle.jv_model.specs.client.Pending.{Segment}
-use Rattle.jv_model.specs.client.Submission.{next_segment}
-use Rattle.jv_model.specs.client.ModelClient.{ModelClient, Doing, Stage, Working}
-use Rattle.jv_model.specs.journal.State.{State}
-use Rattle.jv_model.specs.journal.Steps.{is_failure}
-use Rattle.jv_outside.specs.Carriage.{Carriage}
+use Rattle.jv_model.specs.promise.blocks.Slices.{block_count}
+use Rattle.jv_model.specs.promise.client.Pending.{Segment}
+use Rattle.jv_model.specs.promise.client.Submission.{next_segment}
+use Rattle.jv_model.specs.promise.client.ModelClient.{ModelClient, Doing, Stage, Working}
+use Rattle.jv_model.specs.promise.journal.State.{State}
+use Rattle.jv_model.specs.promise.journal.Steps.{is_failure}
+use Rattle.jv_outside.specs.promise.Carriage.{Carriage}
 use Rattle.jv_volume_bytes.specs.Flights.{Flight, flight_block, flight_bytes}
-use Rattle.jv_yard.specs.YardValue.{YardValue}
+use Rattle.jv_yard.specs.promise.YardValue.{YardValue}
 use Rattle.jv_client_shared.specs.Flying.{Flies}
-use Rattle.jv_client_shared.specs.Shared.{HasStore, Known, Shared, with_block}
+use Rattle.jv_client_shared.specs.promise.Shared.{HasStore, Known, Shared}
+use Rattle.jv_client_shared.specs.Shared.{with_block}
 use Rattle.jv_client_puts.specs.declared.putting.PutFault.{PutFault}
 use Rattle.jv_client_puts.specs.declared.putting.PutFault.TheVariants.{Carrier, Depot, Memory}
 use Rattle.jv_client_puts.specs.Putting.{PutsFlight, fault_of}

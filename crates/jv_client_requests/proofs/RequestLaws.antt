@@ -3,19 +3,20 @@
 use Rattle.std.proofs.Common.{◌≡◌, ℕ, ◌+◌, ◌≤◌, Bool, true, List, [], length, Option, Some, sym, subst, arith}
 use Rattle.jv_model.specs.declared.act.ActKind.{ActKind}
 use Rattle.jv_model.specs.declared.op.Step.{Step}
-use Rattle.jv_model.specs.tree.Tree.{Tree}
-use Rattle.jv_model.specs.client.ModelClient.{ModelClient}
-use Rattle.jv_model.specs.journal.State.{State}
-use Rattle.jv_model.specs.journal.Steps.{Start}
-use Rattle.jv_model.specs.rows.RowKeys.{RowMap}
-use Rattle.jv_volume.specs.TypedRows.{Rows, typed}
+use Rattle.jv_model.specs.promise.tree.Tree.{Tree}
+use Rattle.jv_model.specs.promise.client.ModelClient.{ModelClient}
+use Rattle.jv_model.specs.promise.journal.State.{State}
+use Rattle.jv_model.specs.promise.journal.Steps.{Start}
+use Rattle.jv_model.specs.promise.rows.RowKeys.{RowMap}
+use Rattle.jv_volume.specs.promise.TypedRows.{Rows, typed}
 use Rattle.jv_volume.specs.Whole.{FilesDrop}
-use Rattle.jv_volume.proofs.QuietLaws.{drop-none}
-use Rattle.jv_volume.specs.Slices.{next_slice}
+use Rattle.jv_volume.proofs.stored.QuietLaws.{drop-none}
+use Rattle.jv_volume.specs.promise.Slices.{next_slice}
 use Rattle.jv_volume.specs.Holding.{Stays}
-use Rattle.jv_volume_bytes.specs.Counts.{record_count}
+use Rattle.jv_volume_bytes.specs.promise.Counts.{record_count}
 use Rattle.jv_client_shared.specs.Keeping.{Leads}
-use Rattle.jv_client_shared.specs.Shared.{Known, Shared, rows_in, typed_in}
+use Rattle.jv_client_shared.specs.promise.Shared.{Known, Shared}
+use Rattle.jv_client_shared.specs.Shared.{rows_in, typed_in}
 use Rattle.jv_model_steps.specs.IsStep.{IsStep}
 use Rattle.jv_client_requests.specs.Request.{IsApart, IsWithin, Request}
 

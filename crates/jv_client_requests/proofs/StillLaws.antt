@@ -13,20 +13,21 @@ use Rattle.jv_model.specs.declared.fault.TxFault.{TxFault}
 use Rattle.jv_model.specs.declared.op.Reply.TheVariants.{Refused}
 use Rattle.jv_model.specs.declared.op.Step.{Step}
 use Rattle.jv_model.specs.declared.op.Step.TheVariants.{Done}
-use Rattle.jv_model.specs.tree.Tree.{Tree}
-use Rattle.jv_model.specs.client.ModelClient.{ModelClient, Doing}
-use Rattle.jv_model.specs.journal.State.{State}
-use Rattle.jv_model.specs.journal.Steps.{Start, is_failure, must_answer}
-use Rattle.jv_outside.specs.Store.{Store}
+use Rattle.jv_model.specs.promise.tree.Tree.{Tree}
+use Rattle.jv_model.specs.promise.client.ModelClient.{ModelClient, Doing}
+use Rattle.jv_model.specs.promise.journal.State.{State}
+use Rattle.jv_model.specs.promise.journal.Steps.{Start, is_failure, must_answer}
+use Rattle.jv_outside.specs.promise.Store.{Store}
 use Rattle.jv_rows.specs.Transactions.{Agrees, Looks}
-use Rattle.jv_volume.specs.TypedRows.{typed}
-use Rattle.jv_volume.specs.Slices.{next_slice}
+use Rattle.jv_volume.specs.promise.TypedRows.{typed}
+use Rattle.jv_volume.specs.promise.Slices.{next_slice}
 use Rattle.jv_volume.specs.Holding.{Stays}
-use Rattle.jv_volume_bytes.specs.Blocks.{known_by}
-use Rattle.jv_volume_bytes.specs.Bytes.{bytes_of}
-use Rattle.jv_volume_bytes.specs.Counts.{record_count}
+use Rattle.jv_volume_bytes.specs.promise.Blocks.{known_by}
+use Rattle.jv_volume_bytes.specs.promise.Bytes.{bytes_of}
+use Rattle.jv_volume_bytes.specs.promise.Counts.{record_count}
 use Rattle.jv_client_shared.specs.Keeping.{HoldsSame}
-use Rattle.jv_client_shared.specs.Shared.{HasStore, Known, Shared, rows_in, typed_in}
+use Rattle.jv_client_shared.specs.promise.Shared.{HasStore, Known, Shared}
+use Rattle.jv_client_shared.specs.Shared.{rows_in, typed_in}
 use Rattle.jv_client_shared.proofs.SameLaws.{same-leads}
 use Rattle.jv_model_steps.specs.IsStep.{IsStep}
 use Rattle.jv_model_steps.proofs.RefusalStepLaws.{failure-step}

@@ -6,16 +6,18 @@ use Rattle.std.proofs.lemmas.List.Elements.{All-contains, All-from_recursion}
 use Rattle.jv_model.specs.declared.setting.Setting.{Setting}
 use Rattle.jv_model.specs.declared.slice.BlockId.{BlockId}
 use Rattle.jv_model.specs.declared.slice.Rec.{Rec}
-use Rattle.jv_model.specs.blocks.Slices.{block_at, block_count}
-use Rattle.jv_volume.specs.TypedRows.{Rows}
-use Rattle.jv_volume.specs.Views.{lists_of}
-use Rattle.jv_volume.specs.Slices.{WholeSlices}
-use Rattle.jv_volume_bytes.specs.Blocks.{Blocks, Grows, HasBlocks, IsPut, IsThere}
+use Rattle.jv_model.specs.promise.blocks.Slices.{block_at, block_count}
+use Rattle.jv_volume.specs.promise.TypedRows.{Rows}
+use Rattle.jv_volume.specs.promise.Views.{lists_of}
+use Rattle.jv_volume.specs.promise.Slices.{WholeSlices}
+use Rattle.jv_volume_bytes.specs.promise.Blocks.{Blocks, Grows, HasBlocks, IsThere}
+use Rattle.jv_volume_bytes.specs.Blocks.{IsPut}
 use Rattle.jv_volume_bytes.specs.Flights.{EachPut, Flight, flight_block, flight_bytes}
 use Rattle.jv_volume_bytes.proofs.BlockLaws.{there-grows}
 use Rattle.jv_volume_bytes.proofs.FlightLaws.{put-more}
 use Rattle.jv_volume_bytes.proofs.WholeLaws.{all-mapped}
-use Rattle.jv_client_shared.specs.Shared.{InDepot, InStore, Shared, depot_in}
+use Rattle.jv_client_shared.specs.promise.Shared.{InDepot, Shared, depot_in}
+use Rattle.jv_client_shared.specs.Shared.{InStore}
 use Rattle.jv_client_shared.specs.Seen.{SliceIsThere}
 use Rattle.jv_client_shared.specs.Direct.{HasNamed, HasPut}
 use Rattle.jv_client_shared.proofs.SeenLaws.{each_listed, listed_each}

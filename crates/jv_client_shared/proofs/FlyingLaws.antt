@@ -6,22 +6,22 @@ use Rattle.std.proofs.lemmas.List.{length-take, length-drop}
 use Rattle.std.proofs.lemmas.Nat.{mul-le}
 use Rattle.jv_model.specs.declared.limits.TheConstants.{WINDOW, MIN_BLOCK, MAX_BLOCKS}
 use Rattle.jv_model.specs.declared.slice.Rec.{Rec}
-use Rattle.jv_model.specs.blocks.BlockNames.{IsBlock, name_in}
-use Rattle.jv_model.specs.blocks.Slices.{block_at, block_count, shown}
-use Rattle.jv_model.specs.tree.Tree.{Tree}
+use Rattle.jv_model.specs.promise.blocks.BlockNames.{IsBlock, name_in}
+use Rattle.jv_model.specs.promise.blocks.Slices.{block_at, block_count, shown}
+use Rattle.jv_model.specs.promise.tree.Tree.{Tree}
 use Rattle.jv_outside.specs.declared.parcel.Parcel.{Parcel}
 use Rattle.jv_outside.specs.Parcels.{StandsFor}
 use Rattle.jv_slices.proofs.BlockLaws.{block_begins}
-use Rattle.jv_volume.specs.TypedRows.{Rows, typed}
-use Rattle.jv_volume.specs.Slices.{next_slice}
-use Rattle.jv_volume_bytes.specs.Blocks.{known_by}
-use Rattle.jv_volume_bytes.specs.Bytes.{spot_byte}
+use Rattle.jv_volume.specs.promise.TypedRows.{Rows, typed}
+use Rattle.jv_volume.specs.promise.Slices.{next_slice}
+use Rattle.jv_volume_bytes.specs.promise.Blocks.{known_by}
+use Rattle.jv_volume_bytes.specs.promise.Bytes.{spot_byte}
 use Rattle.jv_volume_bytes.specs.Flights.{Flight, InFlight, IsComplete, flight_block, flight_bytes}
 use Rattle.jv_volume_bytes.proofs.FlightLaws.{complete-shows, complete-known}
 use Rattle.jv_yard.specs.BlockCalls.{IsBlockParcel}
 use Rattle.jv_yard.proofs.CallLaws.{block_parcel}
 use Rattle.jv_client_shared.specs.Lengths.{IsLength}
-use Rattle.jv_client_shared.specs.Shared.{HasStore, Known, Shared}
+use Rattle.jv_client_shared.specs.promise.Shared.{HasStore, Known, Shared}
 use Rattle.jv_client_shared.specs.Flying.{Flies}
 use Rattle.jv_client_shared.proofs.StoreLaws.{block_length, block_some, rows_are}
 

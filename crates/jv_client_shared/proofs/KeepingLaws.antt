@@ -7,20 +7,21 @@ use Rattle.std.proofs.lemmas.List.Elements.{All-contains, All-from_recursion}
 use Rattle.jv_model.specs.declared.setting.Setting.{Setting}
 use Rattle.jv_model.specs.declared.slice.Rec.{Rec}
 use Rattle.jv_model.specs.declared.slice.Spot.TheVariants.{Zero, Slice}
-use Rattle.jv_model.specs.blocks.Slices.{block_at, place_by, stored_place, visible}
-use Rattle.jv_model.specs.tree.Tree.{Content, Tree}
+use Rattle.jv_model.specs.promise.blocks.Slices.{block_at, place_by, stored_place, visible}
+use Rattle.jv_model.specs.promise.tree.Tree.{Content, Tree}
 use Rattle.jv_slices.proofs.BlockLaws.{index_below}
 use Rattle.jv_slices.proofs.PlanLaws.{visible_covers}
-use Rattle.jv_volume.specs.TypedRows.{Rows}
-use Rattle.jv_volume.specs.Slices.{IsUnknown, next_slice}
-use Rattle.jv_volume_bytes.specs.Blocks.{known_by}
-use Rattle.jv_volume_bytes.specs.Bytes.{spot_byte}
+use Rattle.jv_volume.specs.promise.TypedRows.{Rows}
+use Rattle.jv_volume.specs.promise.Slices.{IsUnknown, next_slice}
+use Rattle.jv_volume_bytes.specs.promise.Blocks.{known_by}
+use Rattle.jv_volume_bytes.specs.promise.Bytes.{spot_byte}
 use Rattle.jv_volume_bytes.specs.Flights.{Flight}
 use Rattle.jv_volume_bytes.proofs.BlockLaws.{grows-none, grows-then, there-grows, known-grows, seen_contained}
 use Rattle.jv_volume_bytes.proofs.FlightLaws.{flies-still}
 use Rattle.jv_volume_bytes.proofs.PlaceLaws.{record_inside}
 use Rattle.jv_volume_bytes.proofs.WholeLaws.{all-mapped}
-use Rattle.jv_client_shared.specs.Shared.{Known, Shared, depot_in, rows_in}
+use Rattle.jv_client_shared.specs.promise.Shared.{Known, Shared, depot_in}
+use Rattle.jv_client_shared.specs.Shared.{rows_in}
 use Rattle.jv_client_shared.specs.Seen.{IsFound, ShowsWindow}
 use Rattle.jv_client_shared.specs.Flying.{Flies, IsFlying}
 use Rattle.jv_client_shared.specs.Keeping.{Keeps, KeepsShared, Leads}

@@ -2,28 +2,31 @@
 use Rattle.std.proofs.Common.{◌≡◌, ◌≢◌, ℕ, ◌+◌, ◌<◌, ◌^◌, Bool, true, false, inl, inr, List, Option, None, Some, refl, sym, ap, subst, subst₂, ◌∙◌, arith}
 use Rattle.std.specs.Prelude.{if◌then◌else◌}
 use Rattle.jv_model.specs.declared.slice.BlockId.{BlockId}
-use Rattle.jv_model.specs.blocks.BlockNames.{IsBlock, name_in}
+use Rattle.jv_model.specs.promise.blocks.BlockNames.{IsBlock, name_in}
 use Rattle.jv_model.specs.blocks.Slices.{is_same_block}
-use Rattle.jv_model.specs.tree.Tree.{Tree}
+use Rattle.jv_model.specs.promise.tree.Tree.{Tree}
 use Rattle.jv_outside.specs.declared.parcel.Parcel.{Parcel}
-use Rattle.jv_outside.specs.Carriage.{Carriage}
-use Rattle.jv_outside.specs.Holding.{Holding}
-use Rattle.jv_outside.specs.Objects.{ObjectMap, with_object}
+use Rattle.jv_outside.specs.promise.Carriage.{Carriage}
+use Rattle.jv_outside.specs.promise.Holding.{Holding}
+use Rattle.jv_outside.specs.promise.Objects.{ObjectMap}
+use Rattle.jv_outside.specs.Objects.{with_object}
 use Rattle.jv_outside.specs.Parcels.{StandsFor}
 use Rattle.jv_slices.proofs.NeedLaws.{equal_if_same, same_self}
-use Rattle.jv_volume.specs.TypedRows.{Rows, typed}
-use Rattle.jv_volume.specs.Slices.{next_slice}
-use Rattle.jv_volume_bytes.specs.Blocks.{Blocks, EachBlock, Grows, IsPut, IsThere}
+use Rattle.jv_volume.specs.promise.TypedRows.{Rows, typed}
+use Rattle.jv_volume.specs.promise.Slices.{next_slice}
+use Rattle.jv_volume_bytes.specs.promise.Blocks.{Blocks, EachBlock, Grows, IsThere}
+use Rattle.jv_volume_bytes.specs.Blocks.{IsPut}
 use Rattle.jv_volume_bytes.specs.Flights.{Flight, flight_block, flight_bytes}
 use Rattle.jv_volume_bytes.proofs.BlockLaws.{each_block-still, grows-none, there-grows, tree-grows}
 use Rattle.jv_volume_bytes.proofs.FlightLaws.{next_block-free, put-below, put-grows, put-next, put_or_was}
 use Rattle.jv_yard.specs.declared.note.Note.{Note}
 use Rattle.jv_yard.specs.BlockCalls.{IsPut as PutsParcel}
-use Rattle.jv_yard.specs.Contents.{blocks_in}
-use Rattle.jv_yard.specs.YardValue.{YardValue}
-use Rattle.jv_yard.proofs.CallLaws.{IsKept-same}
+use Rattle.jv_yard.specs.promise.Contents.{blocks_in}
+use Rattle.jv_yard.specs.promise.YardValue.{YardValue}
+use Rattle.jv_yard.proofs.CallLaws.{KeepsStaged-same}
 use Rattle.jv_yard.proofs.ContentsLaws.{put-objects, put-other, put-same}
-use Rattle.jv_client_shared.specs.Shared.{HasStore, IsStored, Known, Shared, depot_blocks, depot_in, rows_in, staged_in, with_block}
+use Rattle.jv_client_shared.specs.promise.Shared.{HasStore, IsStored, Known, Shared, depot_blocks, depot_in, staged_in}
+use Rattle.jv_client_shared.specs.Shared.{rows_in, with_block}
 use Rattle.jv_client_shared.specs.Flying.{Flies}
 use Rattle.jv_client_shared.specs.Direct.{HasPut}
 use Rattle.jv_client_shared.specs.Keeping.{KeepsShared, Leads}
@@ -133,7 +136,7 @@ module _ (t : Tree) (g : Known) (v : Shared) (s : HasStore t g v) (f : Flight) (
             s.there;
         copies = depot_learned;
         staged_copies = λ client b its there. ever_grows b its (s.staged_copies client b its there);
-        kept = IsKept-same v.yard (record v.yard { depot = held; log = log }) refl refl refl s.kept;
+        kept = KeepsStaged-same v.yard (record v.yard { depot = held; log = log }) refl refl refl s.kept;
         below = put-below next bytes g.blocks learned.blocks ever_put (typed s.rows)
             (subst (λ (rows : Rows). f.id < next_slice rows) (rows_are t g v s) flies.ever.below) s.below;
         tree = s.tree

@@ -7,29 +7,31 @@ use Rattle.jv_model.specs.declared.row.RowKey.{RowKey}
 use Rattle.jv_model.specs.declared.row.SliceRow.{SliceRow}
 use Rattle.jv_model.specs.declared.slice.BlockId.{BlockId}
 use Rattle.jv_model.specs.declared.slice.Rec.{Rec}
-use Rattle.jv_model.specs.FiniteMap.{get}
-use Rattle.jv_model.specs.rows.RowKeys.{RowMap}
-use Rattle.jv_model.specs.rows.RowPlaces.{counters_key}
-use Rattle.jv_model.specs.tree.Tree.{Tree}
-use Rattle.jv_outside.specs.Carriage.{Carriage}
-use Rattle.jv_outside.specs.Store.{Store}
-use Rattle.jv_volume.specs.TypedRows.{Rows, typed}
-use Rattle.jv_volume.specs.Views.{row_in, setting_in, setting_at, slice_row_at}
-use Rattle.jv_volume.specs.TreeOf.{tree_of}
-use Rattle.jv_volume.specs.Slices.{IsUnknown, WholeSlices, listed, next_slice}
-use Rattle.jv_volume.specs.Whole.{Quiet, Whole, no_bytes, SlicesStay}
-use Rattle.jv_volume.proofs.TreeOfLaws.{setting-tree_of}
-use Rattle.jv_volume.proofs.QuietLaws.{slice_row-stay}
-use Rattle.jv_volume_bytes.specs.Blocks.{AreBelow, EachBlock, EachOfSlice, HasBlocks, IsThere, known_by}
-use Rattle.jv_volume_bytes.specs.Bytes.{KnownBytes, bytes_of, tree_with}
+use Rattle.jv_model.specs.promise.FiniteMap.{get}
+use Rattle.jv_model.specs.promise.rows.RowKeys.{RowMap}
+use Rattle.jv_model.specs.promise.rows.RowPlaces.{counters_key}
+use Rattle.jv_model.specs.promise.tree.Tree.{Tree}
+use Rattle.jv_outside.specs.promise.Carriage.{Carriage}
+use Rattle.jv_outside.specs.promise.Store.{Store}
+use Rattle.jv_volume.specs.promise.TypedRows.{Rows, typed}
+use Rattle.jv_volume.specs.promise.Views.{row_in, setting_in, setting_at, slice_row_at}
+use Rattle.jv_volume.specs.promise.TreeOf.{tree_of}
+use Rattle.jv_volume.specs.promise.Slices.{IsUnknown, WholeSlices, listed, next_slice}
+use Rattle.jv_volume.specs.Whole.{Quiet, SlicesStay}
+use Rattle.jv_volume.specs.promise.Whole.{Whole, no_bytes}
+use Rattle.jv_volume.proofs.stored.TreeOfLaws.{setting-tree_of}
+use Rattle.jv_volume.proofs.stored.QuietLaws.{slice_row-stay}
+use Rattle.jv_volume_bytes.specs.promise.Blocks.{AreBelow, EachBlock, EachOfSlice, HasBlocks, IsThere, known_by}
+use Rattle.jv_volume_bytes.specs.promise.Bytes.{KnownBytes, bytes_of, tree_with}
 use Rattle.jv_volume_bytes.specs.Counts.{KeepsOthers}
 use Rattle.jv_volume_bytes.specs.Flights.{EachPut, Flight, IsComplete}
 use Rattle.jv_volume_bytes.proofs.BlockLaws.{below-rows, each_block-on, each_block-still, grows-none, named_has_row}
 use Rattle.jv_volume_bytes.proofs.FlightLaws.{flies-new, put-complete}
 use Rattle.jv_volume_bytes.proofs.KeepLaws.{below-keeps, bytes-stay, keeps-quiet, stay-counters, unknown-stay}
 use Rattle.jv_volume_bytes.proofs.WholeLaws.{all-mapped}
-use Rattle.jv_yard.specs.Contents.{blocks_in}
-use Rattle.jv_client_shared.specs.Shared.{AreSized, AreStored, HasStore, InStore, IsStored, Known, Shared, depot_in, staged_in, typed_in, with_size}
+use Rattle.jv_yard.specs.promise.Contents.{blocks_in}
+use Rattle.jv_client_shared.specs.promise.Shared.{AreSized, AreStored, HasStore, IsStored, Known, Shared, depot_in, staged_in}
+use Rattle.jv_client_shared.specs.Shared.{InStore, typed_in, with_size}
 use Rattle.jv_client_shared.specs.Flying.{Flies, IsFlying}
 use Rattle.jv_client_shared.specs.Direct.{HasPut}
 use Rattle.jv_client_shared.specs.Keeping.{Keeps, KeepsNumbers, KeepsShared, Leads}

@@ -2,21 +2,22 @@
 use Rattle.std.proofs.Common.{◌≡◌, ℕ, List, Option, Some, refl, sym, ap, subst, ◌∙◌}
 use Rattle.std.specs.Prelude.{Result, Ok, Err}
 use Rattle.jv_model.specs.declared.setting.Setting.{Setting}
-use Rattle.jv_model.specs.tree.Tree.{Tree}
-use Rattle.jv_outside.specs.Carriage.{Carriage}
-use Rattle.jv_outside.specs.Store.{Store}
-use Rattle.jv_volume.specs.TypedRows.{Rows, typed}
-use Rattle.jv_volume_bytes.specs.Blocks.{Blocks, Grows, HasBlocks, known_by}
-use Rattle.jv_volume_bytes.specs.Bytes.{tree_with}
+use Rattle.jv_model.specs.promise.tree.Tree.{Tree}
+use Rattle.jv_outside.specs.promise.Carriage.{Carriage}
+use Rattle.jv_outside.specs.promise.Store.{Store}
+use Rattle.jv_volume.specs.promise.TypedRows.{Rows, typed}
+use Rattle.jv_volume_bytes.specs.promise.Blocks.{Blocks, Grows, HasBlocks, known_by}
+use Rattle.jv_volume_bytes.specs.promise.Bytes.{tree_with}
 use Rattle.jv_volume_bytes.proofs.BlockLaws.{grows-none}
 use Rattle.jv_yard.specs.declared.faults.YardFault.{YardFault}
 use Rattle.jv_yard.specs.declared.faults.YardFault.TheVariants.{Depot, Shelf, Memory}
-use Rattle.jv_yard.specs.Contents.{blocks_in}
+use Rattle.jv_yard.specs.promise.Contents.{blocks_in}
 use Rattle.jv_yard.specs.BlockCalls.{GetsBlock}
 use Rattle.jv_yard.specs.Refusals.{Refuses}
-use Rattle.jv_yard.specs.YardValue.{YardValue}
-use Rattle.jv_yard.proofs.CallLaws.{IsKept-same}
-use Rattle.jv_client_shared.specs.Shared.{AreStored, HasStore, Known, Shared, depot_blocks, depot_in, rows_in, staged_in, typed_in}
+use Rattle.jv_yard.specs.promise.YardValue.{YardValue}
+use Rattle.jv_yard.proofs.CallLaws.{KeepsStaged-same}
+use Rattle.jv_client_shared.specs.promise.Shared.{AreStored, HasStore, Known, Shared, depot_blocks, depot_in, staged_in}
+use Rattle.jv_client_shared.specs.Shared.{rows_in, typed_in}
 use Rattle.jv_client_shared.specs.Keeping.{HoldsSame, Keeps, KeepsShared, Leads}
 use Rattle.jv_client_shared.proofs.KeepingLaws.{keeps-none}
 
@@ -95,7 +96,7 @@ same-store t g v v' same s = record {
   there = subst (λ (y : YardValue). AreStored y.setting.block (typed s.rows) (blocks_in y.setting s.objects) (staged_in y s.staged)) yard_same s.there;
   copies = subst (λ (x : Setting). Grows (blocks_in x s.objects) g.blocks) (sym same.setting) s.copies;
   staged_copies = λ client. subst (λ (y : YardValue). Grows (staged_in y s.staged client) g.blocks) yard_same (s.staged_copies client);
-  kept = IsKept-same v.yard v'.yard same.setting same.blocks same.staged s.kept;
+  kept = KeepsStaged-same v.yard v'.yard same.setting same.blocks same.staged s.kept;
   below = s.below;
   tree = s.tree ∙ ap (λ (x : Setting). tree_with (known_by x.block g.blocks) (typed s.rows)) (sym same.setting);
   direct = subst (λ (x : Setting). HasBlocks x.block (typed s.rows) (blocks_in x s.objects)) (sym same.setting) s.direct;

@@ -10,24 +10,24 @@ use Rattle.jv_model.specs.declared.row.RowKey.{RowKey}
 use Rattle.jv_model.specs.declared.row.Node.{Node as NodeRow}
 use Rattle.jv_model.specs.declared.slice.Rec.{Rec}
 use Rattle.jv_model.specs.declared.slice.BlockId.{BlockId}
-use Rattle.jv_model.specs.FiniteMap.{get}
-use Rattle.jv_model.specs.rows.RowPlaces.{list_key}
-use Rattle.jv_model.specs.blocks.Slices.{IsRecord, block_at, block_count, stored_place}
-use Rattle.jv_model.specs.journal.Reading.{bytes_from}
-use Rattle.jv_model.specs.tree.Tree.{Content, Kind, File, Directory, Symlink, content_at}
-use Rattle.jv_model.specs.tree.Tree.{content_in}
-use Rattle.jv_model.specs.tree.Changes.{content_of}
-use Rattle.jv_volume.specs.TypedRows.{Rows}
-use Rattle.jv_volume.specs.Views.{row_in, records_in, lists_of, node_row_at}
-use Rattle.jv_volume.specs.TreeOf.{node_of}
-use Rattle.jv_volume.specs.Slices.{listed, next_slice, WholeSlices}
-use Rattle.jv_volume.proofs.TreeOfLaws.{node_at-tree_of}
-use Rattle.jv_volume_bytes.specs.Blocks.{EachBlock, EachOfSlice, HasBlocks, IsThere, known_by}
-use Rattle.jv_volume_bytes.specs.Bytes.{KnownBytes, spot_byte, bytes_of, tree_with}
+use Rattle.jv_model.specs.promise.FiniteMap.{get}
+use Rattle.jv_model.specs.promise.rows.RowPlaces.{list_key}
+use Rattle.jv_model.specs.promise.blocks.Slices.{IsRecord, block_at, block_count, stored_place}
+use Rattle.jv_model.specs.promise.journal.Reading.{bytes_from}
+use Rattle.jv_model.specs.promise.tree.Tree.{Content, Kind, File, Directory, Symlink, content_at}
+use Rattle.jv_model.specs.promise.tree.Tree.{content_in}
+use Rattle.jv_model.specs.promise.tree.Changes.{content_of}
+use Rattle.jv_volume.specs.promise.TypedRows.{Rows}
+use Rattle.jv_volume.specs.promise.Views.{row_in, records_in, lists_of, node_row_at}
+use Rattle.jv_volume.specs.promise.TreeOf.{node_of_row}
+use Rattle.jv_volume.specs.promise.Slices.{listed, next_slice, WholeSlices}
+use Rattle.jv_volume.proofs.stored.TreeOfLaws.{node_at-tree_of}
+use Rattle.jv_volume_bytes.specs.promise.Blocks.{EachBlock, EachOfSlice, HasBlocks, IsThere, known_by}
+use Rattle.jv_volume_bytes.specs.promise.Bytes.{KnownBytes, spot_byte, bytes_of, tree_with}
 use Rattle.jv_volume_bytes.proofs.BlockLaws.{named_has_row}
 use Rattle.jv_volume_bytes.proofs.PlaceLaws.{place_in-window}
 use Rattle.jv_volume_bytes.proofs.WholeLaws.{all-mapped}
-use Rattle.jv_client_shared.specs.Shared.{AreSized, Known}
+use Rattle.jv_client_shared.specs.promise.Shared.{AreSized, Known}
 use Rattle.jv_client_shared.specs.Seen.{IsFound, ShowsWindow}
 
 -- ---- a look
@@ -51,7 +51,7 @@ byte_looked known_bytes rows inode content is p low =
     by_kind row false true e = absurd (cc)
     by_kind row false false e = absurd (cc)
 
-    by_row : (o : Option NodeRow) → content_in (option_map (node_of (bytes_of known_bytes rows inode)) o) ≡ Some content → content.byte p ≡ bytes_of known_bytes rows inode p
+    by_row : (o : Option NodeRow) → content_in (option_map (node_of_row (bytes_of known_bytes rows inode)) o) ≡ Some content → content.byte p ≡ bytes_of known_bytes rows inode p
     by_row None e = absurd (cc)
     by_row (Some row) e = by_kind row (row.kind == 1) (row.kind == 2) e
 

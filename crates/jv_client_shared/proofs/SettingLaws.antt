@@ -7,16 +7,16 @@ use Rattle.std.proofs.lemmas.Bool.{eqb-true, and_parts}
 use Rattle.jv_model.specs.declared.row.Row.{Row}
 use Rattle.jv_model.specs.declared.row.Row.TheVariants.{OfSetting}
 use Rattle.jv_model.specs.declared.setting.Setting.{Setting}
-use Rattle.jv_model.specs.FiniteMap.{get}
-use Rattle.jv_model.specs.rows.RowFields.{whole, byte_at, front_at, half_at, word_at, long_at}
-use Rattle.jv_model.specs.rows.RowGrammar.{block_sizes, is_block_length, is_setting, row_of, setting_of}
-use Rattle.jv_model.specs.rows.RowKeys.{RowMap}
-use Rattle.jv_model.specs.rows.RowPlaces.{setting_key}
+use Rattle.jv_model.specs.promise.FiniteMap.{get}
+use Rattle.jv_model.specs.promise.rows.RowFields.{whole, byte_at, front_at, half_at, word_at, long_at}
+use Rattle.jv_model.specs.promise.rows.RowGrammar.{block_sizes, is_block_length, is_setting, row_of, setting_of}
+use Rattle.jv_model.specs.promise.rows.RowKeys.{RowMap}
+use Rattle.jv_model.specs.promise.rows.RowPlaces.{setting_key}
 use Rattle.jv_model.proofs.TestLaws.{then_all}
-use Rattle.jv_model.specs.Lists.{is_nil}
-use Rattle.jv_volume.specs.TypedRows.{cell_of, typed}
-use Rattle.jv_volume.specs.Views.{row_in, setting_in, setting_at}
-use Rattle.jv_volume.proofs.TypedLaws.{get-typed}
+use Rattle.jv_model.specs.promise.Lists.{is_nil}
+use Rattle.jv_volume.specs.promise.TypedRows.{cell_of, typed}
+use Rattle.jv_volume.specs.promise.Views.{row_in, setting_in, setting_at}
+use Rattle.jv_volume.proofs.maps.TypedLaws.{get-typed}
 use Rattle.jv_client_shared.specs.Lengths.{IsLength}
 
 one_of : (block : ℕ) (sizes : List ℕ) → AllByRecursion IsLength sizes → list_any (λ n. n == block) sizes ≡ true → IsLength block

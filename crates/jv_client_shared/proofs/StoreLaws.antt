@@ -5,21 +5,23 @@ use Rattle.jv_model.specs.declared.limits.TheConstants.{LAST_CLIENT}
 use Rattle.jv_model.specs.declared.setting.Setting.{Setting}
 use Rattle.jv_model.specs.declared.slice.BlockId.{BlockId}
 use Rattle.jv_model.specs.declared.slice.Rec.{Rec}
-use Rattle.jv_model.specs.rows.RowKeys.{RowMap}
-use Rattle.jv_model.specs.blocks.Slices.{block_at, block_count}
-use Rattle.jv_model.specs.tree.Tree.{Content, Tree, content_at}
-use Rattle.jv_model.specs.blocks.BlockNames.{name_in}
-use Rattle.jv_outside.specs.Blocks.{staged_at}
-use Rattle.jv_outside.specs.Objects.{ObjectMap, bytes_at}
-use Rattle.jv_volume.specs.TypedRows.{Rows, typed}
-use Rattle.jv_volume.specs.Views.{lists_of}
-use Rattle.jv_volume_bytes.specs.Blocks.{Blocks, Grows, HasBlocks, IsThere}
+use Rattle.jv_model.specs.promise.rows.RowKeys.{RowMap}
+use Rattle.jv_model.specs.promise.blocks.Slices.{block_at, block_count}
+use Rattle.jv_model.specs.promise.tree.Tree.{Content, Tree, content_at}
+use Rattle.jv_model.specs.promise.blocks.BlockNames.{name_in}
+use Rattle.jv_outside.specs.promise.Blocks.{staged_at}
+use Rattle.jv_outside.specs.promise.Objects.{ObjectMap, bytes_at}
+use Rattle.jv_volume.specs.promise.TypedRows.{Rows, typed}
+use Rattle.jv_volume.specs.promise.Views.{lists_of}
+use Rattle.jv_volume_bytes.specs.promise.Blocks.{Blocks, Grows, HasBlocks, IsThere}
 use Rattle.jv_volume_bytes.proofs.BlockLaws.{each_block-still, there-grows}
 use Rattle.jv_yard.specs.BlockCalls.{IsBlockBy, IsBlockOf}
-use Rattle.jv_yard.specs.Contents.{blocks_in, is_block}
-use Rattle.jv_yard.specs.Staging.{staged_since}
+use Rattle.jv_yard.specs.promise.Contents.{blocks_in}
+use Rattle.jv_model.specs.promise.blocks.BlockNames.{is_block}
+use Rattle.jv_yard.specs.promise.Staging.{staged_since}
 use Rattle.jv_yard.proofs.ContentsLaws.{is_block-says, read-depot}
-use Rattle.jv_client_shared.specs.Shared.{HasStore, InDepot, InStore, IsStored, Known, OnShelf, Shared, depot_blocks, depot_in, rows_in, staged_blocks, staged_in, typed_in}
+use Rattle.jv_client_shared.specs.promise.Shared.{HasStore, InDepot, IsStored, Known, OnShelf, Shared, depot_blocks, depot_in, staged_in}
+use Rattle.jv_client_shared.specs.Shared.{InStore, rows_in, staged_blocks, typed_in}
 use Rattle.jv_client_shared.specs.Lengths.{IsLength}
 use Rattle.jv_client_shared.specs.Seen.{IsView, ShowsWindow}
 use Rattle.jv_client_shared.specs.Direct.{HasNamed}

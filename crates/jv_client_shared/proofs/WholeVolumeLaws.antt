@@ -5,23 +5,24 @@ use Rattle.std.specs.Prelude.{◌&&◌, if◌then◌else◌, is_some}
 use Rattle.std.specs.Ordering.{eq_by_cmp}
 use Rattle.std.specs.Cmp.{eq_by_cmp_equiv}
 use Rattle.std.proofs.lemmas.Bool.{and_parts}
-use Rattle.jv_model.specs.FiniteMap.{first_where, text_key}
+use Rattle.jv_model.specs.promise.FiniteMap.{first_where, text_key}
 use Rattle.jv_model.proofs.FiniteMapLaws.{IsFound, first_where-found}
-use Rattle.jv_model.specs.blocks.BlockNames.{name_in}
-use Rattle.jv_outside.specs.Blocks.{staged_at, staged_key}
-use Rattle.jv_outside.specs.Objects.{bytes_at}
-use Rattle.jv_volume.specs.TypedRows.{typed}
-use Rattle.jv_volume.specs.Slices.{next_slice}
-use Rattle.jv_volume.proofs.ShapeMapLaws.{first_where-none, tied_same}
-use Rattle.jv_volume_bytes.specs.Blocks.{AreBelow, Blocks, Grows, HasBlocks, known_by}
-use Rattle.jv_volume_bytes.specs.Bytes.{tree_with}
+use Rattle.jv_model.specs.promise.blocks.BlockNames.{name_in}
+use Rattle.jv_outside.specs.promise.Blocks.{staged_at, staged_key}
+use Rattle.jv_outside.specs.promise.Objects.{bytes_at}
+use Rattle.jv_volume.specs.promise.TypedRows.{typed}
+use Rattle.jv_volume.specs.promise.Slices.{next_slice}
+use Rattle.jv_volume.proofs.shapes.ShapeMapLaws.{first_where-none, tied_same}
+use Rattle.jv_volume_bytes.specs.promise.Blocks.{AreBelow, Blocks, Grows, HasBlocks, known_by}
+use Rattle.jv_volume_bytes.specs.promise.Bytes.{tree_with}
 use Rattle.jv_model.specs.declared.slice.BlockId.{BlockId}
-use Rattle.jv_model.specs.tree.Tree.{Tree}
+use Rattle.jv_model.specs.promise.tree.Tree.{Tree}
 use Rattle.std.proofs.lemmas.Option.{same_Some}
-use Rattle.jv_yard.specs.Contents.{blocks_in, is_block}
-use Rattle.jv_yard.specs.Staging.{staged_since}
-use Rattle.jv_client_shared.specs.Shared.{HasStore, Known, Shared, staged_in}
-use Rattle.jv_client_shared.specs.WholeVolume.{IsCopy, WholeVolume}
+use Rattle.jv_yard.specs.promise.Contents.{blocks_in}
+use Rattle.jv_model.specs.promise.blocks.BlockNames.{is_block}
+use Rattle.jv_yard.specs.promise.Staging.{staged_since}
+use Rattle.jv_client_shared.specs.promise.Shared.{HasStore, Known, Shared, staged_in}
+use Rattle.jv_client_shared.specs.promise.WholeVolume.{IsCopy, WholeVolume}
 use Rattle.jv_client_shared.proofs.RowStepLaws.{sized-slices}
 
 module _ (v : Shared) (s : WholeVolume v) where

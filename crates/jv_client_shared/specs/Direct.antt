@@ -4,7 +4,7 @@
 use Rattle.std.specs.Prelude.{◌≢◌, ℕ, List}
 use Rattle.std.specs.List.{AllByRecursion}
 use Rattle.jv_model.specs.declared.slice.Rec.{Rec}
-use Rattle.jv_volume_bytes.specs.Blocks.{Blocks, IsThere}
+use Rattle.jv_volume_bytes.specs.promise.Blocks.{Blocks, IsThere}
 use Rattle.jv_volume_bytes.specs.Flights.{EachPut, Flight}
 use Rattle.jv_client_shared.specs.Seen.{SliceIsThere}
 

@@ -1,8 +1,9 @@
 -- A client's slice in flight: it has a number, and its first blocks were put.
 use Rattle.std.specs.Prelude.{◌≡◌, ℕ, length}
-use Rattle.jv_volume.specs.TypedRows.{Rows}
+use Rattle.jv_volume.specs.promise.TypedRows.{Rows}
 use Rattle.jv_volume_bytes.specs.Flights.{Flight, InFlight}
-use Rattle.jv_client_shared.specs.Shared.{Known, Shared, rows_in}
+use Rattle.jv_client_shared.specs.promise.Shared.{Known, Shared}
+use Rattle.jv_client_shared.specs.Shared.{rows_in}
 
 -- The blocks that were put have their bytes for good, and no other block that there ever was has
 -- the slice's number. Its size is known.

@@ -2,11 +2,12 @@
 -- number of the slice that the step is about, 0 where it is about none.
 use Rattle.std.specs.Prelude.{◌≡◌, ◌≢◌, ℕ, ◌<◌, ◌≤◌, List, Some}
 use Rattle.jv_model.specs.declared.slice.BlockId.{BlockId}
-use Rattle.jv_model.specs.tree.Tree.{Tree}
-use Rattle.jv_volume.specs.TypedRows.{Rows}
-use Rattle.jv_volume.specs.Slices.{IsUnknown, next_slice}
-use Rattle.jv_volume_bytes.specs.Blocks.{Grows}
-use Rattle.jv_client_shared.specs.Shared.{HasStore, Known, Shared, depot_in, rows_in}
+use Rattle.jv_model.specs.promise.tree.Tree.{Tree}
+use Rattle.jv_volume.specs.promise.TypedRows.{Rows}
+use Rattle.jv_volume.specs.promise.Slices.{IsUnknown, next_slice}
+use Rattle.jv_volume_bytes.specs.promise.Blocks.{Grows}
+use Rattle.jv_client_shared.specs.promise.Shared.{HasStore, Known, Shared, depot_in}
+use Rattle.jv_client_shared.specs.Shared.{rows_in}
 
 -- More is known later: no block changes, new ones are of the step's own slice, and only a slice
 -- that had no number gets a size.

@@ -3,13 +3,14 @@ use Rattle.std.specs.Prelude.{◌≡◌, ◌≢◌, ℕ, ◌+◌, ◌*◌, ◌<�
 use Rattle.std.specs.List.{AllByRecursion}
 use Rattle.jv_model.specs.declared.limits.TheConstants.{WINDOW}
 use Rattle.jv_model.specs.declared.slice.Rec.{Rec}
-use Rattle.jv_model.specs.blocks.Slices.{IsRecord, stored_place}
-use Rattle.jv_model.specs.tree.Tree.{Content}
-use Rattle.jv_volume.specs.TypedRows.{Rows}
-use Rattle.jv_volume.specs.Slices.{next_slice}
-use Rattle.jv_volume_bytes.specs.Blocks.{Blocks, EachOfSlice, IsThere, known_by}
-use Rattle.jv_volume_bytes.specs.Bytes.{spot_byte}
-use Rattle.jv_client_shared.specs.Shared.{Known, Shared, rows_in}
+use Rattle.jv_model.specs.promise.blocks.Slices.{IsRecord, stored_place}
+use Rattle.jv_model.specs.promise.tree.Tree.{Content}
+use Rattle.jv_volume.specs.promise.TypedRows.{Rows}
+use Rattle.jv_volume.specs.promise.Slices.{next_slice}
+use Rattle.jv_volume_bytes.specs.promise.Blocks.{Blocks, EachOfSlice, IsThere, known_by}
+use Rattle.jv_volume_bytes.specs.promise.Bytes.{spot_byte}
+use Rattle.jv_client_shared.specs.promise.Shared.{Known, Shared}
+use Rattle.jv_client_shared.specs.Shared.{rows_in}
 
 -- each block of a slice of this size is there
 abbrev pub SliceIsThere : ℕ → Blocks → ℕ → ℕ → Type 0

@@ -1,31 +1,5 @@
 -- Laws about the definitions.
-pub mod TextLaws
-pub mod BufferLaws
-pub mod CuttingLaws
-pub mod StageLaws
-pub mod StepLaws
-pub mod FreshLaws
-pub mod FormattedLaws
-pub mod LeftLaws
-pub mod ActLaws
-pub mod ReadingLaws
-pub mod EntryLaws
-pub mod DoneLaws
-pub mod EndLaws
-pub mod GoingLaws
-pub mod SayingLaws
-pub mod DrawnLaws
-pub mod DrawnWordLaws
-pub mod DrawnNumberLaws
-pub mod DrawnDataLaws
-pub mod DrawnPathLaws
-pub mod DrawnLineLaws
-pub mod DrawnScriptLaws
-pub mod DrawnEndLaws
-pub mod ScriptEndLaws
-mod CommandLaws
-pub mod AppLaws
-pub mod AskedLaws
-pub mod ValuesLaws
-pub mod ProgramLaws
-pub mod WordsExamples
+pub mod asked
+pub mod drawn_scripts
+pub mod runs
+pub mod streams

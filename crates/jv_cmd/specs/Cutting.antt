@@ -2,11 +2,11 @@
 use Rattle.std.specs.Prelude.{◌≡◌, ℕ, ◌+◌, ◌≤◌, ◌<◌, List, [], ◌∷◌, ◌++◌, length, take, drop, Option, IfSome, IsSomeAnd, Result, Ok, Err}
 use Rattle.std.specs.Io.KnownBytes.{prepend_known, Consumes, IsAtEnd}
 use Rattle.jv_model.specs.declared.fault.Down.{Down}
-use Rattle.jv_outside.specs.Causes.{Rose}
+use Rattle.jv_outside.specs.promise.Causes.{Rose}
 use Rattle.jv_cmd.specs.declared.reader.Next.{Next}
 use Rattle.jv_cmd.specs.declared.reader.Next.TheVariants.{Text, TooLong, End}
 use Rattle.jv_model.specs.declared.limits.TheConstants.{MAX_LINE}
-use Rattle.jv_cmd.specs.Texts.{texts_of}
+use Rattle.jv_cmd.specs.promise.Texts.{texts_of}
 
 -- a source returned bytes, which are held after the others, and none only at its end
 pub record Fills (before after : Option (List ℕ)) (old new : List ℕ) (count : ℕ) : Type 0 where

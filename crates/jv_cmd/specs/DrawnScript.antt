@@ -1,10 +1,10 @@
 -- What is known of every script that is drawn from a seed.
 use Rattle.std.specs.Prelude.{◌≡◌, ℕ, false, All, Some}
 use Rattle.jv_model.specs.declared.basics.Limits.{Limits}
-use Rattle.jv_script_drawn.specs.Script.{script}
-use Rattle.jv_cmd.specs.Generating.{script_text}
-use Rattle.jv_cmd.specs.Run.{AreLines, IsBuilt}
-use Rattle.jv_cmd.specs.Texts.{texts_of}
+use Rattle.jv_script_drawn.specs.promise.Script.{script}
+use Rattle.jv_cmd.specs.promise.Generating.{script_text}
+use Rattle.jv_cmd.specs.promise.Run.{AreLines, IsBuilt}
+use Rattle.jv_cmd.specs.promise.Texts.{texts_of}
 
 -- its text is read as its lines, all of them may be read, and each is built
 pub record IsReadBack (limits : Limits) (seed : ℕ) : Type 0 where

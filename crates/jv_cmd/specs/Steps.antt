@@ -5,23 +5,24 @@ use Rattle.jv_model.specs.declared.basics.Limits.{Limits}
 use Rattle.jv_model.specs.declared.fault.Device.{Device}
 use Rattle.jv_model.specs.declared.op.Line.{Line}
 use Rattle.jv_model.specs.declared.row.RowKey.{RowKey}
-use Rattle.jv_model.specs.script.Grammar.{line_of}
-use Rattle.jv_model.specs.journal.Legal.{AllAllowed}
-use Rattle.jv_model.specs.journal.Past.{Past, Setup, at_start, begun_to, past, reached}
-use Rattle.jv_outside.specs.Causes.{Rose, RoseTimes}
-use Rattle.jv_outside.specs.Stream.{Gains, HasAll, IsCut}
-use Rattle.jv_outside.specs.Ticks.{Passes}
-use Rattle.jv_client_shared.specs.Shared.{Shared}
+use Rattle.jv_model.specs.promise.script.Grammar.{line_of}
+use Rattle.jv_model.specs.promise.journal.Legal.{AllAllowed}
+use Rattle.jv_model.specs.promise.journal.Past.{Past, Setup, at_start, begun_to, past, reached}
+use Rattle.jv_outside.specs.promise.Causes.{Rose, RoseTimes}
+use Rattle.jv_outside.specs.promise.Stream.{Gains, HasAll, IsCut}
+use Rattle.jv_outside.specs.promise.Ticks.{Passes}
+use Rattle.jv_client_shared.specs.promise.Shared.{Shared}
 use Rattle.jv_client.specs.Makes.{faults_of}
-use Rattle.jv_session.specs.Direct.{BlocksStay}
-use Rattle.jv_session.specs.Lines.{AreFailures, BreaksAt, CutsLine, FromThere, LineState, LineUses, StaysPut, line_state}
+use Rattle.jv_session.specs.promise.Direct.{BlocksStay}
+use Rattle.jv_session.specs.promise.Lines.{AreFailures, StaysPut}
+use Rattle.jv_session.specs.Lines.{BreaksAt, CutsLine, FromThere, LineState, LineUses, line_state}
 use Rattle.jv_session.specs.Stands.{ScheduleValue, Stands}
 use Rattle.jv_cmd.specs.declared.ended.Ended.{Ended}
 use Rattle.jv_cmd.specs.declared.ended.Ended.TheVariants.{LineNotRun, BadRow, OutFailed, ClockFailed, OutOfMemory}
 use Rattle.jv_model.specs.declared.limits.TheConstants.{MAX_LINE, MAX_LINES}
-use Rattle.jv_cmd.specs.Texts.{texts_of}
-use Rattle.jv_cmd.specs.Stages.{StageValue}
-use Rattle.jv_cmd.specs.Run.{Beginning, IsKnownClock, IsBuilt, StartsWhole, session_run, IsTextNotRun}
+use Rattle.jv_cmd.specs.promise.Texts.{texts_of}
+use Rattle.jv_cmd.specs.promise.Stages.{StageValue}
+use Rattle.jv_cmd.specs.promise.Run.{Beginning, IsKnownClock, IsBuilt, StartsWhole, session_run, IsTextNotRun}
 use Rattle.jv_cmd.specs.Generating.{EndsScript}
 
 -- a past after `done` lines of a run, with these lines to come: the schedule stands there, and this

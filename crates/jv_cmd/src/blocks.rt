@@ -1,7 +1,8 @@
 ghost use Rattle.std.specs.Prelude.{◌≡◌};
-ghost use Rattle.jv_outside.specs.Carriage.{Moves};
-ghost use Rattle.jv_cmd.specs.Attaching.{AttachesAll, ended_at, ended_by_yard};
-ghost use Rattle.jv_cmd.specs.Worlds.{block_devices};
+ghost use Rattle.jv_outside.specs.promise.Carriage.{Moves};
+ghost use Rattle.jv_cmd.specs.Attaching.{AttachesAll};
+ghost use Rattle.jv_cmd.specs.promise.Attaching.{ended_at, ended_by_yard};
+ghost use Rattle.jv_cmd.specs.promise.Worlds.{block_devices};
 
 use crate::ended::Ended;
 use jv_model::{Down, Text};

@@ -1,6 +1,7 @@
 //! What the options of a session bound.
 ghost use Rattle.std.specs.Prelude.{◌≡◌, ◌<◌, ◌≤◌};
-ghost use Rattle.jv_cmd.specs.Bounds.{AreAllowed, cache_entries, limits_of};
+ghost use Rattle.jv_cmd.specs.Bounds.{AreAllowed};
+ghost use Rattle.jv_cmd.specs.promise.Bounds.{cache_entries, limits_of};
 ghost use Rattle.jv_model.specs.declared.options.TheConstants.{MAX_CACHE};
 
 use crate::words::SessionOptions;

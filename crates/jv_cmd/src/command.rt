@@ -2,8 +2,9 @@ ghost use Rattle.std.specs.Prelude.{◌≡◌, ◌≤◌, [], map, string_bytes,
 ghost use Rattle.jv_model.specs.declared.limits.TheConstants.{MAX_DATA};
 ghost use Rattle.jv_client_shared.specs.Lengths.{IsLength};
 ghost use Rattle.jv_cmd.specs.Bounds.{AreAllowed};
-ghost use Rattle.jv_cmd.specs.Commands.{Runs, RunsAttached, RunsCommand, RunsSession, RunsVolume};
-ghost use Rattle.jv_cmd.specs.Faults.{CountsFaults, in_world};
+ghost use Rattle.jv_cmd.specs.promise.Commands.{Runs, RunsCommand};
+ghost use Rattle.jv_cmd.specs.Commands.{RunsAttached, RunsSession, RunsVolume};
+ghost use Rattle.jv_cmd.specs.promise.Faults.{CountsFaults, in_world};
 ghost use Rattle.jv_cmd.specs.Generating.{EndsScript};
 ghost use Rattle.jv_cmd.specs.Stages.{IsFirst};
 ghost use Rattle.jv_cmd.specs.Words.{IsAllowedCommand};

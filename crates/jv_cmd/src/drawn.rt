@@ -2,12 +2,13 @@
 //! out that keeps what they print, and their summary goes to the session's own out.
 ghost use Rattle.std.specs.Prelude.{◌≡◌, ◌≤◌, ◌++◌, ◌∷◌, [], codes, drop, IfOk, IsSome, IsSomeAnd, MatchOption, OnOk, Some};
 ghost use Rattle.jv_model.specs.declared.limits.TheConstants.{MAX_DATA};
-ghost use Rattle.jv_model.specs.script.Printed.{number_word};
-ghost use Rattle.jv_script_drawn.specs.Summary.{totals_of, with_reply};
-ghost use Rattle.jv_script_drawn.specs.Script.{script};
-ghost use Rattle.jv_cmd.specs.Generating.{EndsScript, PrintsSummary, SumsUp, words_of_create, is_read_line, line_text, operation_text, words_of_read, repeated_text, replies_said, reply_said, script_text, spelled_bytes, summary_of, words_of_write};
+ghost use Rattle.jv_model.specs.promise.script.Printed.{number_word};
+ghost use Rattle.jv_script_drawn.specs.promise.Summary.{totals_of, with_reply};
+ghost use Rattle.jv_script_drawn.specs.promise.Script.{script};
+ghost use Rattle.jv_cmd.specs.Generating.{EndsScript};
+ghost use Rattle.jv_cmd.specs.promise.Generating.{PrintsSummary, SumsUp, words_of_create, is_read_line, line_text, operation_text, words_of_read, repeated_text, replies_said, reply_said, script_text, spelled_bytes, summary_of, words_of_write};
 ghost use Rattle.jv_cmd.specs.Stages.{IsFirst};
-ghost use Rattle.jv_cmd.specs.Texts.{texts_of};
+ghost use Rattle.jv_cmd.specs.promise.Texts.{texts_of};
 
 use crate::ended::Ended;
 use crate::lines::{discard, run_script};
@@ -71,7 +72,7 @@ fn push_flush(text: &mut Vec<u8>, handle: u64) -> Result<(), AllocError>
 }
 
 /// Adds an operation of a kind that a drawn script has.
-#[tactic(auto, unfolding(crate::specs::Generating::operation_text))]
+#[tactic(auto, unfolding(crate::specs::promise::Generating::operation_text))]
 fn push_operation(text: &mut Vec<u8>, op: &Op) -> Result<(), AllocError>
     ensures { OnOk result (text.new.items ≡ text.old.items ++ operation_text op.now) }
 {
@@ -94,7 +95,7 @@ fn push_operation(text: &mut Vec<u8>, op: &Op) -> Result<(), AllocError>
 }
 
 /// Adds a line of client A, with its line feed.
-#[tactic(auto, unfolding(crate::specs::Generating::line_text))]
+#[tactic(auto, unfolding(crate::specs::promise::Generating::line_text))]
 fn push_line(text: &mut Vec<u8>, line: &Line) -> Result<(), AllocError>
     ensures { OnOk result (text.new.items ≡ text.old.items ++ line_text line.now) }
 {
@@ -161,7 +162,7 @@ fn after_ok(answer: &[u8]) -> &[u8]
 }
 
 /// What totals count of a line's answer.
-#[tactic(auto, unfolding(crate::specs::Generating::reply_said))]
+#[tactic(auto, unfolding(crate::specs::promise::Generating::reply_said))]
 fn reply_said(alloc: Global, line: &Line, answer: &[u8]) -> Result<Reply, AllocError>
     ensures { IfOk result (λ reply. reply ≡ reply_said line.now answer.now) }
 {
@@ -224,7 +225,7 @@ fn totals(alloc: Global, seed: u64, said: &[u8]) -> Result<Totals, AllocError>
 }
 
 /// The summary of what the script of a seed printed.
-#[tactic(auto, unfolding(crate::specs::Generating::summary_of))]
+#[tactic(auto, unfolding(crate::specs::promise::Generating::summary_of))]
 fn summary(alloc: Global, seed: u64, said: &[u8]) -> Result<Bytes, AllocError>
     ensures { IfOk result (λ line. line ≡ summary_of seed said.now) }
 {

@@ -1,8 +1,8 @@
 ghost use Rattle.std.specs.Prelude.{◌≡◌, ◌++◌, codes, decimal};
 ghost use Rattle.std.specs.List.{flat_map};
-ghost use Rattle.jv_model.specs.script.Printed.{hex_pair};
-ghost use Rattle.jv_cmd.specs.Ends.{status_of, message_of, key_text, digits_or_dash};
-ghost use Rattle.jv_cmd.specs.Saying.{Says};
+ghost use Rattle.jv_model.specs.promise.script.Printed.{hex_pair};
+ghost use Rattle.jv_cmd.specs.promise.Ends.{status_of, message_of, key_text, digits_or_dash};
+ghost use Rattle.jv_cmd.specs.promise.Saying.{Says};
 ghost use Rattle.jv_cmd.specs.declared.ended.Ended.TheVariants.{OutOfMemory};
 ghost use Rattle.jv_outside.specs.Stream.{WritesAll};
 

@@ -1,8 +1,10 @@
 ghost use Rattle.std.specs.Prelude.{◌≡◌, IfOk, IsTrue};
-ghost use Rattle.jv_model.specs.rows.RowGrammar.{is_setting};
-ghost use Rattle.jv_outside.specs.Causes.{RoseIf};
-ghost use Rattle.jv_cmd.specs.Faults.{CountsFaults, UsesKeeper, clock_failed, ended_by, in_world};
-ghost use Rattle.jv_cmd.specs.Formatting.{formatted_text, FormatsAt, PutsVolume};
+ghost use Rattle.jv_model.specs.promise.rows.RowGrammar.{is_setting};
+ghost use Rattle.jv_outside.specs.promise.Causes.{RoseIf};
+ghost use Rattle.jv_cmd.specs.promise.Faults.{CountsFaults, UsesKeeper, clock_failed, in_world};
+ghost use Rattle.jv_cmd.specs.Faults.{ended_by};
+ghost use Rattle.jv_cmd.specs.promise.Formatting.{formatted_text};
+ghost use Rattle.jv_cmd.specs.Formatting.{FormatsAt, PutsVolume};
 
 use crate::ended::Ended;
 use crate::volume::stored_setting;

@@ -2,12 +2,13 @@ ghost use Rattle.std.specs.Prelude.{◌≡◌, ◌↔◌, ◌≤◌, ◌<◌, []
 ghost use Rattle.std.specs.Io.KnownBytes.{prepend_known};
 ghost use Rattle.jv_model.specs.declared.limits.TheConstants.{MAX_DATA};
 ghost use Rattle.jv_model.specs.declared.op.Line.TheVariants.{Empty};
-ghost use Rattle.jv_client.specs.Built.{is_built_line};
+ghost use Rattle.jv_client.specs.promise.Built.{is_built_line};
 ghost use Rattle.jv_session.specs.Lines.{LineRuns};
 ghost use Rattle.jv_session.specs.Stands.{IsYardOf};
 ghost use Rattle.jv_cmd.specs.Generating.{EndsScript};
 ghost use Rattle.jv_cmd.specs.Steps.{TextReads, LineEnds, TextEnds, Going, NextLine, used};
-ghost use Rattle.jv_cmd.specs.Stages.{IsFirst, StageValue};
+ghost use Rattle.jv_cmd.specs.Stages.{IsFirst};
+ghost use Rattle.jv_cmd.specs.promise.Stages.{StageValue};
 
 use crate::ended::Ended;
 use crate::reader::{LineReader, Next};

@@ -3,7 +3,8 @@ ghost use Rattle.std.specs.List.{position};
 ghost use Rattle.std.specs.Io.KnownBytes.{prepend_known};
 ghost use Rattle.jv_outside.specs.Stream.{Reads};
 ghost use Rattle.jv_cmd.specs.declared.reader.Next.TheVariants.{Text, TooLong, End};
-ghost use Rattle.jv_cmd.specs.Texts.{is_feed, has_feed};
+ghost use Rattle.jv_cmd.specs.promise.Texts.{is_feed};
+ghost use Rattle.jv_cmd.specs.Texts.{has_feed};
 
 use jv_model::{Down, MAX_LINE};
 use jv_outside::Source;

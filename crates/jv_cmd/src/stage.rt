@@ -1,6 +1,6 @@
 //! What the lines of a script use.
 ghost use Rattle.std.specs.Prelude.{◌≡◌, IsSome};
-ghost use Rattle.jv_cmd.specs.Stages.{world_of};
+ghost use Rattle.jv_cmd.specs.promise.Stages.{world_of};
 
 use crate::world::{Observed, World};
 use jv_model::{Journal, Limits};
@@ -22,15 +22,16 @@ pub(crate) struct RunStage<S, O, K, D, H, C> {
 
 /// What contracts see of a stage.
 pub trait ObservedStage {
-    ghost use Rattle.jv_cmd.specs.Stages.{StageValue};
+    ghost use Rattle.jv_cmd.specs.promise.Stages.{StageValue};
 
     ghost seen: { Self → StageValue };
 }
 
 impl<S: Source, O: Sink, K: Keeper, D: Depot, H: Shelf, C: Clock> ObservedStage
     for RunStage<S, O, K, D, H, C> {
-    ghost use Rattle.jv_client.specs.Shared.{shared};
-    ghost use Rattle.jv_cmd.specs.Stages.{stage_value, yard_at};
+    ghost use Rattle.jv_client.specs.promise.Shared.{shared};
+    ghost use Rattle.jv_cmd.specs.promise.Stages.{stage_value};
+    ghost use Rattle.jv_cmd.specs.Stages.{yard_at};
 
     ghost seen = { λ w. stage_value w.limits (S.seen w.source) (O.seen w.out)
         (shared (K.seen w.keeper) (yard_at (⟦<Alone<D, H> as YardDoor<D, H>>⟧.given w.door))

@@ -1,8 +1,10 @@
 ghost use Rattle.std.specs.Prelude.{IfErr};
-ghost use Rattle.jv_outside.specs.Holding.{IsAttached};
-ghost use Rattle.jv_outside.specs.Store.{held};
-ghost use Rattle.jv_cmd.specs.Faults.{UsesKeeper, ended_by};
-ghost use Rattle.jv_cmd.specs.Opening.{CannotRead, ReadsSetting, OpensVolume};
+ghost use Rattle.jv_outside.specs.promise.Holding.{IsAttached};
+ghost use Rattle.jv_outside.specs.promise.Store.{held};
+ghost use Rattle.jv_cmd.specs.promise.Faults.{UsesKeeper};
+ghost use Rattle.jv_cmd.specs.Faults.{ended_by};
+ghost use Rattle.jv_cmd.specs.promise.Opening.{CannotRead};
+ghost use Rattle.jv_cmd.specs.Opening.{ReadsSetting, OpensVolume};
 
 use crate::ended::Ended;
 use jv_model::tables::ROWS_VERSION;

@@ -35,14 +35,14 @@ pub struct Finish<S, O, E, K, D, H, C> {
 
 /// What contracts see of a world.
 pub trait Observed {
-    ghost use Rattle.jv_cmd.specs.Worlds.{WorldValue};
+    ghost use Rattle.jv_cmd.specs.promise.Worlds.{WorldValue};
 
     ghost seen: { Self → WorldValue };
 }
 
 impl<S: Source, O: Sink, E: Sink, K: Keeper, D: Depot, H: Shelf, C: Clock> Observed
     for World<S, O, E, K, D, H, C> {
-    ghost use Rattle.jv_cmd.specs.Worlds.{block_devices, world_value};
+    ghost use Rattle.jv_cmd.specs.promise.Worlds.{block_devices, world_value};
 
     ghost seen = { λ w. world_value (S.seen w.source) (O.seen w.out) (E.seen w.err)
         (K.seen w.keeper) (block_devices (D.seen w.depot) (H.seen w.shelf)

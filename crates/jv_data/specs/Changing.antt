@@ -12,17 +12,19 @@ use Rattle.jv_model.specs.declared.op.Reply.{Reply}
 use Rattle.jv_model.specs.declared.row.RowKey.{RowKey}
 use Rattle.jv_model.specs.declared.row.SliceRow.{SliceRow}
 use Rattle.jv_model.specs.declared.setting.Setting.{Setting}
-use Rattle.jv_model.specs.FiniteMap.{get}
-use Rattle.jv_model.specs.rows.RowKeys.{RowMap}
-use Rattle.jv_model.specs.tree.Tree.{Tree}
-use Rattle.jv_model.specs.tree.Caller.{Outcome}
-use Rattle.jv_outside.specs.Store.{Store}
+use Rattle.jv_model.specs.promise.FiniteMap.{get}
+use Rattle.jv_model.specs.promise.rows.RowKeys.{RowMap}
+use Rattle.jv_model.specs.promise.tree.Tree.{Tree}
+use Rattle.jv_model.specs.promise.tree.Caller.{Outcome}
+use Rattle.jv_outside.specs.promise.Store.{Store}
 use Rattle.jv_rows.specs.Transactions.{TransactionCounts, BadFault}
-use Rattle.jv_volume.specs.TypedRows.{Rows, typed}
-use Rattle.jv_volume.specs.Views.{setting_at, slice_row_at, dead_at}
-use Rattle.jv_volume.specs.Whole.{FilesDrop, Whole}
-use Rattle.jv_volume_bytes.specs.Bytes.{KnownBytes, tree_with}
-use Rattle.jv_volume_bytes.specs.Counts.{KeepsOthers, record_count}
+use Rattle.jv_volume.specs.promise.TypedRows.{Rows, typed}
+use Rattle.jv_volume.specs.promise.Views.{setting_at, slice_row_at, dead_at}
+use Rattle.jv_volume.specs.Whole.{FilesDrop}
+use Rattle.jv_volume.specs.promise.Whole.{Whole}
+use Rattle.jv_volume_bytes.specs.promise.Bytes.{KnownBytes, tree_with}
+use Rattle.jv_volume_bytes.specs.Counts.{KeepsOthers}
+use Rattle.jv_volume_bytes.specs.promise.Counts.{record_count}
 
 -- the slice that a transaction makes, if it makes one; how many records it adds at most; and when a
 -- slice may go that nothing names any more, by the volume's setting

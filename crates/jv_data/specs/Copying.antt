@@ -8,17 +8,18 @@ use Rattle.jv_model.specs.declared.row.Row.TheVariants.{OfList}
 use Rattle.jv_model.specs.declared.slice.Piece.{Piece}
 use Rattle.jv_model.specs.declared.slice.Rec.{Rec}
 use Rattle.jv_model.specs.FiniteMap.{alter}
-use Rattle.jv_model.specs.blocks.Slices.{IsRecord, IsPlan}
-use Rattle.jv_model.specs.rows.RowKeys.{RowMap}
-use Rattle.jv_model.specs.rows.RowPlaces.{list_key}
+use Rattle.jv_model.specs.promise.blocks.Slices.{IsRecord}
+use Rattle.jv_model.specs.blocks.Slices.{IsPlan}
+use Rattle.jv_model.specs.promise.rows.RowKeys.{RowMap}
+use Rattle.jv_model.specs.promise.rows.RowPlaces.{list_key}
 use Rattle.jv_outside.specs.declared.batch.Change.{Change}
-use Rattle.jv_outside.specs.Store.{Store}
+use Rattle.jv_outside.specs.promise.Store.{Store}
 use Rattle.jv_rows.specs.Drafts.{drafted}
 use Rattle.jv_rows.specs.Transactions.{Looks, without_answer}
-use Rattle.jv_volume.specs.TypedRows.{Rows, typed}
-use Rattle.jv_volume.specs.Views.{lists_of}
-use Rattle.jv_volume.specs.Slices.{place_in}
-use Rattle.jv_volume.specs.Whole.{Whole}
+use Rattle.jv_volume.specs.promise.TypedRows.{Rows, typed}
+use Rattle.jv_volume.specs.promise.Views.{lists_of}
+use Rattle.jv_volume.specs.promise.Slices.{place_in}
+use Rattle.jv_volume.specs.promise.Whole.{Whole}
 use Rattle.jv_volume_bytes.specs.Fills.{Fills, records_of_plan}
 use Rattle.jv_volume_bytes.specs.Places.{Lists}
 use Rattle.jv_data.specs.declared.copying.CopyCourse.{CopyCourse}

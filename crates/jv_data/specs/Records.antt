@@ -11,22 +11,22 @@ use Rattle.jv_model.specs.declared.op.Reply.TheVariants.{Done}
 use Rattle.jv_model.specs.declared.row.RowKey.{RowKey}
 use Rattle.jv_model.specs.declared.setting.Setting.{Setting}
 use Rattle.jv_model.specs.declared.slice.Rec.{Rec}
-use Rattle.jv_model.specs.FiniteMap.{get}
-use Rattle.jv_model.specs.blocks.Slices.{IsRecord, shown}
-use Rattle.jv_model.specs.rows.RowKeys.{RowMap}
-use Rattle.jv_model.specs.rows.RowPlaces.{counters_key, list_key}
-use Rattle.jv_model.specs.tree.Attempt.{◌>>=◌, require}
-use Rattle.jv_model.specs.tree.Caller.{Outcome, done, session_there}
-use Rattle.jv_model.specs.tree.Tree.{Tree}
+use Rattle.jv_model.specs.promise.FiniteMap.{get}
+use Rattle.jv_model.specs.promise.blocks.Slices.{IsRecord, shown}
+use Rattle.jv_model.specs.promise.rows.RowKeys.{RowMap}
+use Rattle.jv_model.specs.promise.rows.RowPlaces.{counters_key, list_key}
+use Rattle.jv_model.specs.promise.tree.Attempt.{◌>>=◌, require}
+use Rattle.jv_model.specs.promise.tree.Caller.{Outcome, done, session_there}
+use Rattle.jv_model.specs.promise.tree.Tree.{Tree}
 use Rattle.jv_model.specs.tree.FileBytes.{length_seen, commit_of}
-use Rattle.jv_outside.specs.Store.{Store}
+use Rattle.jv_outside.specs.promise.Store.{Store}
 use Rattle.jv_rows.specs.Transactions.{TransactionCounts, Looks, BadFault, without_answer}
-use Rattle.jv_volume.specs.TypedRows.{Rows, typed}
-use Rattle.jv_volume.specs.Views.{lists_of}
-use Rattle.jv_volume.specs.TreeOf.{tree_of}
-use Rattle.jv_volume.specs.Slices.{IsUnknown, next_slice}
-use Rattle.jv_volume.specs.Whole.{Whole, no_bytes}
-use Rattle.jv_volume_bytes.specs.Bytes.{KnownBytes, spot_byte}
+use Rattle.jv_volume.specs.promise.TypedRows.{Rows, typed}
+use Rattle.jv_volume.specs.promise.Views.{lists_of}
+use Rattle.jv_volume.specs.promise.TreeOf.{tree_of}
+use Rattle.jv_volume.specs.promise.Slices.{IsUnknown, next_slice}
+use Rattle.jv_volume.specs.promise.Whole.{Whole, no_bytes}
+use Rattle.jv_volume_bytes.specs.promise.Bytes.{KnownBytes, spot_byte}
 use Rattle.jv_data.specs.declared.looking.View.{View}
 use Rattle.jv_data.specs.Changing.{Changes, Never}
 use Rattle.jv_model.specs.Optional.{mapped}

@@ -6,20 +6,20 @@ use Rattle.jv_model.specs.declared.row.Counters.{Counters}
 use Rattle.jv_model.specs.declared.row.Node.{Node}
 use Rattle.jv_model.specs.declared.row.Row.TheVariants.{OfNode, OfCounters}
 use Rattle.jv_model.specs.declared.setting.Setting.{Setting}
-use Rattle.jv_model.specs.FiniteMap.{insert}
-use Rattle.jv_model.specs.rows.RowKeys.{RowMap}
-use Rattle.jv_model.specs.rows.RowPlaces.{counters_key, node_key}
-use Rattle.jv_model.specs.tree.Attempt.{require}
-use Rattle.jv_model.specs.tree.Tree.{Tree, Content, paged, space_limit, sum_fits, fits}
-use Rattle.jv_model.specs.tree.Changes.{with_content}
+use Rattle.jv_model.specs.promise.FiniteMap.{insert}
+use Rattle.jv_model.specs.promise.rows.RowKeys.{RowMap}
+use Rattle.jv_model.specs.promise.rows.RowPlaces.{counters_key, node_key}
+use Rattle.jv_model.specs.promise.tree.Attempt.{require}
+use Rattle.jv_model.specs.promise.tree.Tree.{Tree, Content, paged, space_limit, sum_fits, fits}
+use Rattle.jv_model.specs.promise.tree.Changes.{with_content}
 use Rattle.jv_outside.specs.declared.batch.Change.{Change}
-use Rattle.jv_outside.specs.Store.{Store}
+use Rattle.jv_outside.specs.promise.Store.{Store}
 use Rattle.jv_rows.specs.Drafts.{drafted}
 use Rattle.jv_rows.specs.Transactions.{Looks}
-use Rattle.jv_volume.specs.TypedRows.{Rows, typed}
-use Rattle.jv_volume.specs.Slices.{next_slice}
-use Rattle.jv_volume.specs.Views.{counters_at}
-use Rattle.jv_volume.specs.Whole.{Whole}
+use Rattle.jv_volume.specs.promise.TypedRows.{Rows, typed}
+use Rattle.jv_volume.specs.promise.Slices.{next_slice}
+use Rattle.jv_volume.specs.promise.Views.{counters_at}
+use Rattle.jv_volume.specs.promise.Whole.{Whole}
 use Rattle.jv_data.specs.Truncating.{LeaveSlices}
 
 -- used space once a file of one length has another

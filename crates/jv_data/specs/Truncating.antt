@@ -11,19 +11,21 @@ use Rattle.jv_model.specs.declared.row.SliceRow.{SliceRow}
 use Rattle.jv_model.specs.declared.row.RowKey.{RowKey}
 use Rattle.jv_model.specs.declared.setting.Setting.{Setting}
 use Rattle.jv_model.specs.declared.slice.Rec.{Rec}
-use Rattle.jv_model.specs.FiniteMap.{get, alter}
-use Rattle.jv_model.specs.rows.RowKeys.{RowMap}
-use Rattle.jv_model.specs.rows.RowPlaces.{list_key, slice_key}
+use Rattle.jv_model.specs.promise.FiniteMap.{get}
+use Rattle.jv_model.specs.FiniteMap.{alter}
+use Rattle.jv_model.specs.promise.rows.RowKeys.{RowMap}
+use Rattle.jv_model.specs.promise.rows.RowPlaces.{list_key, slice_key}
 use Rattle.jv_model.specs.tree.Trash.{due_after}
 use Rattle.jv_outside.specs.declared.batch.Change.{Change}
-use Rattle.jv_outside.specs.Store.{Store}
+use Rattle.jv_outside.specs.promise.Store.{Store}
 use Rattle.jv_rows.specs.Counts.{Adjusted}
 use Rattle.jv_rows.specs.Drafts.{drafted}
 use Rattle.jv_rows.specs.Lists.{is_past, HasNoList, HaveWindows}
 use Rattle.jv_rows.specs.Transactions.{Looks, without_answer}
-use Rattle.jv_volume.specs.TypedRows.{Rows, typed}
-use Rattle.jv_volume.specs.Views.{lists_of, node_row_at, setting_at}
-use Rattle.jv_volume.specs.Whole.{Whole, is_of_slices}
+use Rattle.jv_volume.specs.promise.TypedRows.{Rows, typed}
+use Rattle.jv_volume.specs.promise.Views.{lists_of, node_row_at, setting_at}
+use Rattle.jv_volume.specs.promise.Whole.{Whole}
+use Rattle.jv_volume.specs.Whole.{is_of_slices}
 use Rattle.jv_volume_bytes.specs.Places.{zero_record, cut_list}
 
 -- a slice has a row

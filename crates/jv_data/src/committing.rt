@@ -3,7 +3,7 @@ ghost use Rattle.std.specs.Prelude.{◌≡◌, ◌≤◌, ◌+◌, ◌*◌, ◌<
 ghost use Rattle.jv_data.specs.Changing.{KeepsRest};
 ghost use Rattle.jv_data.specs.Committing.{BeginsCommit};
 ghost use Rattle.jv_data.specs.Records.{AppendsRecord, CommitsRecord};
-ghost use Rattle.jv_model.specs.blocks.Slices.{IsRecord};
+ghost use Rattle.jv_model.specs.promise.blocks.Slices.{IsRecord};
 ghost use Rattle.jv_model.specs.declared.limits.TheConstants.{FILE_END, WINDOW};
 
 use crate::looking::file;

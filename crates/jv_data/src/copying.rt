@@ -8,10 +8,10 @@ ghost use Rattle.jv_data.specs.Truncating.{HaveSlices};
 ghost use Rattle.jv_model.specs.declared.limits.TheConstants.{FILE_END, WINDOW};
 ghost use Rattle.jv_model.specs.declared.op.Reply.TheVariants.{Count};
 ghost use Rattle.jv_model.specs.declared.setting.Setting.{Setting};
-ghost use Rattle.jv_model.specs.tree.Caller.{Caller};
-ghost use Rattle.jv_model.specs.tree.FileBytes as model;
+ghost use Rattle.jv_model.specs.promise.tree.Caller.{Caller};
+ghost use Rattle.jv_model.specs.promise.tree.FileBytes as model;
 ghost use Rattle.jv_rows.specs.Transactions.{IsFor};
-ghost use Rattle.jv_volume.specs.TypedRows.{typed};
+ghost use Rattle.jv_volume.specs.promise.TypedRows.{typed};
 
 use crate::looking::{file, records};
 use crate::resizing::resize;

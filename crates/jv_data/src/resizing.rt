@@ -1,8 +1,8 @@
 //! A file of another length: its row, and what it adds to used space.
 ghost use Rattle.std.specs.Prelude.{◌≡◌, [], IsTrue};
-ghost use Rattle.jv_model.specs.tree.Tree.{paged};
+ghost use Rattle.jv_model.specs.promise.tree.Tree.{paged};
 ghost use Rattle.jv_data.specs.Resizing.{Resizes, ResizesFile, row_sized};
-ghost use Rattle.jv_model.specs.rows.RowGrammar.{is_node, is_setting};
+ghost use Rattle.jv_model.specs.promise.rows.RowGrammar.{is_node, is_setting};
 ghost use Rattle.jv_rows.specs.Walks.{HasNodeRow};
 
 use jv_model::{Counters, Fault, Node, SPACE_UNIT, Setting, TxFault};

@@ -5,12 +5,12 @@ ghost use Rattle.jv_data.specs.Truncating.{CutsFile, IsLastBefore, LeaveSlices, 
 ghost use Rattle.jv_data.specs.Truncating.{ChecksSlice, ChecksSlices, CutsLists, DropsLists, EndsList, Shortens};
 ghost use Rattle.jv_model.specs.declared.limits.TheConstants.{FILE_END, LAST_MOMENT};
 ghost use Rattle.jv_model.specs.declared.op.Reply.TheVariants.{Done};
-ghost use Rattle.jv_model.specs.tree.Caller.{Caller};
-ghost use Rattle.jv_model.specs.tree.FileBytes as model;
+ghost use Rattle.jv_model.specs.promise.tree.Caller.{Caller};
+ghost use Rattle.jv_model.specs.promise.tree.FileBytes as model;
 ghost use Rattle.jv_model.specs.tree.Trash.{due_after};
 ghost use Rattle.jv_rows.specs.Lists.{HasList};
 ghost use Rattle.jv_rows.specs.Transactions.{IsFor};
-ghost use Rattle.jv_volume.specs.Slices.{records_naming};
+ghost use Rattle.jv_volume.specs.promise.Slices.{records_naming};
 
 use crate::looking::{file, records};
 use crate::resizing::resize;

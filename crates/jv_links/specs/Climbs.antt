@@ -1,11 +1,11 @@
 -- How far it is from a directory up to the root or the trash.
 use Rattle.std.specs.Prelude.{◌≡◌, ℕ, ◌<◌, Some}
-use Rattle.jv_model.specs.rows.RowKeys.{RowMap}
-use Rattle.jv_outside.specs.Store.{Store}
-use Rattle.jv_volume.specs.Shape.{shape_of, Reaches}
-use Rattle.jv_volume.specs.TreeOf.{tree_of}
-use Rattle.jv_volume.specs.TypedRows.{typed}
-use Rattle.jv_volume.specs.Whole.{Whole, no_bytes}
+use Rattle.jv_model.specs.promise.rows.RowKeys.{RowMap}
+use Rattle.jv_outside.specs.promise.Store.{Store}
+use Rattle.jv_volume.specs.promise.Shape.{shape_of, Reaches}
+use Rattle.jv_volume.specs.promise.TreeOf.{tree_of}
+use Rattle.jv_volume.specs.promise.TypedRows.{typed}
+use Rattle.jv_volume.specs.promise.Whole.{Whole, no_bytes}
 
 -- fewer than `steps` steps up lead from a directory to the root or the trash
 pub record IsNear (known : RowMap) (dir steps : ℕ) : Type 0 where

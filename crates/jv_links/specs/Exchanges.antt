@@ -3,13 +3,13 @@
 use Rattle.std.specs.Prelude.{◌≡◌, ◌≢◌, ℕ, true, false, ◌&&◌, Some, Result, Ok, IsTrue}
 use Rattle.jv_model.specs.declared.fault.Fault.{Fault}
 use Rattle.jv_model.specs.declared.fault.Fault.TheVariants.{NoSpace}
-use Rattle.jv_model.specs.FiniteMap.{get}
-use Rattle.jv_model.specs.tree.Attempt.{◌>>=◌, require}
-use Rattle.jv_model.specs.tree.Changes.{put_entry}
-use Rattle.jv_model.specs.tree.Renaming.{is_inside, move_in, exchanged}
-use Rattle.jv_model.specs.tree.Tree.{Tree, EntryKey, links_fit}
-use Rattle.jv_volume.specs.Shape.{WholeShape, shape_of}
-use Rattle.jv_volume.specs.TypedRows.{is_entry_name}
+use Rattle.jv_model.specs.promise.FiniteMap.{get}
+use Rattle.jv_model.specs.promise.tree.Attempt.{◌>>=◌, require}
+use Rattle.jv_model.specs.promise.tree.Changes.{put_entry}
+use Rattle.jv_model.specs.promise.tree.Renaming.{is_inside, move_in, exchanged}
+use Rattle.jv_model.specs.promise.tree.Tree.{Tree, EntryKey, links_fit}
+use Rattle.jv_volume.specs.promise.Shape.{WholeShape, shape_of}
+use Rattle.jv_volume.specs.promise.TypedRows.{is_entry_name}
 
 -- Two entries of a whole tree that may change places. The links of what they name can be stored.
 pub record MayExchange (t : Tree) (from : EntryKey) (source : ℕ) (to : EntryKey)

@@ -1,11 +1,11 @@
 -- Trees in which a file or a symlink has just lost its last entry.
 use Rattle.std.specs.Prelude.{◌≡◌, ℕ, ◌≤◌, false, Some, IsTrue}
 use Rattle.jv_model.specs.declared.limits.TheConstants.{LAST_MOMENT}
-use Rattle.jv_model.specs.FiniteMap.{get}
-use Rattle.jv_model.specs.tree.Changes.{take_entry}
-use Rattle.jv_model.specs.tree.Tree.{Tree, EntryKey, in_trash, is_directory, entry_count}
-use Rattle.jv_volume.specs.Shape.{WholeShape, shape_of}
-use Rattle.jv_volume.specs.TypedRows.{is_entry_name}
+use Rattle.jv_model.specs.promise.FiniteMap.{get}
+use Rattle.jv_model.specs.promise.tree.Changes.{take_entry}
+use Rattle.jv_model.specs.promise.tree.Tree.{Tree, EntryKey, in_trash, is_directory, entry_count}
+use Rattle.jv_volume.specs.promise.Shape.{WholeShape, shape_of}
+use Rattle.jv_volume.specs.promise.TypedRows.{is_entry_name}
 
 -- a tree without the last entry of a file or a symlink, which stood outside the trash of a whole
 -- tree

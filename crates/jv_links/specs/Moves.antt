@@ -6,21 +6,21 @@ use Rattle.jv_model.specs.declared.fault.Fault.{Fault}
 use Rattle.jv_model.specs.declared.fault.Fault.TheVariants.{AlreadyExists, NotFound, NotPermitted, NoSpace}
 use Rattle.jv_model.specs.declared.fault.TxFault.{TxFault}
 use Rattle.jv_model.specs.declared.op.Reply.TheVariants.{Done}
-use Rattle.jv_model.specs.FiniteMap.{get}
-use Rattle.jv_model.specs.tree.Attempt.{◌>>=◌, require, some_or}
-use Rattle.jv_model.specs.tree.Tree.{Tree, EntryKey, is_directory, links_fit}
-use Rattle.jv_model.specs.tree.Walk.{entry_of}
-use Rattle.jv_model.specs.tree.Making.{may_be_new}
-use Rattle.jv_model.specs.tree.Renaming.{may_leave, moved, is_inside, renamed, renamed_over, unless_same, exchanging}
-use Rattle.jv_model.specs.tree.Caller.{Caller, Outcome, session_there}
-use Rattle.jv_outside.specs.Store.{Store}
+use Rattle.jv_model.specs.promise.FiniteMap.{get}
+use Rattle.jv_model.specs.promise.tree.Attempt.{◌>>=◌, require, some_or}
+use Rattle.jv_model.specs.promise.tree.Tree.{Tree, EntryKey, is_directory, links_fit}
+use Rattle.jv_model.specs.promise.tree.Walk.{entry_of}
+use Rattle.jv_model.specs.promise.tree.Making.{may_be_new}
+use Rattle.jv_model.specs.promise.tree.Renaming.{may_leave, moved, is_inside, renamed, renamed_over, unless_same, exchanging}
+use Rattle.jv_model.specs.promise.tree.Caller.{Caller, Outcome, session_there}
+use Rattle.jv_outside.specs.promise.Store.{Store}
 use Rattle.jv_rows.specs.declared.walking.Place.{Place}
-use Rattle.jv_model.specs.rows.RowGrammar.{is_node}
+use Rattle.jv_model.specs.promise.rows.RowGrammar.{is_node}
 use Rattle.jv_rows.specs.Transactions.{Looks, Transacts}
 use Rattle.jv_rows.specs.Walks.{HasNodeRow}
 pub use Rattle.jv_tree.specs.Entering.{place_of}
-use Rattle.jv_volume.specs.Shape.{WholeShape, is_top, shape_of}
-use Rattle.jv_volume.specs.TypedRows.{is_entry_name}
+use Rattle.jv_volume.specs.promise.Shape.{WholeShape, is_top, shape_of}
+use Rattle.jv_volume.specs.promise.TypedRows.{is_entry_name}
 use Rattle.jv_links.specs.declared.ends.Ends.{Ends}
 use Rattle.jv_links.specs.declared.fates.Removed.{Removed}
 use Rattle.jv_links.specs.Removals.{HoldsFiles, SaysRemoved, SaysSustained, renamed_in}

@@ -3,18 +3,18 @@ use Rattle.std.specs.Prelude.{ℕ, List, Option, Some, Result, Ok, IfOk}
 use Rattle.jv_model.specs.declared.fault.Fault.{Fault}
 use Rattle.jv_model.specs.declared.fault.Fault.TheVariants.{NotFound, NotPermitted}
 use Rattle.jv_model.specs.declared.fault.TxFault.{TxFault}
-use Rattle.jv_model.specs.FiniteMap.{get}
-use Rattle.jv_model.specs.tree.Attempt.{◌>>=◌, require, some_or}
-use Rattle.jv_model.specs.tree.Removing.{may_go}
-use Rattle.jv_model.specs.tree.Tree.{Tree, EntryKey}
-use Rattle.jv_model.specs.tree.Walk.{entry_of}
-use Rattle.jv_outside.specs.Store.{Store}
+use Rattle.jv_model.specs.promise.FiniteMap.{get}
+use Rattle.jv_model.specs.promise.tree.Attempt.{◌>>=◌, require, some_or}
+use Rattle.jv_model.specs.promise.tree.Removing.{may_go}
+use Rattle.jv_model.specs.promise.tree.Tree.{Tree, EntryKey}
+use Rattle.jv_model.specs.promise.tree.Walk.{entry_of}
+use Rattle.jv_outside.specs.promise.Store.{Store}
 use Rattle.jv_rows.specs.Transactions.{Looks}
 use Rattle.jv_rows.specs.Walks.{HasNodeRow}
 use Rattle.jv_links.specs.declared.fates.Removed.{Removed}
 use Rattle.jv_links.specs.declared.removing.Removable.{Removable}
 use Rattle.jv_links.specs.Removals.{lost_at}
-use Rattle.jv_model.specs.tree.Caller.{Caller, session_there}
+use Rattle.jv_model.specs.promise.tree.Caller.{Caller, session_there}
 use Rattle.jv_model.specs.Optional.{mapped}
 
 -- where an entry stands, and the inode that it names

@@ -1,25 +1,25 @@
 -- What becomes of inodes that lose an entry.
 use Rattle.std.specs.Prelude.{◌≡◌, ℕ, ◌≤◌, Bool, false, ◌&&◌, not, ◌==◌, List, is_some, Option, None, Some, Result, Ok, Err, IfSome, IfOk, IsTrue}
-use Rattle.jv_model.specs.Lists.{is_among}
+use Rattle.jv_model.specs.promise.Lists.{is_among}
 use Rattle.jv_model.specs.declared.fault.Fault.{Fault}
 use Rattle.jv_model.specs.declared.fault.TxFault.{TxFault}
 use Rattle.jv_model.specs.declared.limits.TheConstants.{LAST_MOMENT}
-use Rattle.jv_model.specs.FiniteMap.{get}
-use Rattle.jv_model.specs.rows.RowKeys.{RowMap}
-use Rattle.jv_model.specs.tree.Tree.{Tree, EntryKey, is_directory, is_sustained}
-use Rattle.jv_model.specs.tree.Caller.{Caller, Outcome, outcome}
-use Rattle.jv_model.specs.tree.Removing as model
+use Rattle.jv_model.specs.promise.FiniteMap.{get}
+use Rattle.jv_model.specs.promise.rows.RowKeys.{RowMap}
+use Rattle.jv_model.specs.promise.tree.Tree.{Tree, EntryKey, is_directory, is_sustained}
+use Rattle.jv_model.specs.promise.tree.Caller.{Caller, Outcome, outcome}
+use Rattle.jv_model.specs.promise.tree.Removing as model
 use Rattle.jv_outside.specs.declared.batch.Change.{Change}
-use Rattle.jv_outside.specs.Store.{Store}
+use Rattle.jv_outside.specs.promise.Store.{Store}
 use Rattle.jv_rows_drafts.specs.Drafting.{Minds}
-use Rattle.jv_volume.specs.TypedRows.{typed}
-use Rattle.jv_volume.specs.TreeOf.{tree_of}
-use Rattle.jv_volume.specs.Shape.{Regular, WholeShape, shape_of, is_there}
-use Rattle.jv_volume.specs.Whole.{Whole}
+use Rattle.jv_volume.specs.promise.TypedRows.{typed}
+use Rattle.jv_volume.specs.promise.TreeOf.{tree_of}
+use Rattle.jv_volume.specs.promise.Shape.{Regular, WholeShape, shape_of, is_there}
+use Rattle.jv_volume.specs.promise.Whole.{Whole}
 use Rattle.jv_links.specs.declared.fates.Fate.{Fate}
 use Rattle.jv_links.specs.declared.fates.Fate.TheVariants.{Linked, Trashed, Dropped, Sustained}
 use Rattle.jv_links.specs.declared.fates.Removed.{Removed}
-pub use Rattle.jv_model.specs.Lists.{has_no_zero}
+pub use Rattle.jv_model.specs.promise.Lists.{has_no_zero}
 
 -- what a caller has open of a tree's inodes are files
 abbrev pub HoldsFiles : List ℕ → Tree → Type 0

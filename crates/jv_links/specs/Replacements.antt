@@ -4,17 +4,17 @@ use Rattle.jv_model.specs.declared.fault.Fault.{Fault}
 use Rattle.jv_model.specs.declared.fault.Fault.TheVariants.{Invalid, NotADirectory, IsADirectory, DirectoryNotEmpty}
 use Rattle.jv_model.specs.declared.fault.TxFault.{TxFault}
 use Rattle.jv_model.specs.declared.limits.TheConstants.{LAST_MOMENT}
-use Rattle.jv_model.specs.FiniteMap.{get}
-use Rattle.jv_model.specs.rows.RowKeys.{RowMap}
-use Rattle.jv_model.specs.tree.Attempt.{◌>>=◌, require}
-use Rattle.jv_model.specs.tree.Caller.{Caller}
-use Rattle.jv_model.specs.tree.Removing.{may_go}
-use Rattle.jv_model.specs.tree.Renaming.{is_inside, without_target}
-use Rattle.jv_model.specs.tree.Tree.{Tree, EntryKey, is_directory, has_entries}
+use Rattle.jv_model.specs.promise.FiniteMap.{get}
+use Rattle.jv_model.specs.promise.rows.RowKeys.{RowMap}
+use Rattle.jv_model.specs.promise.tree.Attempt.{◌>>=◌, require}
+use Rattle.jv_model.specs.promise.tree.Caller.{Caller}
+use Rattle.jv_model.specs.promise.tree.Removing.{may_go}
+use Rattle.jv_model.specs.promise.tree.Renaming.{is_inside, without_target}
+use Rattle.jv_model.specs.promise.tree.Tree.{Tree, EntryKey, is_directory, has_entries}
 use Rattle.jv_outside.specs.declared.batch.Change.{Change}
-use Rattle.jv_outside.specs.Store.{Store}
+use Rattle.jv_outside.specs.promise.Store.{Store}
 use Rattle.jv_rows_drafts.specs.Drafting.{Minds}
-use Rattle.jv_volume.specs.Shape.{WholeShape, shape_of}
+use Rattle.jv_volume.specs.promise.Shape.{WholeShape, shape_of}
 use Rattle.jv_links.specs.declared.fates.Removed.{Removed}
 use Rattle.jv_links.specs.Removals.{HoldsFiles, KeepsAnew, kept_of, lost_at}
 

@@ -2,9 +2,9 @@
 ghost use Rattle.std.specs.Prelude.{◌≡◌, Ok, false};
 ghost use Rattle.jv_links.specs.Climbs.{StandsNear};
 ghost use Rattle.jv_links.specs.Moves.{Stands, StandsDirectory};
-ghost use Rattle.jv_model.specs.tree.Renaming as model;
+ghost use Rattle.jv_model.specs.promise.tree.Renaming as model;
 ghost use Rattle.jv_rows.specs.Transactions.{Looks};
-ghost use Rattle.jv_volume.specs.Shape.{is_top};
+ghost use Rattle.jv_volume.specs.promise.Shape.{is_top};
 
 use jv_model::{Fault, TxFault};
 use jv_outside::Keeper;

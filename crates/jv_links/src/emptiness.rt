@@ -1,6 +1,6 @@
 //! Whether directories have entries.
 ghost use Rattle.std.specs.Prelude.{Ok};
-ghost use Rattle.jv_model.specs.tree.Tree as model;
+ghost use Rattle.jv_model.specs.promise.tree.Tree as model;
 ghost use Rattle.jv_rows.specs.Transactions.{Looks};
 
 use jv_model::tables::TABLE_OF_EDGES;

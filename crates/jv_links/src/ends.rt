@@ -1,14 +1,15 @@
 //! The ends of a rename: the entry that goes, what it names, and the entry that comes.
 ghost use Rattle.std.specs.Prelude.{◌≡◌, ◌&&◌, IfOk, false};
-ghost use Rattle.jv_links.specs.Moves.{FindsEnds, FindsEntry, move_asked, place_of};
-ghost use Rattle.jv_model.specs.FiniteMap.{get};
+ghost use Rattle.jv_links.specs.Moves.{FindsEnds, FindsEntry, move_asked};
+ghost use Rattle.jv_tree.specs.Entering.{place_of};
+ghost use Rattle.jv_model.specs.promise.FiniteMap.{get};
 ghost use Rattle.jv_model.specs.declared.fault.Fault.TheVariants.{NotFound};
-ghost use Rattle.jv_model.specs.tree.Attempt.{some_or};
-ghost use Rattle.jv_model.specs.tree.Making as model_making;
-ghost use Rattle.jv_model.specs.tree.Removing as model_removing;
-ghost use Rattle.jv_model.specs.tree.Renaming as model;
+ghost use Rattle.jv_model.specs.promise.tree.Attempt.{some_or};
+ghost use Rattle.jv_model.specs.promise.tree.Making as model_making;
+ghost use Rattle.jv_model.specs.promise.tree.Removing as model_removing;
+ghost use Rattle.jv_model.specs.promise.tree.Renaming as model;
 ghost use Rattle.jv_rows.specs.Walks.{Comes};
-ghost use Rattle.jv_volume.specs.Shape.{is_top};
+ghost use Rattle.jv_volume.specs.promise.Shape.{is_top};
 
 use jv_model::{Fault, How, Path, TRASH_ROOT, TxFault};
 use jv_outside::Keeper;

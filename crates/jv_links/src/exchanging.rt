@@ -3,10 +3,11 @@ ghost use Rattle.std.specs.Prelude.{◌≢◌, None, Ok};
 ghost use Rattle.jv_rows_drafts.specs.Drafting.{Drafting};
 ghost use Rattle.jv_rows_drafts.specs.Ready.{MayStandAt};
 ghost use Rattle.jv_links.specs.Exchanges.{MayExchange, entry_moved, exchanged_within};
-ghost use Rattle.jv_links.specs.Moves.{EndsStand, IsOverMove, Renames, Stands, place_of};
+ghost use Rattle.jv_links.specs.Moves.{EndsStand, IsOverMove, Renames, Stands};
+ghost use Rattle.jv_tree.specs.Entering.{place_of};
 ghost use Rattle.jv_model.specs.declared.basics.How.TheVariants.{Exchange};
-ghost use Rattle.jv_model.specs.tree.Caller.{Caller};
-ghost use Rattle.jv_model.specs.tree.Renaming as model;
+ghost use Rattle.jv_model.specs.promise.tree.Caller.{Caller};
+ghost use Rattle.jv_model.specs.promise.tree.Renaming as model;
 ghost use Rattle.jv_rows.specs.Transactions.{IsFor};
 
 use crate::climbing::is_inside;

@@ -4,10 +4,10 @@ ghost use Rattle.jv_rows_drafts.specs.Drafting.{Drafting};
 ghost use Rattle.jv_rows_drafts.specs.Ready.{IsThere};
 ghost use Rattle.jv_links.specs.Losses.{IsToTrash};
 ghost use Rattle.jv_links.specs.Removals.{MayLose, SaysFate};
-ghost use Rattle.jv_model.specs.tree.Caller.{Caller};
-ghost use Rattle.jv_model.specs.tree.Removing as model;
-ghost use Rattle.jv_model.specs.tree.Trash.{trashed};
-ghost use Rattle.jv_model.specs.tree.Tree.{EntryKey};
+ghost use Rattle.jv_model.specs.promise.tree.Caller.{Caller};
+ghost use Rattle.jv_model.specs.promise.tree.Removing as model;
+ghost use Rattle.jv_model.specs.promise.tree.Trash.{trashed};
+ghost use Rattle.jv_model.specs.promise.tree.Tree.{EntryKey};
 ghost use Rattle.jv_rows.specs.Transactions.{IsFor};
 
 use jv_model::{Fault, Gone, Moment, Name, TRASH_ROOT, TxFault, Who};

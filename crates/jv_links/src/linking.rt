@@ -1,11 +1,11 @@
 //! Further entries of files and symlinks, by POSIX.1-2017's "linkat" without AT_SYMLINK_FOLLOW.
 ghost use Rattle.std.specs.Prelude.{◌≡◌, ◌≤◌, IsTrue};
 ghost use Rattle.jv_links.specs.Linkable.{linkable};
-ghost use Rattle.jv_links.specs.Removals.{has_no_zero};
+ghost use Rattle.jv_model.specs.promise.Lists.{has_no_zero};
 ghost use Rattle.jv_model.specs.declared.limits.TheConstants.{MAX_LINKS};
 ghost use Rattle.jv_model.specs.declared.op.Reply.TheVariants.{Done};
-ghost use Rattle.jv_model.specs.tree.Caller.{Caller};
-ghost use Rattle.jv_model.specs.tree.Making as model;
+ghost use Rattle.jv_model.specs.promise.tree.Caller.{Caller};
+ghost use Rattle.jv_model.specs.promise.tree.Making as model;
 ghost use Rattle.jv_rows.specs.Transactions.{IsFor, Looks, Transacts, Always};
 
 use jv_model::{Fault, Path, RowFault, TRASH_ROOT, TxFault, Who};

@@ -1,10 +1,11 @@
 //! Entries that move to a free place.
 ghost use Rattle.std.specs.Prelude.{None, Ok};
 ghost use Rattle.jv_rows_drafts.specs.Drafting.{Drafting};
-ghost use Rattle.jv_links.specs.Moves.{EndsStand, IsFreeMove, MayMove, Renames, moved_within, place_of};
+ghost use Rattle.jv_links.specs.Moves.{EndsStand, IsFreeMove, MayMove, Renames, moved_within};
+ghost use Rattle.jv_tree.specs.Entering.{place_of};
 ghost use Rattle.jv_model.specs.declared.basics.How.{How};
-ghost use Rattle.jv_model.specs.tree.Caller.{Caller};
-ghost use Rattle.jv_model.specs.tree.Renaming as model;
+ghost use Rattle.jv_model.specs.promise.tree.Caller.{Caller};
+ghost use Rattle.jv_model.specs.promise.tree.Renaming as model;
 ghost use Rattle.jv_rows.specs.Transactions.{IsFor};
 
 use crate::climbing::is_inside;

@@ -2,8 +2,8 @@
 ghost use Rattle.jv_links.specs.Removable.{ComesToRemovable, removable_at, unlinked};
 ghost use Rattle.jv_links.specs.Removals.{HoldsFiles, SaysRemoved, SaysSustained, removed_in};
 ghost use Rattle.jv_model.specs.declared.op.Reply.TheVariants.{Done};
-ghost use Rattle.jv_model.specs.tree.Caller.{Caller};
-ghost use Rattle.jv_model.specs.tree.Removing as model;
+ghost use Rattle.jv_model.specs.promise.tree.Caller.{Caller};
+ghost use Rattle.jv_model.specs.promise.tree.Removing as model;
 ghost use Rattle.jv_rows.specs.Transactions.{IsFor, Transacts, Always};
 
 use crate::emptiness::has_entries;

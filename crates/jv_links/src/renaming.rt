@@ -1,10 +1,12 @@
 //! Entries renamed, by POSIX.1-2017's "renameat" and Linux's "renameat2".
 ghost use Rattle.std.specs.Prelude.{IsTrue, None, Some, Ok};
-ghost use Rattle.jv_links.specs.Moves.{EndsStand, IsFreeMove, IsOverMove, Renames, Stands, place_of, renamed_with, replaced, replaced_by};
-ghost use Rattle.jv_links.specs.Removals.{HoldsFiles, SaysRemoved, SaysSustained, has_no_zero, renamed_in};
+ghost use Rattle.jv_links.specs.Moves.{EndsStand, IsFreeMove, IsOverMove, Renames, Stands, renamed_with, replaced, replaced_by};
+ghost use Rattle.jv_tree.specs.Entering.{place_of};
+ghost use Rattle.jv_links.specs.Removals.{HoldsFiles, SaysRemoved, SaysSustained, renamed_in};
+ghost use Rattle.jv_model.specs.promise.Lists.{has_no_zero};
 ghost use Rattle.jv_model.specs.declared.op.Reply.TheVariants.{Done};
-ghost use Rattle.jv_model.specs.tree.Caller.{Caller};
-ghost use Rattle.jv_model.specs.tree.Renaming as model;
+ghost use Rattle.jv_model.specs.promise.tree.Caller.{Caller};
+ghost use Rattle.jv_model.specs.promise.tree.Renaming as model;
 ghost use Rattle.jv_rows.specs.Transactions.{IsFor, Transacts};
 
 use crate::ends::{Ends, entry_at, find_ends};

@@ -1,11 +1,12 @@
 //! Entries that are replaced by another one.
 ghost use Rattle.std.specs.Prelude.{◌≢◌, ◌==◌, Ok};
 ghost use Rattle.jv_rows_drafts.specs.Drafting.{Drafting};
-ghost use Rattle.jv_links.specs.Moves.{EndsStand, IsOverMove, Renames, Stands, place_of};
+ghost use Rattle.jv_links.specs.Moves.{EndsStand, IsOverMove, Renames, Stands};
+ghost use Rattle.jv_tree.specs.Entering.{place_of};
 ghost use Rattle.jv_links.specs.Replacements.{MayClear, SaysCleared, cleared, may_replace as asked};
 ghost use Rattle.jv_model.specs.declared.basics.How.{How};
-ghost use Rattle.jv_model.specs.tree.Caller.{Caller};
-ghost use Rattle.jv_model.specs.tree.Renaming as model;
+ghost use Rattle.jv_model.specs.promise.tree.Caller.{Caller};
+ghost use Rattle.jv_model.specs.promise.tree.Renaming as model;
 ghost use Rattle.jv_rows.specs.Transactions.{IsFor, Looks};
 
 use crate::climbing::is_inside;

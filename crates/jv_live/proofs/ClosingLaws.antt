@@ -10,33 +10,35 @@ use Rattle.jv_model.specs.declared.fault.TxFault.TheVariants.{Rows as OfRows}
 use Rattle.jv_model.specs.declared.op.Reply.{Reply}
 use Rattle.jv_model.specs.declared.op.Reply.TheVariants.{Done}
 use Rattle.jv_model.specs.declared.row.Row.TheVariants.{OfSustained}
-use Rattle.jv_model.specs.FiniteMap.{get}
+use Rattle.jv_model.specs.promise.FiniteMap.{get}
 use Rattle.jv_model.specs.rows.RowFaults.{row_fault}
-use Rattle.jv_model.specs.rows.RowKeys.{RowMap}
-use Rattle.jv_model.specs.rows.RowPlaces.{sustained_key}
-use Rattle.jv_model.specs.tree.Attempt.{◌>>=◌}
-use Rattle.jv_model.specs.tree.Caller.{Caller, Outcome, done}
-use Rattle.jv_model.specs.tree.Changes.{drop_node}
-use Rattle.jv_model.specs.tree.Sessions.{umount, without_session}
-use Rattle.jv_model.specs.tree.Tree.{Tree, SustainedFile, pair_key, is_sustained}
+use Rattle.jv_model.specs.promise.rows.RowKeys.{RowMap}
+use Rattle.jv_model.specs.promise.rows.RowPlaces.{sustained_key}
+use Rattle.jv_model.specs.promise.tree.Attempt.{◌>>=◌}
+use Rattle.jv_model.specs.promise.tree.Caller.{Caller, Outcome, done}
+use Rattle.jv_model.specs.promise.tree.Changes.{drop_node}
+use Rattle.jv_model.specs.promise.tree.Sessions.{umount, without_session}
+use Rattle.jv_model.specs.promise.tree.Tree.{Tree, SustainedFile, pair_key, is_sustained}
 use Rattle.jv_outside.specs.declared.batch.Change.{Change}
-use Rattle.jv_outside.specs.Store.{Store, Commits}
+use Rattle.jv_outside.specs.promise.Store.{Store}
+use Rattle.jv_outside.specs.Store.{Commits}
 use Rattle.jv_rows.specs.Transactions.{IsFor, Looks, Transacts, Always}
-use Rattle.jv_rows.proofs.NeedingLaws.{session_is}
-use Rattle.jv_rows.proofs.TransactionLaws.{Past, past-start, past-as, past-calm, past-looks, past-stops, transacts-refused, fails-commit}
-use Rattle.jv_volume.specs.TypedRows.{Rows, typed}
-use Rattle.jv_volume.specs.TreeOf.{tree_of}
-use Rattle.jv_volume.specs.Shape.{WholeShape, shape_of}
-use Rattle.jv_volume.specs.Whole.{Whole}
-use Rattle.jv_volume.proofs.ReleaseLaws.{released_tree, released-kept, without_session-released, without_session-alone}
-use Rattle.jv_volume.proofs.SessionShapeLaws.{whole-released, whole-without_session}
-use Rattle.jv_volume.proofs.ShapeMapLaws.{get-removed, get-remove_apart, pair_of}
-use Rattle.jv_volume.proofs.StoredLaws.{whole-shape}
-use Rattle.jv_volume.proofs.TreeOfLaws.{is_sustained-tree_of, get-sustained-none}
+use Rattle.jv_rows.proofs.transactions.NeedingLaws.{session_is}
+use Rattle.jv_rows.proofs.transactions.TransactionLaws.{Past, past-start, past-as, past-calm, past-looks, past-stops, transacts-refused, fails-commit}
+use Rattle.jv_volume.specs.promise.TypedRows.{Rows, typed}
+use Rattle.jv_volume.specs.promise.TreeOf.{tree_of}
+use Rattle.jv_volume.specs.promise.Shape.{WholeShape, shape_of}
+use Rattle.jv_volume.specs.promise.Whole.{Whole}
+use Rattle.jv_volume.proofs.operations.ReleaseLaws.{released_tree, released-kept, without_session-released, without_session-alone}
+use Rattle.jv_volume.proofs.shapes.SessionShapeLaws.{whole-released, whole-without_session}
+use Rattle.jv_volume.proofs.shapes.ShapeMapLaws.{get-removed, get-remove_apart, pair_of}
+use Rattle.jv_volume.proofs.stored.StoredLaws.{whole-shape}
+use Rattle.jv_volume.proofs.stored.TreeOfLaws.{is_sustained-tree_of, get-sustained-none}
 use Rattle.jv_rows_drafts.specs.Drafting.{Drafting}
 use Rattle.jv_rows_drafts.specs.Ready.{MayGo}
 use Rattle.jv_rows_drafts.proofs.DraftingLaws.{PastSteps, steps-on, steps-stop, steps-fail, steps-commit}
-use Rattle.jv_live.specs.Steps.{letting_go, ending_session, is_past, is_ahead, KeepsNone, FindsKept}
+use Rattle.jv_live.specs.Steps.{letting_go, ending_session, KeepsNone, FindsKept}
+use Rattle.jv_rows.specs.Lists.{is_past, is_ahead}
 use Rattle.jv_live.proofs.SessionLaws.{fresh-steps, not_made, steps-fell}
 use Rattle.jv_live.proofs.KeptLaws.{kept-may_go, pair-kept}
 use Rattle.jv_model.proofs.TestLaws.{of_known}

@@ -11,23 +11,23 @@ use Rattle.jv_model.specs.declared.fault.TxFault.TheVariants.{Rows as OfRows}
 use Rattle.jv_model.specs.declared.row.Row.{Row}
 use Rattle.jv_model.specs.declared.row.Row.TheVariants.{OfSustained}
 use Rattle.jv_model.specs.declared.row.RowKey.{RowKey}
-use Rattle.jv_model.specs.FiniteMap.{get}
-use Rattle.jv_model.specs.rows.RowFields.{long}
-use Rattle.jv_model.specs.rows.RowGrammar.{sustained_of}
-use Rattle.jv_model.specs.rows.RowKeys.{RowMap}
-use Rattle.jv_model.specs.rows.RowPlaces.{sustained_key}
-use Rattle.jv_model.specs.tree.Tree.{Tree}
-use Rattle.jv_outside.specs.Store.{Store}
+use Rattle.jv_model.specs.promise.FiniteMap.{get}
+use Rattle.jv_model.specs.promise.rows.RowFields.{long}
+use Rattle.jv_model.specs.promise.rows.RowGrammar.{sustained_of}
+use Rattle.jv_model.specs.promise.rows.RowKeys.{RowMap}
+use Rattle.jv_model.specs.promise.rows.RowPlaces.{sustained_key}
+use Rattle.jv_model.specs.promise.tree.Tree.{Tree}
+use Rattle.jv_outside.specs.promise.Store.{Store}
 use Rattle.jv_rows.specs.Scans.{ScansRows}
 use Rattle.jv_rows.specs.Tables.{sustained_row}
-use Rattle.jv_rows.proofs.ScannedLaws.{fails-scan}
-use Rattle.jv_rows.proofs.NextRowLaws.{long-less, IsRead, of_read}
-use Rattle.jv_rows.proofs.NumberedRowsLaws.{NumberedTable, number_at, HasNumber, has_number, read_place, read_row, read_cell, read_there, none_between}
-use Rattle.jv_rows.proofs.TransactionLaws.{fails-looks}
-use Rattle.jv_volume.specs.TypedRows.{typed, is_key}
-use Rattle.jv_volume.specs.Views.{row_in, sustained_in}
-use Rattle.jv_volume.specs.Whole.{Whole}
-use Rattle.jv_volume.proofs.TableLaws.{long_below}
+use Rattle.jv_rows.proofs.scans.ScannedLaws.{fails-scan}
+use Rattle.jv_rows.proofs.scans.NextRowLaws.{long-less, IsRead, of_read}
+use Rattle.jv_rows.proofs.scans.NumberedRowsLaws.{NumberedTable, number_at, HasNumber, has_number, read_place, read_row, read_cell, read_there, none_between}
+use Rattle.jv_rows.proofs.transactions.TransactionLaws.{fails-looks}
+use Rattle.jv_volume.specs.promise.TypedRows.{typed, is_key}
+use Rattle.jv_volume.specs.promise.Views.{row_in, sustained_in}
+use Rattle.jv_volume.specs.promise.Whole.{Whole}
+use Rattle.jv_volume.proofs.maps.TableLaws.{long_below}
 use Rattle.jv_live.specs.Steps.{last_key, first_kept, IsSpelled, FindsKept}
 
 -- what is made of a tree by a step that only finds something

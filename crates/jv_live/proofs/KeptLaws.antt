@@ -16,35 +16,37 @@ use Rattle.jv_model.specs.declared.op.Reply.TheVariants.{Done}
 use Rattle.jv_model.specs.declared.row.Node.{Node as NodeRow}
 use Rattle.jv_model.specs.declared.row.RowKey.{RowKey}
 use Rattle.jv_model.specs.declared.row.Row.TheVariants.{OfNode, OfSustained}
-use Rattle.jv_model.specs.FiniteMap.{get}
-use Rattle.jv_model.specs.rows.RowGrammar.{is_node, node_bytes, node_of}
-use Rattle.jv_model.specs.rows.RowKeys.{RowMap, row_key, is_key_of}
-use Rattle.jv_model.specs.rows.RowPlaces.{node_key, sustained_key}
-use Rattle.jv_model.specs.tree.Attempt.{◌>>=◌}
-use Rattle.jv_model.specs.tree.Caller.{Caller, Outcome, done}
-use Rattle.jv_model.specs.tree.Changes.{drop_node}
-use Rattle.jv_model.specs.tree.Sessions.{release, released}
-use Rattle.jv_model.specs.tree.Tree.{Tree, node_at, is_counted, is_sustained}
+use Rattle.jv_model.specs.promise.FiniteMap.{get}
+use Rattle.jv_model.specs.promise.rows.RowGrammar.{is_node, node_bytes, node_of}
+use Rattle.jv_model.specs.promise.rows.RowKeys.{RowMap, row_key, is_key_of}
+use Rattle.jv_model.specs.promise.rows.RowPlaces.{node_key, sustained_key}
+use Rattle.jv_model.specs.promise.tree.Attempt.{◌>>=◌}
+use Rattle.jv_model.specs.promise.tree.Caller.{Caller, Outcome, done}
+use Rattle.jv_model.specs.promise.tree.Changes.{drop_node}
+use Rattle.jv_model.specs.promise.tree.Sessions.{release, released}
+use Rattle.jv_model.specs.promise.tree.Tree.{Tree, node_at, is_counted, is_sustained}
 use Rattle.jv_model.proofs.TestLaws.{none_if, if_some-by, of_known}
 use Rattle.jv_outside.specs.declared.batch.Change.{Change}
-use Rattle.jv_outside.specs.Store.{Store, Commits}
+use Rattle.jv_outside.specs.promise.Store.{Store}
+use Rattle.jv_outside.specs.Store.{Commits}
 use Rattle.jv_rows.specs.Drafts.{drafted, cell, Sees}
 use Rattle.jv_rows.specs.Readings.{ReadsRow}
 use Rattle.jv_rows.specs.Tables.{node_row}
-use Rattle.jv_rows.specs.Transactions.{IsFor, IsBad, NamesNone, Looks, Transacts, Always}
-use Rattle.jv_rows.proofs.DraftLaws.{sees_stored}
-use Rattle.jv_rows.proofs.NeedingLaws.{session_is}
-use Rattle.jv_rows.proofs.TransactionLaws.{Past, past-start, past-as, past-calm, past-looks, past-stops, past-fails, fails-looks, fails-sees, stands-sees, transacts-refused, transacts-answers, none_kept}
-use Rattle.jv_volume.specs.TypedRows.{Rows, typed}
-use Rattle.jv_volume.specs.TreeOf.{tree_of}
-use Rattle.jv_volume.specs.Shape.{Form, Regular, Dir, WholeShape, Keeps, form_of, is_there, shape_of}
-use Rattle.jv_volume.specs.Views.{row_in, node_in, sustained_in}
-use Rattle.jv_volume.specs.Whole.{Whole, no_bytes}
-use Rattle.jv_volume.proofs.ReleaseLaws.{released_tree, released-kept, released-other}
-use Rattle.jv_volume.proofs.SessionShapeLaws.{whole-released}
-use Rattle.jv_volume.proofs.ShapeMapLaws.{tied_here, is_there-form, uncounted}
-use Rattle.jv_volume.proofs.StoredLaws.{whole-shape, no_node}
-use Rattle.jv_volume.proofs.TreeOfLaws.{is_sustained-tree_of}
+use Rattle.jv_rows.specs.Transactions.{IsFor, Looks, Transacts, Always}
+use Rattle.jv_rows.specs.promise.Transactions.{IsBad, NamesNone}
+use Rattle.jv_rows.proofs.transactions.DraftLaws.{sees_stored}
+use Rattle.jv_rows.proofs.transactions.NeedingLaws.{session_is}
+use Rattle.jv_rows.proofs.transactions.TransactionLaws.{Past, past-start, past-as, past-calm, past-looks, past-stops, past-fails, fails-looks, fails-sees, stands-sees, transacts-refused, transacts-answers, none_kept}
+use Rattle.jv_volume.specs.promise.TypedRows.{Rows, typed}
+use Rattle.jv_volume.specs.promise.TreeOf.{tree_of}
+use Rattle.jv_volume.specs.promise.Shape.{Form, Regular, Dir, WholeShape, Keeps, form_of, is_there, shape_of}
+use Rattle.jv_volume.specs.promise.Views.{row_in, node_in, sustained_in}
+use Rattle.jv_volume.specs.promise.Whole.{Whole, no_bytes}
+use Rattle.jv_volume.proofs.operations.ReleaseLaws.{released_tree, released-kept, released-other}
+use Rattle.jv_volume.proofs.shapes.SessionShapeLaws.{whole-released}
+use Rattle.jv_volume.proofs.shapes.ShapeMapLaws.{tied_here, is_there-form, uncounted}
+use Rattle.jv_volume.proofs.stored.StoredLaws.{whole-shape, no_node}
+use Rattle.jv_volume.proofs.stored.TreeOfLaws.{is_sustained-tree_of}
 use Rattle.jv_rows_drafts.specs.Drafting.{Drafting}
 use Rattle.jv_rows_drafts.specs.Ready.{MayGo}
 use Rattle.jv_rows_drafts.proofs.DraftingLaws.{PastSteps, steps-on, steps-stop, steps-commit}

@@ -5,28 +5,30 @@ use Rattle.jv_model.specs.declared.row.Counters.{Counters}
 use Rattle.jv_model.specs.declared.row.RowKey.{RowKey}
 use Rattle.jv_model.specs.declared.row.Row.TheVariants.{OfCounters, OfSession}
 use Rattle.jv_model.specs.declared.row.Session.{Session}
-use Rattle.jv_model.specs.FiniteMap.{get, alter}
-use Rattle.jv_model.specs.rows.RowKeys.{RowMap}
-use Rattle.jv_model.specs.rows.RowPlaces.{counters_key, session_key, sustained_key}
-use Rattle.jv_model.specs.tree.Tree.{Tree}
+use Rattle.jv_model.specs.promise.FiniteMap.{get}
+use Rattle.jv_model.specs.FiniteMap.{alter}
+use Rattle.jv_model.specs.promise.rows.RowKeys.{RowMap}
+use Rattle.jv_model.specs.promise.rows.RowPlaces.{counters_key, session_key, sustained_key}
+use Rattle.jv_model.specs.promise.tree.Tree.{Tree}
 use Rattle.jv_outside.specs.declared.batch.Change.{Change}
-use Rattle.jv_outside.specs.Store.{Store}
+use Rattle.jv_outside.specs.promise.Store.{Store}
 use Rattle.jv_rows.specs.Drafts.{drafted}
 use Rattle.jv_rows.specs.Transactions.{Always}
-use Rattle.jv_volume.specs.TypedRows.{Cell, Rows, typed}
-use Rattle.jv_volume.specs.TreeOf.{tree_of}
-use Rattle.jv_volume.specs.Slices.{WholeFiles}
-use Rattle.jv_volume.specs.Stored.{Stored}
-use Rattle.jv_volume.specs.Views.{row_in, counters_in, counters_at}
-use Rattle.jv_volume.specs.Whole.{IsRowAt, Quiet}
-use Rattle.jv_volume.proofs.FileStepLaws.{files-other, files-put_counters}
-use Rattle.jv_volume.proofs.QuietLaws.{quiet-alter, quiet-put_counters}
-use Rattle.jv_volume.proofs.SeenLaws.{row-put, rows-alter}
-use Rattle.jv_volume.proofs.SeenLaws as seen
-use Rattle.jv_volume.proofs.StoredLaws.{found_counters}
-use Rattle.jv_volume.proofs.StoredStepLaws.{stored-put_counters}
-use Rattle.jv_volume.proofs.TableStepLaws.{stored-put_session, stored-drop_session, stored-drop_sustained}
-use Rattle.jv_volume.proofs.TreeOfLaws.{tree_of-put_session, tree_of-drop_session, tree_of-drop_sustained, tree_of-put_counters}
+use Rattle.jv_volume.specs.promise.TypedRows.{Cell, Rows, typed}
+use Rattle.jv_volume.specs.promise.TreeOf.{tree_of}
+use Rattle.jv_volume.specs.promise.Slices.{WholeFiles}
+use Rattle.jv_volume.specs.promise.Stored.{Stored}
+use Rattle.jv_volume.specs.promise.Views.{row_in, counters_in, counters_at}
+use Rattle.jv_volume.specs.promise.Whole.{IsRowAt}
+use Rattle.jv_volume.specs.Whole.{Quiet}
+use Rattle.jv_volume.proofs.stored.FileStepLaws.{files-other, files-put_counters}
+use Rattle.jv_volume.proofs.stored.QuietLaws.{quiet-alter, quiet-put_counters}
+use Rattle.jv_volume.proofs.maps.SeenLaws.{row-put, rows-alter}
+use Rattle.jv_volume.proofs.maps.SeenLaws as seen
+use Rattle.jv_volume.proofs.stored.StoredLaws.{found_counters}
+use Rattle.jv_volume.proofs.stored.StoredStepLaws.{stored-put_counters}
+use Rattle.jv_volume.proofs.stored.TableStepLaws.{stored-put_session, stored-drop_session, stored-drop_sustained}
+use Rattle.jv_volume.proofs.stored.TreeOfLaws.{tree_of-put_session, tree_of-drop_session, tree_of-drop_sustained, tree_of-put_counters}
 use Rattle.jv_rows_drafts.specs.Drafting.{KeepsLengths, Minds, Drafting}
 use Rattle.jv_rows_drafts.proofs.DraftedLaws.{Drafted, are_rows-put, are_rows-drop, stays-none, drafting-made}
 use Rattle.jv_rows_drafts.proofs.LengthLaws.{lengths-alter}

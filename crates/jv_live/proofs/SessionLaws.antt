@@ -16,27 +16,28 @@ use Rattle.jv_model.specs.declared.op.Reply.TheVariants.{Done, SessionMade}
 use Rattle.jv_model.specs.declared.row.Counters.{Counters}
 use Rattle.jv_model.specs.declared.row.Row.TheVariants.{OfCounters, OfSession}
 use Rattle.jv_model.specs.declared.row.Session.{Session}
-use Rattle.jv_model.specs.FiniteMap.{get, insert}
-use Rattle.jv_model.specs.rows.RowGrammar.{is_counters, is_session}
-use Rattle.jv_model.specs.rows.RowKeys.{RowMap}
-use Rattle.jv_model.specs.rows.RowPlaces.{counters_key, session_key}
-use Rattle.jv_model.specs.tree.Attempt.{◌>>=◌, require, some_or}
-use Rattle.jv_model.specs.tree.Caller.{Caller, Outcome, answered, done}
-use Rattle.jv_model.specs.tree.Sessions.{mount, with_session, beat, kept_alive}
-use Rattle.jv_model.specs.tree.Tree.{Tree, SessionEntry}
+use Rattle.jv_model.specs.promise.FiniteMap.{get, insert}
+use Rattle.jv_model.specs.promise.rows.RowGrammar.{is_counters, is_session}
+use Rattle.jv_model.specs.promise.rows.RowKeys.{RowMap}
+use Rattle.jv_model.specs.promise.rows.RowPlaces.{counters_key, session_key}
+use Rattle.jv_model.specs.promise.tree.Attempt.{◌>>=◌, require, some_or}
+use Rattle.jv_model.specs.promise.tree.Caller.{Caller, Outcome, answered, done}
+use Rattle.jv_model.specs.promise.tree.Sessions.{mount, with_session, beat, kept_alive}
+use Rattle.jv_model.specs.promise.tree.Tree.{Tree, SessionEntry}
 use Rattle.jv_outside.specs.declared.batch.Change.{Change}
-use Rattle.jv_outside.specs.Store.{Store, Commits}
+use Rattle.jv_outside.specs.promise.Store.{Store}
+use Rattle.jv_outside.specs.Store.{Commits}
 use Rattle.jv_rows.specs.Drafts.{Sees, Needs}
 use Rattle.jv_rows.specs.Transactions.{IsFor, Transacts, Always}
-use Rattle.jv_rows.proofs.NeedingLaws.{CountersNeeded, fails-needed, stands-needs}
-use Rattle.jv_rows.proofs.TransactionLaws.{Past, past-start, past-as, past-calm, past-refuses, fails-looks, fails-sees, stands-sees, transacts-refused, none_kept}
-use Rattle.jv_volume.specs.TypedRows.{typed}
-use Rattle.jv_volume.specs.TreeOf.{tree_of, session_of}
-use Rattle.jv_volume.specs.Shape.{WholeShape, shape_of}
-use Rattle.jv_volume.specs.Views.{row_in, counters_in, session_in}
-use Rattle.jv_volume.specs.Whole.{Whole}
-use Rattle.jv_volume.proofs.SessionShapeLaws.{whole-with_session, whole-kept_alive}
-use Rattle.jv_volume.proofs.StoredLaws.{whole-stored, whole-shape, found_counters, found_session, no_session}
+use Rattle.jv_rows.proofs.transactions.NeedingLaws.{CountersNeeded, fails-needed, stands-needs}
+use Rattle.jv_rows.proofs.transactions.TransactionLaws.{Past, past-start, past-as, past-calm, past-refuses, fails-looks, fails-sees, stands-sees, transacts-refused, none_kept}
+use Rattle.jv_volume.specs.promise.TypedRows.{typed}
+use Rattle.jv_volume.specs.promise.TreeOf.{tree_of, session_of_row}
+use Rattle.jv_volume.specs.promise.Shape.{WholeShape, shape_of}
+use Rattle.jv_volume.specs.promise.Views.{row_in, counters_in, session_in}
+use Rattle.jv_volume.specs.promise.Whole.{Whole}
+use Rattle.jv_volume.proofs.shapes.SessionShapeLaws.{whole-with_session, whole-kept_alive}
+use Rattle.jv_volume.proofs.stored.StoredLaws.{whole-stored, whole-shape, found_counters, found_session, no_session}
 use Rattle.jv_rows_drafts.specs.Drafting.{Minds, AreRows, Drafting}
 use Rattle.jv_rows_drafts.proofs.DraftedLaws.{Drafted, are_rows-put}
 use Rattle.jv_rows_drafts.proofs.DraftingLaws.{PastSteps, minds-none, are_rows-none, steps-start, steps-on, steps-stop, steps-commit}
@@ -217,12 +218,12 @@ module _ (who : Who) (caller : Caller) (asks : IsFor who caller) (before middle 
     beat-fell fault d = steps-fell before middle middle changes now (λ t. t) (keeping_session who.sid after_session) beaten beats beats beat-steps fault d
 
     session_there : (known : RowMap) → before.rows ≡ Some known → (bytes : ℕ → ℕ → ℕ) → get (tree_of bytes (typed known)).sessions who.sid ≡ Some
-        (session_of session)
+        (session_of_row session)
     session_there known is bytes = found_session bytes (typed known) who.sid session (ap (λ o. session_in (row_in o))
         (stands-sees OfSession is_session (session_key who.sid) changes before middle
         (λ known is. none_kept changes (session_key who.sid) none known) (Some session) s known is))
 
-    alive_is : (t : Tree) → kept_alive t caller (session_of session) ≡ keeping_session who.sid after_session t
+    alive_is : (t : Tree) → kept_alive t caller (session_of_row session) ≡ keeping_session who.sid after_session t
     alive_is t = ap (λ sid. keeping_session sid (record session { expiry = caller.now + SESSION_LIFE }) t) asks.sid
         ∙ ap (λ s. keeping_session who.sid s t) (sym session_is)
 
@@ -238,8 +239,8 @@ module _ (who : Who) (caller : Caller) (asks : IsFor who caller) (before middle 
         (tt {0}) commits
         (λ known is whole bytes ready.
         let t = tree_of bytes (typed known) in
-        beat-by t (Some (session_of session)) (session_there known is bytes) ∙ ap done (alive_is t))
+        beat-by t (Some (session_of_row session)) (session_there known is bytes) ∙ ap done (alive_is t))
         (λ known is whole bytes ready.
         let t = tree_of bytes (typed known) in
         subst (λ (u : Tree). WholeShape (shape_of u)) (alive_is t)
-        (whole-kept_alive t caller (session_of session) (ap (get t.sessions) asks.sid ∙ session_there known is bytes) (whole-shape bytes (typed known) whole)))
+        (whole-kept_alive t caller (session_of_row session) (ap (get t.sessions) asks.sid ∙ session_there known is bytes) (whole-shape bytes (typed known) whole)))

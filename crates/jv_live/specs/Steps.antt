@@ -8,22 +8,22 @@ use Rattle.jv_model.specs.declared.row.Row.{Row}
 use Rattle.jv_model.specs.declared.row.RowKey.{RowKey}
 use Rattle.jv_model.specs.declared.row.Row.TheVariants.{OfSustained}
 use Rattle.jv_model.specs.declared.row.Session.{Session}
-use Rattle.jv_model.specs.FiniteMap.{get, insert, remove}
-use Rattle.jv_model.specs.rows.RowFields.{long}
-use Rattle.jv_model.specs.rows.RowKeys.{RowMap}
-use Rattle.jv_model.specs.rows.RowPlaces.{sustained_key}
-use Rattle.jv_model.specs.tree.Tree.{Tree}
-use Rattle.jv_outside.specs.Store.{Store}
+use Rattle.jv_model.specs.promise.FiniteMap.{get, insert, remove}
+use Rattle.jv_model.specs.promise.rows.RowFields.{long}
+use Rattle.jv_model.specs.promise.rows.RowKeys.{RowMap}
+use Rattle.jv_model.specs.promise.rows.RowPlaces.{sustained_key}
+use Rattle.jv_model.specs.promise.tree.Tree.{Tree}
+use Rattle.jv_outside.specs.promise.Store.{Store}
 pub use Rattle.jv_rows.specs.Lists.{is_past, is_ahead, if_past}
 use Rattle.jv_rows.specs.Transactions.{Looks, without_answer}
-use Rattle.jv_volume.specs.TypedRows.{Rows, typed}
-use Rattle.jv_volume.specs.TreeOf.{session_of}
+use Rattle.jv_volume.specs.promise.TypedRows.{Rows, typed}
+use Rattle.jv_volume.specs.promise.TreeOf.{session_of_row}
 use Rattle.jv_volume.specs.Views.{sustained_at}
-use Rattle.jv_volume.specs.Whole.{Whole}
+use Rattle.jv_volume.specs.promise.Whole.{Whole}
 
 -- with this session
 abbrev pub keeping_session : ℕ → Session → Tree → Tree
-keeping_session sid session t = record t { sessions = insert t.sessions sid (session_of session) }
+keeping_session sid session t = record t { sessions = insert t.sessions sid (session_of_row session) }
 
 -- without a session
 abbrev pub ending_session : ℕ → Tree → Tree

@@ -2,8 +2,8 @@
 ghost use Rattle.std.specs.Prelude.{◌≡◌, Ok};
 ghost use Rattle.jv_live.specs.Steps.{HasPair};
 ghost use Rattle.jv_model.specs.declared.op.Reply.TheVariants.{Done};
-ghost use Rattle.jv_model.specs.tree.Caller.{Caller};
-ghost use Rattle.jv_model.specs.tree.Sessions as model;
+ghost use Rattle.jv_model.specs.promise.tree.Caller.{Caller};
+ghost use Rattle.jv_model.specs.promise.tree.Sessions as model;
 ghost use Rattle.jv_rows.specs.Transactions.{IsFor, Looks, Transacts, Always};
 
 use crate::scanning::next_kept;

@@ -1,7 +1,7 @@
 //! The files that a session keeps without entries, one after another by their inodes.
 ghost use Rattle.std.specs.Prelude.{◌≡◌, IfOk, IfSome};
 ghost use Rattle.jv_live.specs.Steps.{last_key, number_in, first_kept, IsSpelled, FindsKept};
-ghost use Rattle.jv_model.specs.rows.RowFields.{long};
+ghost use Rattle.jv_model.specs.promise.rows.RowFields.{long};
 
 use jv_model::tables::TABLE_OF_SUSTAINED;
 use jv_model::{Row, RowKey, Sequence, TxFault};

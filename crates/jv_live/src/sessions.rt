@@ -1,8 +1,8 @@
 //! Sessions of clients: one is made, and kept alive.
 ghost use Rattle.std.specs.Prelude.{◌≡◌};
 ghost use Rattle.jv_model.specs.declared.op.Reply.TheVariants.{Done, SessionMade};
-ghost use Rattle.jv_model.specs.tree.Caller.{Caller};
-ghost use Rattle.jv_model.specs.tree.Sessions as model;
+ghost use Rattle.jv_model.specs.promise.tree.Caller.{Caller};
+ghost use Rattle.jv_model.specs.promise.tree.Sessions as model;
 ghost use Rattle.jv_rows.specs.Transactions.{IsFor, Transacts, Always};
 
 use crate::steps::keep_session;

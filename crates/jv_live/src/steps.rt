@@ -2,8 +2,8 @@
 ghost use Rattle.std.specs.Prelude.{Ok, IsTrue};
 ghost use Rattle.jv_rows_drafts.specs.Drafting.{Drafting};
 ghost use Rattle.jv_live.specs.Steps.{keeping_session, ending_session, letting_go};
-ghost use Rattle.jv_model.specs.rows.RowGrammar.{is_session};
-ghost use Rattle.jv_outside.specs.Store.{Store};
+ghost use Rattle.jv_model.specs.promise.rows.RowGrammar.{is_session};
+ghost use Rattle.jv_outside.specs.promise.Store.{Store};
 ghost use Rattle.jv_rows.specs.Transactions.{Always};
 
 use jv_model::{Session, TxFault};

@@ -3,7 +3,7 @@ use Rattle.std.proofs.Common.{◌≡◌, ℕ, refl, codes}
 use Rattle.std.specs.Prelude.{⊤}
 use Rattle.std.specs.Fmt.{digits}
 use Rattle.jv_model.specs.declared.setting.Setting.{Setting}
-use Rattle.jv_model.specs.blocks.BlockNames.{block_name_of}
+use Rattle.jv_model.specs.promise.blocks.BlockNames.{block_name_of}
 
 abbrev pub setting_with : ℕ → Setting
 setting_with hash = record {

@@ -3,8 +3,8 @@ use Rattle.std.proofs.Common.{◌≡◌, ℕ, inl, inr, refl, sym, subst}
 use Rattle.std.specs.Prelude.{if◌then◌else◌}
 use Rattle.std.proofs.lemmas.Bool.Decides.{eqb_tells}
 use Rattle.jv_model.specs.declared.profile.Does.{Does}
-use Rattle.jv_model.specs.client.ModelClient.{ModelClient}
-use Rattle.jv_model.specs.journal.State.{Gift, NewSession, NewHandle, Nothing, given, with_client}
+use Rattle.jv_model.specs.promise.client.ModelClient.{ModelClient}
+use Rattle.jv_model.specs.promise.journal.State.{Gift, NewSession, NewHandle, Nothing, given, with_client}
 
 pub own_client : (clients : ℕ → ModelClient) (at : ℕ) (c : ModelClient) → with_client clients at c at ≡ c
 own_client clients at c = elim (eqb_tells at at) [

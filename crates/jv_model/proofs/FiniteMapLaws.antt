@@ -5,7 +5,8 @@ use Rattle.std.specs.declared.cmp.Ordering.TheVariants.{Less, Equal, Greater}
 use Rattle.std.specs.Ordering.{eq_by_cmp, is_eq}
 use Rattle.std.specs.Cmp.{alike_right, eq_by_cmp_equiv}
 use Rattle.std.specs.FinMap.Entries.{put, find, where_key, below_all, is_sorted, find-put, find-where_key, same_entries, by_order}
-use Rattle.jv_model.specs.FiniteMap.{KeyOrder, Map, empty_map, first_passing, first_where, get, insert, remove, retain_keys, alter, map_of, maps_of_entries, sum_over, total_over}
+use Rattle.jv_model.specs.promise.FiniteMap.{KeyOrder, Map, empty_map, first_passing, first_where, get, insert, remove, retain_keys, map_of, sum_over, total_over}
+use Rattle.jv_model.specs.FiniteMap.{alter, maps_of_entries}
 use Rattle.jv_model.proofs.TestLaws.{first_of_both, second_of_both, less_is, tie_is}
 
 -- what an entry adds to a sum

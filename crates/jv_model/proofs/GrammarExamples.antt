@@ -4,8 +4,8 @@ use Rattle.std.specs.Prelude.{⊤}
 use Rattle.jv_model.specs.declared.basics.How.TheVariants as how
 use Rattle.jv_model.specs.declared.op.Op.TheVariants.{Mount, Umount, Stat, Fstat, Mkdir, Read, Write, Truncate, Copy, Chown, Utimes, Symlink, Link, Rename, Compact, Gc, Upload}
 use Rattle.jv_model.specs.declared.op.Line.TheVariants.{Empty, Do, Begin, Step, Run, Crash, Drain, Tick}
-use Rattle.jv_model.specs.script.Spelling.{mode_of, number_of, length_of, client_of}
-use Rattle.jv_model.specs.script.Grammar.{number_up_to, seconds_of, unescaped, path_of, target_of, repeated_of, part_of, bytes_of_parts, data_of, operation_of_none, operation_of_path, operation_of_one, symlink_of, two_paths_of, path_and_mode_of, truncate_of, utimes_of, compact_of, operation_of_two_names, operation_of_two, read_of, write_of, chown_of, how_of, rename_of, operation_of_three, copy_of, operation_of, begin_of, client_line_of, command_of, line_of}
+use Rattle.jv_model.specs.promise.script.Spelling.{mode_of, number_of, length_of, client_of}
+use Rattle.jv_model.specs.promise.script.Grammar.{number_up_to, seconds_of, unescaped, path_of, target_of, repeated_of, part_of, bytes_of_parts, data_of, operation_of_none, operation_of_path, operation_of_one, symlink_of, two_paths_of, path_and_mode_of, truncate_of, utimes_of, compact_of, operation_of_two_names, operation_of_two, read_of, write_of, chown_of, how_of, rename_of, operation_of_three, copy_of, operation_of, begin_of, client_line_of, command_of, line_of}
 
 -- on an `unfolding` line: computes the grammar on a text that is written out
 unfoldable pub script_on_literals : ⊤

@@ -2,7 +2,7 @@
 use Rattle.std.proofs.Common.{◌≡◌, ℕ, zero, suc, ◌+◌, ◌<◌, Bool, true, false, cond, List, [], ◌∷◌, ◌++◌, length, Some, refl, ap, arith}
 use Rattle.std.specs.Prelude.{slice_get}
 use Rattle.std.specs.List.{AllByRecursion, filter}
-use Rattle.jv_model.specs.Lists.{last_item}
+use Rattle.jv_model.specs.promise.Lists.{last_item}
 
 -- ---- behind what was appended
 

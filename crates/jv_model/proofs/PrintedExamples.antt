@@ -2,7 +2,7 @@
 use Rattle.std.proofs.Common.{◌≡◌, ◌++◌, refl, replicate, codes}
 use Rattle.std.specs.Prelude.{⊤}
 use Rattle.std.specs.Fmt.{digits}
-use Rattle.jv_model.specs.script.Printed.{data_text}
+use Rattle.jv_model.specs.promise.script.Printed.{data_text}
 
 -- on an `unfolding` line: computes the text of bytes that are written out
 unfoldable pub bytes_on_literals : ⊤

@@ -9,9 +9,9 @@ use Rattle.jv_model.specs.declared.fault.Fault.TheVariants as fault
 use Rattle.jv_model.specs.declared.op.Reply.TheVariants as reply
 use Rattle.jv_model.specs.declared.setting.FileKind.TheVariants.{File, Directory}
 use Rattle.jv_model.specs.declared.setting.Setting.{Setting}
-use Rattle.jv_model.specs.blocks.BlockNames.{block_name_of}
-use Rattle.jv_model.specs.script.Printed.{data_text, fault_name, fault_words}
-use Rattle.jv_model.specs.script.ReplyText.{name_text, path_text, attr_words, entries_text, uploaded_text, reply_text, printed_line}
+use Rattle.jv_model.specs.promise.blocks.BlockNames.{block_name_of}
+use Rattle.jv_model.specs.promise.script.Printed.{data_text, fault_name, fault_words}
+use Rattle.jv_model.specs.promise.script.ReplyText.{name_text, path_text, attr_words, entries_text, uploaded_text, reply_text, printed_line}
 
 -- on an `unfolding` line: computes the printed line of an answer that is written out
 unfoldable pub replies_on_literals : ⊤

@@ -12,12 +12,12 @@ use Rattle.jv_model.specs.declared.row.Session.{Session}
 use Rattle.jv_model.specs.declared.row.SliceRow.{SliceRow}
 use Rattle.jv_model.specs.declared.setting.Setting.{Setting}
 use Rattle.jv_model.specs.declared.slice.Rec.{Rec}
-use Rattle.jv_model.specs.rows.RowGrammar.{setting_bytes, setting_of, counters_bytes, counters_of, node_bytes, node_of, edge_bytes, edge_of, record_bytes, list_bytes, record_at, records_at, list_of, slice_bytes, slice_of, session_bytes, session_of, sustained_of, dropped_bytes, dropped_of, dead_bytes, dead_of, row_of}
-use Rattle.jv_model.specs.rows.RowPlaces.{setting_key, counters_key, node_key, edge_key, list_key, slice_key, session_key, sustained_key, dropped_key, dead_key}
+use Rattle.jv_model.specs.promise.rows.RowGrammar.{setting_bytes, setting_of, counters_bytes, counters_of, node_bytes, node_of, edge_bytes, edge_of, record_bytes, list_bytes, record_at, records_at, list_of, slice_bytes, slice_of, session_bytes, session_of_bytes, sustained_of, dropped_bytes, dropped_of, dead_bytes, dead_of, row_of}
+use Rattle.jv_model.specs.promise.rows.RowPlaces.{setting_key, counters_key, node_key, edge_key, list_key, slice_key, session_key, sustained_key, dropped_key, dead_key}
 
 -- on an `unfolding` line: computes the bytes of rows and the rows of bytes
 unfoldable pub rows_on_literals : ⊤
-unfolding setting_bytes setting_of counters_bytes counters_of node_bytes node_of edge_bytes edge_of record_bytes list_bytes record_at records_at list_of slice_bytes slice_of session_bytes session_of sustained_of dropped_bytes dropped_of dead_bytes dead_of row_of is_utf8 chars lib.Utf8.encode
+unfolding setting_bytes setting_of counters_bytes counters_of node_bytes node_of edge_bytes edge_of record_bytes list_bytes record_at records_at list_of slice_bytes slice_of session_bytes session_of_bytes sustained_of dropped_bytes dropped_of dead_bytes dead_of row_of is_utf8 chars lib.Utf8.encode
 rows_on_literals = tt
 
 -- a value is spelled as these bytes, and is read from them
@@ -115,7 +115,7 @@ slice_is = (refl, refl)
 abbrev pub session : Session
 session = record { client = 5; expiry = 258 }
 
-pub session_is : IsRow session_bytes session_of session ((5 ∷ [])
+pub session_is : IsRow session_bytes session_of_bytes session ((5 ∷ [])
     ++ (0 ∷ 0 ∷ 0 ∷ 0 ∷ 0 ∷ 0 ∷ 1 ∷ 2 ∷ []))
 unfolding rows_on_literals
 session_is = (refl, refl)
@@ -152,7 +152,7 @@ pub keys : (setting_key ≡ key 0 0 []) × (counters_key ≡ key 1 0 []) × (nod
 keys = (refl, refl, refl, refl, refl, refl, refl, refl, refl, refl)
 
 -- no bytes are no list, nor is half a record; a session has no byte too many; there is no kind 4, and no table 10
-pub malformed : (list_of [] ≡ None) × (list_of (0 ∷ 0 ∷ 0 ∷ 3 ∷ []) ≡ None) × (session_of (5 ∷ 0 ∷ 0 ∷ 0 ∷ 0 ∷ 0 ∷ 0 ∷ 1 ∷ 2 ∷ 0 ∷ []) ≡ None)
+pub malformed : (list_of [] ≡ None) × (list_of (0 ∷ 0 ∷ 0 ∷ 3 ∷ []) ≡ None) × (session_of_bytes (5 ∷ 0 ∷ 0 ∷ 0 ∷ 0 ∷ 0 ∷ 0 ∷ 1 ∷ 2 ∷ 0 ∷ []) ≡ None)
     × (edge_of (4 ∷ 1 ∷ 2 ∷ 3 ∷ 4 ∷ 5 ∷ 6 ∷ 7 ∷ 8 ∷ []) ≡ None) × (row_of 10 [] ≡ None)
 unfolding rows_on_literals
 malformed = (refl, refl, refl, refl, refl)

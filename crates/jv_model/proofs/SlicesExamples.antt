@@ -5,7 +5,8 @@ use Rattle.jv_model.specs.declared.slice.Rec.{Rec}
 use Rattle.jv_model.specs.declared.slice.Spot.TheVariants.{Zero, Slice}
 use Rattle.jv_model.specs.declared.slice.Piece.{Piece}
 use Rattle.jv_model.specs.declared.slice.BlockId.{BlockId}
-use Rattle.jv_model.specs.blocks.Slices.{stored_place, needed_blocks, block_lengths}
+use Rattle.jv_model.specs.promise.blocks.Slices.{stored_place}
+use Rattle.jv_model.specs.blocks.Slices.{needed_blocks, block_lengths}
 
 abbrev pub written : List Rec
 written = record { pos = 0; id = 1; size = 10; off = 0; len = 10 } ∷ record { pos = 3; id = 2; size = 2; off = 0; len = 2 }

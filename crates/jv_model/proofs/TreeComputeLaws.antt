@@ -1,16 +1,16 @@
 -- What a proof on trees that are written out has to open, so that operations compute on them.
 use Rattle.std.specs.Prelude.{⊤}
 use Rattle.std.specs.Fmt.{digits}
-use Rattle.jv_model.specs.FiniteMap.{get, insert, remove, retain_keys, first_where, entries_where, key_count, sum_over}
-use Rattle.jv_model.specs.tree.Walk.{walk_names, walk}
-use Rattle.jv_model.specs.tree.HourNames.{hour_name}
-use Rattle.jv_model.specs.tree.Trash.{with_hour, trash_name}
-use Rattle.jv_model.specs.tree.Reading.{lookup, stat, lstat, fstat, open_file, compact, readdir, readlink, statfs, chmod, chown, utimes}
-use Rattle.jv_model.specs.tree.Making.{mkdir, create, symlink, link}
-use Rattle.jv_model.specs.tree.Removing.{remove_entry, unlink, rmdir}
-use Rattle.jv_model.specs.tree.Renaming.{is_within, rename}
-use Rattle.jv_model.specs.tree.Sessions.{mount, beat, umount, release}
-use Rattle.jv_model.specs.tree.FileBytes.{truncate, copy}
+use Rattle.jv_model.specs.promise.FiniteMap.{get, insert, remove, retain_keys, first_where, entries_where, key_count, sum_over}
+use Rattle.jv_model.specs.promise.tree.Walk.{walk_names, walk}
+use Rattle.jv_model.specs.promise.tree.HourNames.{hour_name}
+use Rattle.jv_model.specs.promise.tree.Trash.{with_hour, trash_name}
+use Rattle.jv_model.specs.promise.tree.Reading.{lookup, stat, lstat, fstat, open_file, compact, readdir, readlink, statfs, chmod, chown, utimes}
+use Rattle.jv_model.specs.promise.tree.Making.{mkdir, create, symlink, link}
+use Rattle.jv_model.specs.promise.tree.Removing.{remove_entry, unlink, rmdir}
+use Rattle.jv_model.specs.promise.tree.Renaming.{is_within, rename}
+use Rattle.jv_model.specs.promise.tree.Sessions.{mount, beat, umount, release}
+use Rattle.jv_model.specs.promise.tree.FileBytes.{truncate, copy}
 
 -- on an `unfolding` line: computes on finite maps that are written out
 unfoldable pub maps_compute : ⊤

@@ -1,11 +1,9 @@
 -- The definitions that contracts cite, by what they are about.
+pub mod promise
 pub mod FiniteMap
 pub mod Optional
-pub mod Counts
 pub mod Lists
-pub mod Ranges
 pub mod tree
-pub mod script
 pub mod client
 pub mod journal
 pub mod blocks

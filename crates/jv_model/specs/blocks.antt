@@ -1,3 +1,2 @@
 -- Records of chunks, and the names of blocks.
-pub mod BlockNames
 pub mod Slices

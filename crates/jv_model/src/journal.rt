@@ -15,7 +15,7 @@ pub struct Journal {
 
 impl Model for Journal {
     ghost use Rattle.std.specs.Prelude.{◌-◌, vec_len, vec_capacity};
-    ghost use Rattle.jv_model.specs.journal.JournalValue.{JournalValue};
+    ghost use Rattle.jv_model.specs.promise.journal.JournalValue.{JournalValue};
 
     ghost Value = { JournalValue };
 

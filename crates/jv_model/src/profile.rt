@@ -1,7 +1,7 @@
 //! What a client has to know of an operation before its first step.
 ghost use Rattle.std.specs.Prelude.{◌≡◌};
-ghost use Rattle.jv_model.specs.client.OpForms.{is_read};
-ghost use Rattle.jv_model.specs.client.Profile.{profile, handle_of, of_mounted, of_any_client, flushing_all, opening, on_file, on_files, read_does, write_profile};
+ghost use Rattle.jv_model.specs.promise.client.OpForms.{is_read};
+ghost use Rattle.jv_model.specs.promise.client.Profile.{profile, handle_of, of_mounted, of_any_client, flushing_all, opening, on_file, on_files, read_does, write_profile};
 
 use crate::limits::FILE_END;
 use crate::op::Op;

@@ -3,8 +3,8 @@ ghost use Rattle.std.specs.Prelude.{◌≡◌, [], ◌++◌, IfOk, IfSome, IsTru
 ghost use Rattle.std.specs.Cow.{cow_slice_items};
 ghost use Rattle.std.specs.Option.{IsSome};
 ghost use Rattle.jv_model.specs.Lists.{AreBytes};
-ghost use Rattle.jv_model.specs.rows.RowBytes.{held_bytes};
-ghost use Rattle.jv_model.specs.rows.RowGrammar.{list_of};
+ghost use Rattle.jv_model.specs.promise.rows.RowBytes.{held_bytes};
+ghost use Rattle.jv_model.specs.promise.rows.RowGrammar.{list_of};
 
 use crate::sequence::Sequence;
 use crate::tables::RECORD_LENGTH;
@@ -42,7 +42,8 @@ pub struct RowBytes {
 
 impl Model for RowBytes {
     ghost use Rattle.std.specs.Prelude.{ℕ, List};
-    ghost use Rattle.jv_model.specs.rows.RowBytes.{held_bytes, KnowsLists};
+    ghost use Rattle.jv_model.specs.promise.rows.RowBytes.{held_bytes};
+    ghost use Rattle.jv_model.specs.rows.RowBytes.{KnowsLists};
 
     ghost Value = { List ℕ };
 

@@ -27,7 +27,7 @@ pub struct Setting {
 
 impl Setting {
     ghost use Rattle.std.specs.Prelude.{◌≡◌, IfOk};
-    ghost use Rattle.jv_model.specs.tree.Tree.{space_limit, inode_limit};
+    ghost use Rattle.jv_model.specs.promise.tree.Tree.{space_limit, inode_limit};
 
     /// A copy of the setting. The only error is out of memory.
     pub fn copied(&self, alloc: Global) -> Result<Setting, AllocError>

@@ -1,6 +1,6 @@
 //! What a line of a script spells of an operation.
 ghost use Rattle.std.specs.Prelude.{◌≡◌};
-ghost use Rattle.jv_model.specs.script.Spelled.{is_spelled};
+ghost use Rattle.jv_model.specs.promise.script.Spelled.{is_spelled};
 
 use crate::limits::MAX_MODE;
 use crate::op::Op;

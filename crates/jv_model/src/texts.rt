@@ -1,6 +1,6 @@
 //! Byte strings, which are sequences of bytes, and copies of bytes.
 ghost use Rattle.std.specs.Prelude.{◌≡◌, IfOk};
-ghost use Rattle.jv_model.specs.Lists.{has_no_zero};
+ghost use Rattle.jv_model.specs.promise.Lists.{has_no_zero};
 
 use crate::sequence::Sequence;
 use std::alloc::{AllocError, Global};

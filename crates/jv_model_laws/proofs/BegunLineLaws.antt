@@ -5,10 +5,10 @@ use Rattle.jv_model.specs.declared.fault.Fault.{Fault}
 use Rattle.jv_model.specs.declared.op.Op.{Op}
 use Rattle.jv_model.specs.declared.op.Line.{Line}
 use Rattle.jv_model.specs.declared.op.Line.TheVariants.{Do, Begin, Step, Run, Crash, Tick}
-use Rattle.jv_model.specs.client.Submission.{submission, submitted}
-use Rattle.jv_model.specs.journal.State.{State, set_client}
-use Rattle.jv_model.specs.journal.Past.{Past, Due, NoMore, Refusal, MayLack, ToAnswer, OneStep, CrashEntry, TickEntry, begun, begun_by_due, begun_to, begin_next, begin_from, after_line, is_busy, is_over, idle_text}
-use Rattle.jv_model.specs.script.ReplyText.{with_feed}
+use Rattle.jv_model.specs.promise.client.Submission.{submission, submitted}
+use Rattle.jv_model.specs.promise.journal.State.{State, set_client}
+use Rattle.jv_model.specs.promise.journal.Past.{Past, Due, NoMore, Refusal, MayLack, ToAnswer, OneStep, CrashEntry, TickEntry, begun, begun_by_due, begun_to, begin_next, begin_from, after_line, is_busy, is_over, idle_text}
+use Rattle.jv_model.specs.promise.script.ReplyText.{with_feed}
 use Rattle.jv_model_laws.proofs.JournalGrowthLaws.{begun_to-next}
 
 -- between two lines, of which the next one is this

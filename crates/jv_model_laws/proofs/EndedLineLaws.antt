@@ -3,9 +3,9 @@ use Rattle.std.proofs.Common.{◌≡◌, ℕ, ◌+◌, ◌≤◌, true, false, �
 use Rattle.std.proofs.lemmas.Bool.{or_right}
 use Rattle.jv_model.specs.declared.act.Act.{Act}
 use Rattle.jv_model.specs.declared.op.Line.{Line}
-use Rattle.jv_model.specs.journal.State.{State}
-use Rattle.jv_model.specs.journal.Past.{Past, Due, NoMore, Refusal, MayLack, ToAnswer, OneStep, StepMade, CrashEntry, TickEntry, DrainEntries, begun_to, past, is_over, ends_in_step}
-use Rattle.jv_model.specs.journal.Legal.{AllAllowed, may_stop}
+use Rattle.jv_model.specs.promise.journal.State.{State}
+use Rattle.jv_model.specs.promise.journal.Past.{Past, Due, NoMore, Refusal, MayLack, ToAnswer, OneStep, StepMade, CrashEntry, TickEntry, DrainEntries, begun_to, past, is_over, ends_in_step}
+use Rattle.jv_model.specs.promise.journal.Legal.{AllAllowed, may_stop}
 use Rattle.jv_model_laws.proofs.JournalGrowthLaws.{begun_to-begun, begun_frame, line_allowed, past-begun_to, AllAllowed-begun_to, count_past}
 use Rattle.jv_model_laws.specs.OnLines.{Leads, SameLine}
 use Rattle.jv_model_laws.proofs.BegunLineLaws.{IsBegun}

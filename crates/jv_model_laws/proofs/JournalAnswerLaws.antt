@@ -13,11 +13,11 @@ use Rattle.jv_model.specs.declared.fault.Fault.{Fault}
 use Rattle.jv_model.specs.declared.op.Reply.{Reply}
 use Rattle.jv_model.specs.declared.profile.Answer.{Answer}
 use Rattle.jv_model.specs.declared.profile.Does.TheVariants.{Answers}
-use Rattle.jv_model.specs.client.ModelClient.{ModelClient, Doing, Stage, Replying, Files, OneBlock, BlockRemoved, CleaningPart}
-use Rattle.jv_model.specs.journal.State.{State, given, replied, transacted, newly_sustained, next_entry, gift_of, after_transaction, after_step, of_doing, effect, is_compaction}
-use Rattle.jv_model.specs.journal.Steps.{Start, transacts, Transaction, LooksAt, CompactionLooks, First, Again, CompactionMisses, MissesBlock, CleansItem, DropsFile, ForgetsSlice, OfOneBlock, OfBlocks, MayStep, MayAnswer, Fails, Decided, AtOnce, CountsCache, ReadsViews, CleanedUp, HasCompacted, HasCollected, HasUploaded, Refuses, TooShort, HasReplaced, Sent, FoundNone, IsRefusedIn, SessionGone, InodeGone, CommitLate, CommitTooLarge, NumberRefused, CompactionCrowded, CompactionLate, AnotherList, BlockOwed, MissedTooOften, InReading, InCompaction, begins_step, must_answer, told_of}
-use Rattle.jv_model.specs.journal.Past.{Past, Due, NoMore, Refusal, MayLack, ToAnswer, OneStep, StepMade, CrashEntry, TickEntry, DrainEntries, at_start, begun_by, begun_to, is_over, requested, lined, is_workers, after, advance, past, reached, line_reply, reply_of, refusal_reply}
-use Rattle.jv_model.specs.journal.Legal.{Allowed, AllAllowed, Refuses as RefusesSubmission, LacksMemory as RefusalLacks, OfClient, OfLine, OfWorker}
+use Rattle.jv_model.specs.promise.client.ModelClient.{ModelClient, Doing, Stage, Replying, Files, OneBlock, BlockRemoved, CleaningPart}
+use Rattle.jv_model.specs.promise.journal.State.{State, given, replied, transacted, newly_sustained, next_entry, gift_of, after_transaction, after_step, of_doing, effect, is_compaction}
+use Rattle.jv_model.specs.promise.journal.Steps.{Start, transacts, Transaction, LooksAt, CompactionLooks, First, Again, CompactionMisses, MissesBlock, CleansItem, DropsFile, ForgetsSlice, OfOneBlock, OfBlocks, MayStep, MayAnswer, Fails, Decided, AtOnce, CountsCache, ReadsViews, CleanedUp, HasCompacted, HasCollected, HasUploaded, Refuses, TooShort, HasReplaced, Sent, FoundNone, IsRefusedIn, SessionGone, InodeGone, CommitLate, CommitTooLarge, NumberRefused, CompactionCrowded, CompactionLate, AnotherList, BlockOwed, MissedTooOften, InReading, InCompaction, begins_step, must_answer, told_of}
+use Rattle.jv_model.specs.promise.journal.Past.{Past, Due, NoMore, Refusal, MayLack, ToAnswer, OneStep, StepMade, CrashEntry, TickEntry, DrainEntries, at_start, begun_by, begun_to, is_over, requested, lined, is_workers, after, advance, past, reached, line_reply, reply_of, refusal_reply}
+use Rattle.jv_model.specs.promise.journal.Legal.{Allowed, AllAllowed, Refuses as RefusesSubmission, LacksMemory as RefusalLacks, OfClient, OfLine, OfWorker}
 use Rattle.jv_model_laws.specs.Laws.{AnswersModel, AnswersAsTree, is_transaction_entry}
 use Rattle.jv_model_laws.proofs.JournalGrowthLaws.{AllAllowed-parts, past-append, own_client, others_kept, after_line_begin_next, begun_to-begun}
 use Rattle.jv_model_laws.proofs.JournalStateLaws.{of_kind}

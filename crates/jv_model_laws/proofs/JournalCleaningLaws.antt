@@ -8,18 +8,18 @@ use Rattle.jv_model.specs.declared.act.Act.{Act}
 use Rattle.jv_model.specs.declared.act.ActKind.{ActKind}
 use Rattle.jv_model.specs.declared.act.ActKind.TheVariants.{Settled, Expired, Cleaned, Crashed, Answered}
 use Rattle.jv_model.specs.declared.op.Op.{Op}
-use Rattle.jv_model.specs.FiniteMap.{number_key, first_where}
-use Rattle.jv_model.specs.tree.Tree.{Tree, SessionEntry}
-use Rattle.jv_model.specs.client.ModelClient.{Doing, session_of}
-use Rattle.jv_model.specs.client.Submission.{submission, submitted}
-use Rattle.jv_model.specs.journal.State.{State, set_client, after_step, after_other, of_doing, changed, effect}
-use Rattle.jv_model.specs.journal.Steps.{MayStep, DropsFile}
-use Rattle.jv_model.specs.journal.Past.{Setup, Past, at_start, begun_to, reached}
-use Rattle.jv_model.specs.journal.Legal.{Allowed, AllAllowed, IsPublish, IsPublishOf, Refuses, LacksMemory as RefusalLacks, Sends, Ends, Fails}
+use Rattle.jv_model.specs.promise.FiniteMap.{number_key, first_where}
+use Rattle.jv_model.specs.promise.tree.Tree.{Tree, SessionEntry}
+use Rattle.jv_model.specs.promise.client.ModelClient.{Doing, session_of}
+use Rattle.jv_model.specs.promise.client.Submission.{submission, submitted}
+use Rattle.jv_model.specs.promise.journal.State.{State, set_client, after_step, after_other, of_doing, changed, effect}
+use Rattle.jv_model.specs.promise.journal.Steps.{MayStep, DropsFile}
+use Rattle.jv_model.specs.promise.journal.Past.{Setup, Past, at_start, begun_to, reached}
+use Rattle.jv_model.specs.promise.journal.Legal.{Allowed, AllAllowed, IsPublish, IsPublishOf, Refuses, LacksMemory as RefusalLacks, Sends, Ends, Fails}
 use Rattle.jv_model.specs.journal.Looks.{entry_at}
 use Rattle.jv_model_laws.specs.Laws.{ExpiresOnlyGone, IsExpired, DropsOnlyGone}
 use Rattle.jv_model.proofs.FiniteMapLaws.{first_where-found}
-use Rattle.jv_model.specs.Lists.{is_among}
+use Rattle.jv_model.specs.promise.Lists.{is_among}
 use Rattle.jv_model_laws.proofs.JournalGrowthLaws.{AllAllowed-parts}
 use Rattle.jv_model_laws.proofs.JournalStateLaws.{Entry, Steps, RefusedSubmission, LacksMemory, Crashes, Publishes, OfDrain, Ticks, entry_of, entry_before, entry_last, entry_within, none_entered, holds_on, of_kind}
 use Rattle.jv_model_laws.proofs.JournalOwedLaws.{is_of_operation, has_operation}

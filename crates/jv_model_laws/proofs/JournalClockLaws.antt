@@ -2,8 +2,8 @@
 use Rattle.std.proofs.Common.{◌≡◌, ℕ, ◌+◌, ◌≤◌, Bool, true, false, IsTrue, MatchBool, MatchOption, [], ◌∷◌, Some, ap, subst, ◌∙◌}
 use Rattle.jv_model.specs.declared.limits.TheConstants.{LAST_MOMENT}
 use Rattle.jv_model.specs.declared.act.Act.{Act}
-use Rattle.jv_model.specs.journal.Past.{Setup, Past, at_start, begun_to, reached, is_workers, asks_clock}
-use Rattle.jv_model.specs.journal.Legal.{IsMoment, clock_moment, tick_of}
+use Rattle.jv_model.specs.promise.journal.Past.{Setup, Past, at_start, begun_to, reached, is_workers, asks_clock}
+use Rattle.jv_model.specs.promise.journal.Legal.{IsMoment, clock_moment, tick_of}
 use Rattle.jv_model_laws.specs.Laws.{MomentsAreTheClocks, HasMoment}
 use Rattle.jv_model_laws.proofs.JournalGrowthLaws.{AllAllowed-parts, begun_frame}
 use Rattle.jv_model_laws.proofs.JournalStateLaws.{run_reached}

@@ -16,13 +16,13 @@ use Rattle.jv_model.specs.declared.fault.Gone.TheVariants.{Session, Node}
 use Rattle.jv_model.specs.declared.op.Op.{Op}
 use Rattle.jv_model.specs.declared.op.Op.TheVariants as op
 use Rattle.jv_model.specs.declared.op.Reply.TheVariants as reply
-use Rattle.jv_model.specs.client.Profile.{handle_of}
-use Rattle.jv_model.specs.client.Pending.{PendingByte, stands_at, comes_before, byte_set, written, is_in_range, without_range, pending_of, pending_of_others}
-use Rattle.jv_model.specs.client.ModelClient.{ModelClient, View, Doing, Stage, Replying, with_stage, inode_at, views_without}
-use Rattle.jv_model.specs.client.Submission.{submission, submitted}
-use Rattle.jv_model.specs.journal.State.{State, with_client, set_client, committed_stage, finished, refused_as, after_told, answered_client, is_of_another, after_transaction, after_step, after_other, of_doing, changed, effect, is_compaction, looked, view_now}
-use Rattle.jv_model.specs.journal.Past.{Setup, Past, at_start, begun_to, reached}
-use Rattle.jv_model.specs.journal.Legal.{Allowed, AllAllowed}
+use Rattle.jv_model.specs.promise.client.Profile.{handle_of}
+use Rattle.jv_model.specs.promise.client.Pending.{PendingByte, stands_at, comes_before, byte_set, written, is_in_range, without_range, pending_of, pending_of_others}
+use Rattle.jv_model.specs.promise.client.ModelClient.{ModelClient, View, Doing, Stage, Replying, with_stage, inode_at, views_without}
+use Rattle.jv_model.specs.promise.client.Submission.{submission, submitted}
+use Rattle.jv_model.specs.promise.journal.State.{State, with_client, set_client, committed_stage, finished, refused_as, after_told, answered_client, is_of_another, after_transaction, after_step, after_other, of_doing, changed, effect, is_compaction, looked, view_now}
+use Rattle.jv_model.specs.promise.journal.Past.{Setup, Past, at_start, begun_to, reached}
+use Rattle.jv_model.specs.promise.journal.Legal.{Allowed, AllAllowed}
 use Rattle.jv_model.specs.journal.Looks.{entry_at}
 use Rattle.jv_model.proofs.TestLaws.{either_kept}
 use Rattle.jv_model_laws.specs.Laws.{AnswersWrite, ClosesCommitWrites, ResolvesWrite, commits_position, loses_pending, is_fine_answer, HasCommitted}

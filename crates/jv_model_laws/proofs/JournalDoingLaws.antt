@@ -24,23 +24,23 @@ use Rattle.jv_model.specs.declared.profile.Profile.{Profile}
 use Rattle.jv_model.specs.declared.profile.Does.{Does}
 use Rattle.jv_model.specs.declared.profile.Does.TheVariants.{Answers, Mounts, Transacts, Releases, Reads, Truncates, Copies, Compacts, Cleans as DoesClean, Collects, Uploads}
 use Rattle.jv_model.specs.declared.profile.Flushes.TheVariants.{ItsFiles, Everything}
-use Rattle.jv_model.specs.tree.Tree.{Tree, Node as TreeNode, Content, node_at, fits}
-use Rattle.jv_model.specs.tree.Caller.{Caller, Outcome, outcome, answered, done, in_session}
-use Rattle.jv_model.specs.tree.Attempt.{◌>>=◌, require, some_or}
-use Rattle.jv_model.specs.tree.TreeAct.{tree_act}
-use Rattle.jv_model.specs.tree.Reading.{fstat, attr_of}
-use Rattle.jv_model.specs.tree.Sessions.{release, released}
-use Rattle.jv_model.specs.tree.FileBytes.{truncate, truncated, copy, copied, copy_bytes, open_content, overlap}
-use Rattle.jv_model.specs.client.Pending.{PendingByte, Segment, first_segment, pending_of, without_range}
-use Rattle.jv_model.specs.client.Origins.{Owed}
-use Rattle.jv_model.specs.client.Profile.{profile, handle_list, handle_of}
-use Rattle.jv_model.specs.client.ModelClient.{ModelClient, OpenFile, View, Doing, OfFiles, OfAll, Stage, Cleaning, Sessions, Trash, Files, OneBlock, BlockRemoved, CleaningPart, Working, Reading, Missing, LookedAgain, Compacting, Cleans, Listed, Judged, Removing, Published, Replying, unmounted, with_stage, file_of, inode_in, inode_at, views_without}
-use Rattle.jv_model.specs.client.Submission.{submission, submitted, flush_of, by_limits, segment_of_files, is_flushed}
-use Rattle.jv_model.specs.journal.State.{removes_block, after_judging, State, Gift, NewSession, NewHandle, Nothing, with_client, set_client, given, replied, transacted, newly_sustained, next_entry, gift_of, after_transaction, is_refused, refusal_in, look_refusal, has_session, quieted, begun_quietly, flushing_on, cleaning_on, looked, compaction_looked, missed, committed_stage, answer_then, reply_of_answer, replaced, after_told, answered_client, is_of_another, after_step, of_doing, changed, effect, view_now, is_compaction, sees_first, first_cleaning}
-use Rattle.jv_model.specs.journal.Reading.{asked_parts}
-use Rattle.jv_model.specs.journal.Steps.{Start, is_ready, transacts, Transaction, LooksAt, may_read_on, is_missing, CompactionLooks, First, Again, CompactionMisses, MissesBlock, change_entry, cleaning_in, CleansItem, DropsFile, ForgetsSlice, OfOneBlock, OfBlocks, MayStep, MayAnswer, Fails, Decided, AtOnce, CountsCache, ReadsViews, CleanedUp, HasCompacted, HasCollected, HasUploaded, Refuses, EndsCompaction, TooShort, HasReplaced, EndsUpload, Sent, FoundNone, told_of, is_failure, has_judged}
-use Rattle.jv_model.specs.journal.Past.{Setup, Past, at_start, begun_to, reached}
-use Rattle.jv_model.specs.journal.Legal.{Allowed, AllAllowed, Refuses as RefusesSubmission, LacksMemory as RefusalLacks}
+use Rattle.jv_model.specs.promise.tree.Tree.{Tree, Node as TreeNode, Content, node_at, fits}
+use Rattle.jv_model.specs.promise.tree.Caller.{Caller, Outcome, outcome, answered, done, in_session}
+use Rattle.jv_model.specs.promise.tree.Attempt.{◌>>=◌, require, some_or}
+use Rattle.jv_model.specs.promise.tree.TreeAct.{tree_act}
+use Rattle.jv_model.specs.promise.tree.Reading.{fstat, attr_of}
+use Rattle.jv_model.specs.promise.tree.Sessions.{release, released}
+use Rattle.jv_model.specs.promise.tree.FileBytes.{truncate, truncated, copy, copied, copy_bytes, open_content, overlap}
+use Rattle.jv_model.specs.promise.client.Pending.{PendingByte, Segment, first_segment, pending_of, without_range}
+use Rattle.jv_model.specs.promise.client.Origins.{Owed}
+use Rattle.jv_model.specs.promise.client.Profile.{profile, handle_list, handle_of}
+use Rattle.jv_model.specs.promise.client.ModelClient.{ModelClient, OpenFile, View, Doing, OfFiles, OfAll, Stage, Cleaning, Sessions, Trash, Files, OneBlock, BlockRemoved, CleaningPart, Working, Reading, Missing, LookedAgain, Compacting, Cleans, Listed, Judged, Removing, Published, Replying, unmounted, with_stage, file_of, inode_in, inode_at, views_without}
+use Rattle.jv_model.specs.promise.client.Submission.{submission, submitted, flush_of, by_limits, segment_of_files, is_flushed}
+use Rattle.jv_model.specs.promise.journal.State.{removes_block, after_judging, State, Gift, NewSession, NewHandle, Nothing, with_client, set_client, given, replied, transacted, newly_sustained, next_entry, gift_of, after_transaction, is_refused, refusal_in, look_refusal, has_session, quieted, begun_quietly, flushing_on, cleaning_on, looked, compaction_looked, missed, committed_stage, answer_then, reply_of_answer, replaced, after_told, answered_client, is_of_another, after_step, of_doing, changed, effect, view_now, is_compaction, sees_first, first_cleaning}
+use Rattle.jv_model.specs.promise.journal.Reading.{asked_parts}
+use Rattle.jv_model.specs.promise.journal.Steps.{Start, is_ready, transacts, Transaction, LooksAt, may_read_on, is_missing, CompactionLooks, First, Again, CompactionMisses, MissesBlock, change_entry, cleaning_in, CleansItem, DropsFile, ForgetsSlice, OfOneBlock, OfBlocks, MayStep, MayAnswer, Fails, Decided, AtOnce, CountsCache, ReadsViews, CleanedUp, HasCompacted, HasCollected, HasUploaded, Refuses, EndsCompaction, TooShort, HasReplaced, EndsUpload, Sent, FoundNone, told_of, is_failure, has_judged}
+use Rattle.jv_model.specs.promise.journal.Past.{Setup, Past, at_start, begun_to, reached}
+use Rattle.jv_model.specs.promise.journal.Legal.{Allowed, AllAllowed, Refuses as RefusesSubmission, LacksMemory as RefusalLacks}
 use Rattle.jv_model_laws.specs.Laws.{NothingPending, HasCommitted, flushed_handles, is_fine_answer}
 use Rattle.jv_model_laws.proofs.JournalGrowthLaws.{AllAllowed-parts, own_client, others_kept}
 use Rattle.jv_model_laws.proofs.JournalStateLaws.{Entry, Steps, RefusedSubmission, LacksMemory, Crashes, Publishes, OfDrain, Ticks, entry_of, holds_on, of_kind}

@@ -19,18 +19,18 @@ use Rattle.jv_model.specs.declared.op.Reply.{Reply}
 use Rattle.jv_model.specs.declared.op.Reply.TheVariants as reply
 use Rattle.jv_model.specs.declared.profile.Does.{Does}
 use Rattle.jv_model.specs.declared.profile.Does.TheVariants.{Answers, Mounts, Transacts, Releases, Reads, Truncates, Copies, Compacts, Cleans as DoesClean, Collects, Uploads}
-use Rattle.jv_model.specs.tree.Sessions.{due_session}
-use Rattle.jv_model.specs.tree.Trash.{due_purge}
-use Rattle.jv_model.specs.client.Pending.{without_range}
-use Rattle.jv_model.specs.client.Origins.{Owed}
-use Rattle.jv_model.specs.client.Profile.{profile, handle_of}
-use Rattle.jv_model.specs.client.ModelClient.{ModelClient, View, Doing, Stage, Cleaning, CleaningPart, Sessions, Trash, Files, Slices, SliceAsked, OneBlock, BlockRemoved, Working, Reading, Missing, LookedAgain, Compacting, Cleans, Listed, Judged, Removing, Published, Replying, unmounted, with_stage, session_of, views_without}
-use Rattle.jv_model.specs.client.Submission.{submission, submitted, by_limits, is_flushed}
-use Rattle.jv_model.specs.journal.State.{State, with_client, set_client, given, transacted, newly_sustained, next_entry, gift_of, after_transaction, has_session, quieted, begun_quietly, flushing_on, cleaning_on, after_judging, looked, compaction_looked, missed, committed_stage, answer_then, replaced, after_told, answered_client, is_of_another, after_expiry, after_purge, after_cleaning, after_step, of_doing, changed, effect, view_now, is_compaction, is_last, sees_first, first_cleaning}
-use Rattle.jv_model.specs.journal.Reading.{asked_parts}
-use Rattle.jv_model.specs.journal.Steps.{Start, is_ready, cleaning_in, CleansItem, DropsFile, ForgetsSlice, OfOneBlock, OfBlocks, MayStep, MayAnswer, Fails, Decided, AtOnce, CountsCache, ReadsViews, CleanedUp, HasCompacted, HasCollected, HasUploaded, Refuses, TooShort, HasReplaced, may_be_quiet, items, has_judged, told_of}
-use Rattle.jv_model.specs.journal.Past.{Setup, Past, at_start, begun_to, reached}
-use Rattle.jv_model.specs.journal.Legal.{Allowed, AllAllowed, Refuses as RefusesSubmission, LacksMemory as RefusalLacks}
+use Rattle.jv_model.specs.promise.tree.Sessions.{due_session}
+use Rattle.jv_model.specs.promise.tree.Trash.{due_purge}
+use Rattle.jv_model.specs.promise.client.Pending.{without_range}
+use Rattle.jv_model.specs.promise.client.Origins.{Owed}
+use Rattle.jv_model.specs.promise.client.Profile.{profile, handle_of}
+use Rattle.jv_model.specs.promise.client.ModelClient.{ModelClient, View, Doing, Stage, Cleaning, CleaningPart, Sessions, Trash, Files, Slices, SliceAsked, OneBlock, BlockRemoved, Working, Reading, Missing, LookedAgain, Compacting, Cleans, Listed, Judged, Removing, Published, Replying, unmounted, with_stage, session_of, views_without}
+use Rattle.jv_model.specs.promise.client.Submission.{submission, submitted, by_limits, is_flushed}
+use Rattle.jv_model.specs.promise.journal.State.{State, with_client, set_client, given, transacted, newly_sustained, next_entry, gift_of, after_transaction, has_session, quieted, begun_quietly, flushing_on, cleaning_on, after_judging, looked, compaction_looked, missed, committed_stage, answer_then, replaced, after_told, answered_client, is_of_another, after_expiry, after_purge, after_cleaning, after_step, of_doing, changed, effect, view_now, is_compaction, is_last, sees_first, first_cleaning}
+use Rattle.jv_model.specs.promise.journal.Reading.{asked_parts}
+use Rattle.jv_model.specs.promise.journal.Steps.{Start, is_ready, cleaning_in, CleansItem, DropsFile, ForgetsSlice, OfOneBlock, OfBlocks, MayStep, MayAnswer, Fails, Decided, AtOnce, CountsCache, ReadsViews, CleanedUp, HasCompacted, HasCollected, HasUploaded, Refuses, TooShort, HasReplaced, may_be_quiet, items, has_judged, told_of}
+use Rattle.jv_model.specs.promise.journal.Past.{Setup, Past, at_start, begun_to, reached}
+use Rattle.jv_model.specs.promise.journal.Legal.{Allowed, AllAllowed, Refuses as RefusesSubmission, LacksMemory as RefusalLacks}
 use Rattle.jv_model.specs.journal.Looks.{entry_at}
 use Rattle.jv_model.specs.journal.Stepping.{is_answer}
 use Rattle.jv_model_laws.specs.Laws.{CleansWhatIsDue, MayEndCleaning, HadMost, HadFewer, FoundNoneDue, FoundNothing, NoSessionDue, NoHourDue, ends_operation}

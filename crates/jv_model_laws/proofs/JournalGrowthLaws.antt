@@ -11,11 +11,11 @@ use Rattle.jv_model.specs.declared.fault.Fault.{Fault}
 use Rattle.jv_model.specs.declared.op.Op.{Op}
 use Rattle.jv_model.specs.declared.op.Line.{Line}
 use Rattle.jv_model.specs.declared.op.Line.TheVariants.{Empty, Do, Begin, Step, Run, Crash, Drain, Tick}
-use Rattle.jv_model.specs.client.ModelClient.{Doing}
-use Rattle.jv_model.specs.client.Submission.{submission}
-use Rattle.jv_model.specs.journal.State.{State, after_step, of_doing, changed, effect}
-use Rattle.jv_model.specs.journal.Past.{Past, Due, at_start, begun, begun_by, begun_by_due, begun_to, begin_from, begin_next, after_line, is_busy, is_workers, lined, asks_clock, after, advance, past, reached, is_over}
-use Rattle.jv_model.specs.journal.Legal.{Allowed, AllAllowed, IsMoment, clock_moment, tick_of}
+use Rattle.jv_model.specs.promise.client.ModelClient.{Doing}
+use Rattle.jv_model.specs.promise.client.Submission.{submission}
+use Rattle.jv_model.specs.promise.journal.State.{State, after_step, of_doing, changed, effect}
+use Rattle.jv_model.specs.promise.journal.Past.{Past, Due, at_start, begun, begun_by, begun_by_due, begun_to, begin_from, begin_next, after_line, is_busy, is_workers, lined, asks_clock, after, advance, past, reached, is_over}
+use Rattle.jv_model.specs.promise.journal.Legal.{Allowed, AllAllowed, IsMoment, clock_moment, tick_of}
 use Rattle.jv_model_laws.specs.Laws.{JournalsGrow, EarlierTextStays, FollowsClock, Follows, OthersStay, EntriesAreCounted, text_to}
 pub use Rattle.jv_model.proofs.ClientsLaws.{own_client, other_client}
 

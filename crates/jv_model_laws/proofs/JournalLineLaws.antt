@@ -16,12 +16,12 @@ use Rattle.jv_model.specs.declared.fault.Fault.TheVariants.{NoMemory}
 use Rattle.jv_model.specs.declared.op.Op.{Op}
 use Rattle.jv_model.specs.declared.op.Line.{Line}
 use Rattle.jv_model.specs.declared.op.Line.TheVariants.{Empty, Do, Begin, Step, Run, Crash, Drain, Tick}
-use Rattle.jv_model.specs.client.ModelClient.{ModelClient, Doing}
-use Rattle.jv_model.specs.client.Submission.{submission}
-use Rattle.jv_model.specs.journal.State.{State}
-use Rattle.jv_model.specs.journal.Steps.{Start, MayStep, begins_step}
-use Rattle.jv_model.specs.journal.Past.{Setup, Past, Due, NoMore, Refusal, MayLack, ToAnswer, OneStep, StepMade, CrashEntry, TickEntry, DrainEntries, at_start, at_end, begun, begun_by, begun_by_due, begun_to, begin_from, begin_next, after_line, is_busy, is_over, is_workers, lined, requested, after, advance, past, reached}
-use Rattle.jv_model.specs.journal.Legal.{IsRefusal, Allowed, AllAllowed, Refuses, LacksMemory, IsPublish, Drains, Sends, Ends, Fails, OfClient, OfLine, OfWorker, may_be_cut, may_stop}
+use Rattle.jv_model.specs.promise.client.ModelClient.{ModelClient, Doing}
+use Rattle.jv_model.specs.promise.client.Submission.{submission}
+use Rattle.jv_model.specs.promise.journal.State.{State}
+use Rattle.jv_model.specs.promise.journal.Steps.{Start, MayStep, begins_step}
+use Rattle.jv_model.specs.promise.journal.Past.{Setup, Past, Due, NoMore, Refusal, MayLack, ToAnswer, OneStep, StepMade, CrashEntry, TickEntry, DrainEntries, at_start, at_end, begun, begun_by, begun_by_due, begun_to, begin_from, begin_next, after_line, is_busy, is_over, is_workers, lined, requested, after, advance, past, reached}
+use Rattle.jv_model.specs.promise.journal.Legal.{IsRefusal, Allowed, AllAllowed, Refuses, LacksMemory, IsPublish, Drains, Sends, Ends, Fails, OfClient, OfLine, OfWorker, may_be_cut, may_stop}
 use Rattle.jv_model.specs.journal.Stepping.{is_answer}
 use Rattle.jv_model.specs.Lists.{numbered}
 use Rattle.jv_model_laws.specs.Laws.{LinesHaveEntries, EndedLinesHaveEntries, RefusedLinesHaveOneEntry, FitsLine, EndsAnswered, IsOneStep, Idle, OneEntry, AndAnswer, kinds_on}

@@ -16,13 +16,13 @@ use Rattle.jv_model.specs.declared.fault.Gone.TheVariants.{Session, Node}
 use Rattle.jv_model.specs.declared.op.Op.{Op}
 use Rattle.jv_model.specs.declared.op.Op.TheVariants as op
 use Rattle.jv_model.specs.declared.profile.Does.{Does}
-use Rattle.jv_model.specs.tree.Tree.{Tree, Content, content_at}
-use Rattle.jv_model.specs.client.ModelClient.{ModelClient, OpenFile, View, Doing, Stage, Replying, unmounted, with_stage, views_without}
-use Rattle.jv_model.specs.client.Submission.{submission, submitted}
-use Rattle.jv_model.specs.journal.State.{State, transacted, newly_sustained, next_entry, gift_of, after_transaction, Gift, NewSession, NewHandle, Nothing, state_at_start, with_client, set_client, given, replied, finished, refused_as, after_told, answered_client, is_of_another, after_step, after_other, of_doing, changed, effect, view_now, or_empty, is_compaction}
-use Rattle.jv_model.specs.journal.Reading.{is_fresh}
-use Rattle.jv_model.specs.journal.Past.{Setup, Past, at_start, begun_to, reached}
-use Rattle.jv_model.specs.journal.Legal.{Allowed, AllAllowed}
+use Rattle.jv_model.specs.promise.tree.Tree.{Tree, Content, content_at}
+use Rattle.jv_model.specs.promise.client.ModelClient.{ModelClient, OpenFile, View, Doing, Stage, Replying, unmounted, with_stage, views_without}
+use Rattle.jv_model.specs.promise.client.Submission.{submission, submitted}
+use Rattle.jv_model.specs.promise.journal.State.{State, transacted, newly_sustained, next_entry, gift_of, after_transaction, Gift, NewSession, NewHandle, Nothing, state_at_start, with_client, set_client, given, replied, finished, refused_as, after_told, answered_client, is_of_another, after_step, after_other, of_doing, changed, effect, view_now, or_empty, is_compaction}
+use Rattle.jv_model.specs.promise.journal.Reading.{is_fresh}
+use Rattle.jv_model.specs.promise.journal.Past.{Setup, Past, at_start, begun_to, reached}
+use Rattle.jv_model.specs.promise.journal.Legal.{Allowed, AllAllowed}
 use Rattle.jv_model.specs.journal.Looks.{entry_at, changes_file}
 use Rattle.jv_model_laws.specs.Laws.{FreshViewsAreFreshLooks, HasSeen}
 use Rattle.jv_model_laws.proofs.JournalGrowthLaws.{own_client, others_kept}

@@ -10,13 +10,13 @@ use Rattle.jv_model.specs.declared.act.ActKind.TheVariants.{Commit, Settled, Qui
 use Rattle.jv_model.specs.declared.act.Told.TheVariants.{Fine}
 use Rattle.jv_model.specs.declared.fault.Fault.{Fault}
 use Rattle.jv_model.specs.declared.op.Op.{Op}
-use Rattle.jv_model.specs.client.ModelClient.{Doing}
-use Rattle.jv_model.specs.client.Origins.{Owed}
-use Rattle.jv_model.specs.client.Submission.{submission, submitted}
-use Rattle.jv_model.specs.journal.State.{State, state_at_start, set_client, after_step, after_other, of_doing, changed, effect}
-use Rattle.jv_model.specs.journal.Steps.{MayStep, is_failure, owes_none}
-use Rattle.jv_model.specs.journal.Past.{Setup, Past, DrainEntries, at_start, begun_to, is_workers, reached}
-use Rattle.jv_model.specs.journal.Legal.{Allowed, AllAllowed, OfLine, OfWorker, IsPublish, IsPublishOf, IsRefusal, Refuses, LacksMemory as RefusalLacks, Drains, Sends, Ends, Fails}
+use Rattle.jv_model.specs.promise.client.ModelClient.{Doing}
+use Rattle.jv_model.specs.promise.client.Origins.{Owed}
+use Rattle.jv_model.specs.promise.client.Submission.{submission, submitted}
+use Rattle.jv_model.specs.promise.journal.State.{State, state_at_start, set_client, after_step, after_other, of_doing, changed, effect}
+use Rattle.jv_model.specs.promise.journal.Steps.{MayStep, is_failure, owes_none}
+use Rattle.jv_model.specs.promise.journal.Past.{Setup, Past, DrainEntries, at_start, begun_to, is_workers, reached}
+use Rattle.jv_model.specs.promise.journal.Legal.{Allowed, AllAllowed, OfLine, OfWorker, IsPublish, IsPublishOf, IsRefusal, Refuses, LacksMemory as RefusalLacks, Drains, Sends, Ends, Fails}
 use Rattle.jv_model.specs.journal.Looks.{entry_at}
 use Rattle.jv_model_laws.specs.Laws.{IsOwed, OwedCommits, SettlesOwed, DrainsSettleAll, leaves_staged, settles}
 use Rattle.jv_model_laws.proofs.JournalGrowthLaws.{AllAllowed-parts}

@@ -19,17 +19,17 @@ use Rattle.jv_model.specs.declared.op.Reply.TheVariants as reply
 use Rattle.jv_model.specs.declared.profile.Answer.TheVariants as answer
 use Rattle.jv_model.specs.declared.profile.Does.{Does}
 use Rattle.jv_model.specs.declared.profile.Does.TheVariants.{Answers, Reads, Uploads}
-use Rattle.jv_model.specs.tree.Tree.{content_at}
-use Rattle.jv_model.specs.client.Profile.{profile, handle_of}
-use Rattle.jv_model.specs.client.ModelClient.{ModelClient, OpenFile, View, Doing, Stage, Replying, file_of, Cleans, Compacting, Judged, Removing}
-use Rattle.jv_model.specs.client.Submission.{by_limits, is_flushed}
-use Rattle.jv_model.specs.journal.State.{State, or_empty, answer_then, reply_of_answer, is_cleaning, is_collecting, is_compaction}
-use Rattle.jv_model.specs.journal.Reading.{Asked, asked_parts, bytes_between, is_fresh, cited_view, part_read, is_full, joined, read_on, reading}
-use Rattle.jv_model.specs.journal.Steps.{Start, MayStep, MayAnswer, Fails, Decided, AtOnce, CountsCache, ReadsViews, CleanedUp, HasCompacted, HasCollected, HasUploaded, Refuses, TooShort, HasReplaced, Sent, FoundNone, asked_of, file_in_use, may_read_on, is_ready, ReadsFresh, told_of, has_judged}
-use Rattle.jv_model.specs.journal.Past.{Setup, Past, at_start, begun_to, reached, reply_of, decided_reply, told_reply}
-use Rattle.jv_model.specs.journal.Legal.{Refuses as RefusesSubmission, LacksMemory as RefusalLacks}
+use Rattle.jv_model.specs.promise.tree.Tree.{content_at}
+use Rattle.jv_model.specs.promise.client.Profile.{profile, handle_of}
+use Rattle.jv_model.specs.promise.client.ModelClient.{ModelClient, OpenFile, View, Doing, Stage, Replying, file_of, Cleans, Compacting, Judged, Removing}
+use Rattle.jv_model.specs.promise.client.Submission.{by_limits, is_flushed}
+use Rattle.jv_model.specs.promise.journal.State.{State, or_empty, answer_then, reply_of_answer, is_cleaning, is_collecting, is_compaction}
+use Rattle.jv_model.specs.promise.journal.Reading.{Asked, asked_parts, bytes_between, is_fresh, cited_view, part_read, is_full, joined, read_on, reading}
+use Rattle.jv_model.specs.promise.journal.Steps.{Start, MayStep, MayAnswer, Fails, Decided, AtOnce, CountsCache, ReadsViews, CleanedUp, HasCompacted, HasCollected, HasUploaded, Refuses, TooShort, HasReplaced, Sent, FoundNone, asked_of, file_in_use, may_read_on, is_ready, ReadsFresh, told_of, has_judged}
+use Rattle.jv_model.specs.promise.journal.Past.{Setup, Past, at_start, begun_to, reached, reply_of, decided_reply, told_reply}
+use Rattle.jv_model.specs.promise.journal.Legal.{Refuses as RefusesSubmission, LacksMemory as RefusalLacks}
 use Rattle.jv_model.specs.journal.Looks.{IsFreshLook}
-use Rattle.jv_model.specs.Optional.{provided}
+use Rattle.jv_model.specs.promise.Optional.{provided}
 use Rattle.jv_model_laws.specs.Laws.{ReadsAreOfFreshLooks, AreSeen, AreRead, NoPart, OnePart, TwoParts, Returns, ReadsCiteLooks, CitesLooks, is_fine_answer}
 use Rattle.jv_model_laws.proofs.JournalStageLaws.{stage_fits, FitsIf, FitsClient, all_fit}
 use Rattle.jv_model_laws.proofs.JournalGrowthLaws.{AllAllowed-parts}

@@ -16,16 +16,16 @@ use Rattle.jv_model.specs.declared.op.Reply.TheVariants as reply
 use Rattle.jv_model.specs.declared.profile.Answer.TheVariants as answer
 use Rattle.jv_model.specs.declared.profile.Does.{Does}
 use Rattle.jv_model.specs.declared.profile.Does.TheVariants.{Answers, Mounts, Transacts, Releases, Reads, Truncates, Copies, Compacts, Cleans as DoesClean, Collects, Uploads}
-use Rattle.jv_model.specs.client.Pending.{without_range}
-use Rattle.jv_model.specs.client.Origins.{Owed}
-use Rattle.jv_model.specs.client.Profile.{profile, handle_of}
-use Rattle.jv_model.specs.client.ModelClient.{ModelClient, OpenFile, View, Doing, Stage, Cleaning, Files, Working, Reading, Missing, LookedAgain, Compacting, Cleans, Listed, Judged, Removing, Published, Replying, unmounted, with_stage, views_without, Sessions}
-use Rattle.jv_model.specs.client.Submission.{submission, submitted, by_limits, is_flushed}
-use Rattle.jv_model.specs.journal.State.{removes_block, after_judging, is_collecting, State, with_client, set_client, given, replied, transacted, newly_sustained, next_entry, gift_of, after_transaction, has_session, quieted, begun_quietly, flushing_on, looked, compaction_looked, missed, committed_stage, answer_then, replaced, after_told, answered_client, is_of_another, after_step, of_doing, changed, effect, view_now, is_compaction, is_cleaning, sees_first, first_cleaning}
-use Rattle.jv_model.specs.journal.Reading.{Asked, asked_parts}
-use Rattle.jv_model.specs.journal.Steps.{Start, asked_of, file_in_use, window_to_look, part_in_use, LooksAt, CompactionLooks, CompactionMisses, MissesBlock, cleaning_in, CleansItem, DropsFile, ForgetsSlice, OfOneBlock, OfBlocks, MayStep}
-use Rattle.jv_model.specs.journal.Past.{Setup, Past, at_start, begun_to, reached}
-use Rattle.jv_model.specs.journal.Legal.{Allowed, AllAllowed, Refuses as RefusesSubmission, LacksMemory as RefusalLacks}
+use Rattle.jv_model.specs.promise.client.Pending.{without_range}
+use Rattle.jv_model.specs.promise.client.Origins.{Owed}
+use Rattle.jv_model.specs.promise.client.Profile.{profile, handle_of}
+use Rattle.jv_model.specs.promise.client.ModelClient.{ModelClient, OpenFile, View, Doing, Stage, Cleaning, Files, Working, Reading, Missing, LookedAgain, Compacting, Cleans, Listed, Judged, Removing, Published, Replying, unmounted, with_stage, views_without, Sessions}
+use Rattle.jv_model.specs.promise.client.Submission.{submission, submitted, by_limits, is_flushed}
+use Rattle.jv_model.specs.promise.journal.State.{removes_block, after_judging, is_collecting, State, with_client, set_client, given, replied, transacted, newly_sustained, next_entry, gift_of, after_transaction, has_session, quieted, begun_quietly, flushing_on, looked, compaction_looked, missed, committed_stage, answer_then, replaced, after_told, answered_client, is_of_another, after_step, of_doing, changed, effect, view_now, is_compaction, is_cleaning, sees_first, first_cleaning}
+use Rattle.jv_model.specs.promise.journal.Reading.{Asked, asked_parts}
+use Rattle.jv_model.specs.promise.journal.Steps.{Start, asked_of, file_in_use, window_to_look, part_in_use, LooksAt, CompactionLooks, CompactionMisses, MissesBlock, cleaning_in, CleansItem, DropsFile, ForgetsSlice, OfOneBlock, OfBlocks, MayStep}
+use Rattle.jv_model.specs.promise.journal.Past.{Setup, Past, at_start, begun_to, reached}
+use Rattle.jv_model.specs.promise.journal.Legal.{Allowed, AllAllowed, Refuses as RefusesSubmission, LacksMemory as RefusalLacks}
 use Rattle.jv_model_laws.specs.Laws.{CleansOnlyInClean, cleans}
 use Rattle.jv_model_laws.proofs.JournalGrowthLaws.{AllAllowed-parts, own_client, others_kept}
 use Rattle.jv_model_laws.proofs.JournalDoingLaws.{doing_given, Sound, SoundIf, sound, cleaning_branch}

@@ -13,13 +13,13 @@ use Rattle.jv_model.specs.declared.fault.Fault.TheVariants.{NoMemory}
 use Rattle.jv_model.specs.declared.op.Op.{Op}
 use Rattle.jv_model.specs.declared.op.Line.{Line}
 use Rattle.jv_model.specs.declared.op.Line.TheVariants.{Empty, Do, Begin, Step, Run, Crash, Drain, Tick}
-use Rattle.jv_model.specs.client.Origins.{Owed}
-use Rattle.jv_model.specs.client.ModelClient.{Doing}
-use Rattle.jv_model.specs.client.Submission.{submission, submitted}
-use Rattle.jv_model.specs.journal.State.{State, state_at_start, set_client, effect}
-use Rattle.jv_model.specs.journal.Steps.{MayStep, IsEntry}
-use Rattle.jv_model.specs.journal.Past.{Setup, Past, Due, NoMore, Refusal, MayLack, ToAnswer, OneStep, StepMade, CrashEntry, TickEntry, DrainEntries, at_start, begun, begun_by, begun_by_due, begun_to, begin_from, begin_next, after_line, is_busy, is_workers, advance, past, reached}
-use Rattle.jv_model.specs.journal.Legal.{Allowed, AllAllowed, IsRefusal, IsPublish, IsPublishOf, Drains, OfClient, OfLine, OfWorker}
+use Rattle.jv_model.specs.promise.client.Origins.{Owed}
+use Rattle.jv_model.specs.promise.client.ModelClient.{Doing}
+use Rattle.jv_model.specs.promise.client.Submission.{submission, submitted}
+use Rattle.jv_model.specs.promise.journal.State.{State, state_at_start, set_client, effect}
+use Rattle.jv_model.specs.promise.journal.Steps.{MayStep, IsEntry}
+use Rattle.jv_model.specs.promise.journal.Past.{Setup, Past, Due, NoMore, Refusal, MayLack, ToAnswer, OneStep, StepMade, CrashEntry, TickEntry, DrainEntries, at_start, begun, begun_by, begun_by_due, begun_to, begin_from, begin_next, after_line, is_busy, is_workers, advance, past, reached}
+use Rattle.jv_model.specs.promise.journal.Legal.{Allowed, AllAllowed, IsRefusal, IsPublish, IsPublishOf, Drains, OfClient, OfLine, OfWorker}
 use Rattle.jv_model.specs.journal.Looks.{entry_at}
 use Rattle.jv_model_laws.proofs.JournalGrowthLaws.{past-append, advanced, begun_frame, after_line_begin_next}
 use Rattle.jv_model.proofs.ListLaws.{get_front, get_end}

@@ -8,13 +8,13 @@ use Rattle.jv_model.specs.declared.basics.Limits.{Limits}
 use Rattle.jv_model.specs.declared.op.Op.TheVariants as op
 use Rattle.jv_model.specs.declared.op.Reply.{Reply}
 use Rattle.jv_model.specs.declared.profile.Does.TheVariants.{Uploads}
-use Rattle.jv_model.specs.client.Profile.{profile}
-use Rattle.jv_model.specs.client.ModelClient.{ModelClient, Doing, Stage, Compacting, Cleans, Judged, Removing}
-use Rattle.jv_model.specs.client.Submission.{by_limits, is_flushed}
-use Rattle.jv_model.specs.journal.State.{State}
-use Rattle.jv_model.specs.journal.Steps.{Start, MayStep, MayAnswer, Fails, Decided, AtOnce, CountsCache, ReadsViews, CleanedUp, HasCompacted, HasCollected, HasUploaded, Refuses, TooShort, HasReplaced, EndsUpload, Sent, FoundNone, has_judged, owes_none, told_of}
-use Rattle.jv_model.specs.journal.Past.{Setup, Past, at_start, begun_to, reached}
-use Rattle.jv_model.specs.journal.Legal.{Refuses as RefusesSubmission, LacksMemory as RefusalLacks}
+use Rattle.jv_model.specs.promise.client.Profile.{profile}
+use Rattle.jv_model.specs.promise.client.ModelClient.{ModelClient, Doing, Stage, Compacting, Cleans, Judged, Removing}
+use Rattle.jv_model.specs.promise.client.Submission.{by_limits, is_flushed}
+use Rattle.jv_model.specs.promise.journal.State.{State}
+use Rattle.jv_model.specs.promise.journal.Steps.{Start, MayStep, MayAnswer, Fails, Decided, AtOnce, CountsCache, ReadsViews, CleanedUp, HasCompacted, HasCollected, HasUploaded, Refuses, TooShort, HasReplaced, EndsUpload, Sent, FoundNone, has_judged, owes_none, told_of}
+use Rattle.jv_model.specs.promise.journal.Past.{Setup, Past, at_start, begun_to, reached}
+use Rattle.jv_model.specs.promise.journal.Legal.{Refuses as RefusesSubmission, LacksMemory as RefusalLacks}
 use Rattle.jv_model_laws.specs.Laws.{UploadsFindAll}
 use Rattle.jv_model_laws.proofs.JournalGrowthLaws.{AllAllowed-parts, begun_frame}
 use Rattle.jv_model_laws.proofs.JournalStateLaws.{Entry, Steps, RefusedSubmission, LacksMemory, Crashes, Publishes, OfDrain, Ticks, entry_of, run_reached}

@@ -2,11 +2,12 @@
 use Rattle.std.proofs.Common.{◌≡◌, ℕ, ◌+◌, ◌≤◌, Bool, true, false, if◌then◌else◌, MatchBool, List, [], ◌∷◌, ◌++◌, refl, sym, ap, subst, ◌∙◌, arith}
 use Rattle.jv_model.specs.declared.limits.TheConstants.{LAST_MOMENT}
 use Rattle.jv_model.specs.declared.act.Act.{Act}
-use Rattle.jv_model.specs.journal.State.{effect}
-use Rattle.jv_model.specs.journal.Past.{Setup, Past, Due, is_workers, lined, asks_clock, after, past}
-use Rattle.jv_model.specs.journal.Legal.{Allowed, AllAllowed, IsMoment, OfLine, OfWorker, tick_of}
+use Rattle.jv_model.specs.promise.journal.State.{effect}
+use Rattle.jv_model.specs.promise.journal.Past.{Setup, Past, Due, is_workers, lined, asks_clock, after, past}
+use Rattle.jv_model.specs.promise.journal.Legal.{Allowed, AllAllowed, IsMoment, OfLine, OfWorker, tick_of}
 use Rattle.jv_model_laws.proofs.JournalGrowthLaws.{begun_to-begun, advance-present, past-append, AllAllowed-append}
-use Rattle.jv_model_laws.specs.OnLines.{IsAlone, IsNow, Leads, SameLine}
+use Rattle.jv_model_laws.specs.OnLines.{IsAlone, Leads, SameLine}
+use Rattle.jv_model.specs.promise.journal.Legal.{IsNow}
 
 pub leads_none : (q : Past) → Leads q [] q
 leads_none q = record { allowed = tt; reaches = refl }

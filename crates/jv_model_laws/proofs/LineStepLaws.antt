@@ -7,16 +7,17 @@ use Rattle.jv_model.specs.declared.act.Told.{Told}
 use Rattle.jv_model.specs.declared.op.Reply.{Reply}
 use Rattle.jv_model.specs.declared.op.Step.{Step}
 use Rattle.jv_model.specs.declared.op.Step.TheVariants.{More, Done, Broken}
-use Rattle.jv_model.specs.client.ModelClient.{ModelClient, Doing}
-use Rattle.jv_model.specs.journal.State.{State, of_doing, changed, effect}
-use Rattle.jv_model.specs.journal.Steps.{Start, IsEntry}
-use Rattle.jv_model.specs.journal.Past.{Past, Due, NoMore, ToAnswer, OneStep, lined, line_reply, reply_of, refusal_reply, requested, asks_clock, begins_in, ends_in_step, says_more}
-use Rattle.jv_model.specs.journal.Legal.{Allowed, OfLine, is_behind_worker, tick_of}
+use Rattle.jv_model.specs.promise.client.ModelClient.{ModelClient, Doing}
+use Rattle.jv_model.specs.promise.journal.State.{State, of_doing, changed, effect}
+use Rattle.jv_model.specs.promise.journal.Steps.{Start, IsEntry}
+use Rattle.jv_model.specs.promise.journal.Past.{Past, Due, NoMore, ToAnswer, OneStep, lined, line_reply, reply_of, refusal_reply, requested, asks_clock, begins_in, ends_in_step, says_more}
+use Rattle.jv_model.specs.promise.journal.Legal.{Allowed, OfLine, is_behind_worker, tick_of}
 use Rattle.jv_model.specs.journal.Stepping.{entry_of, stepped, stepped_by, is_answer, answer_of, AllowsStep, GoesOn, AnswersAlone, AnswersAfter}
-use Rattle.jv_model.specs.script.ReplyText.{printed_line}
+use Rattle.jv_model.specs.promise.script.ReplyText.{printed_line}
 use Rattle.jv_model_laws.proofs.JournalGrowthLaws.{others_kept}
 use Rattle.jv_model_laws.proofs.JournalLineLaws.{is_aside, not_aside}
-use Rattle.jv_model_laws.specs.OnLines.{IsAlone, IsNow, Leads, SameLine}
+use Rattle.jv_model_laws.specs.OnLines.{IsAlone, Leads, SameLine}
+use Rattle.jv_model.specs.promise.journal.Legal.{IsNow}
 use Rattle.jv_model_laws.proofs.LineEntryLaws.{leads_more, moment_asked, moment_kept, stands_on, entered, after_asking, after_kept, leads_one}
 
 -- what an entry does, on any line

@@ -9,16 +9,17 @@ use Rattle.jv_model.specs.declared.fault.Fault.{Fault}
 use Rattle.jv_model.specs.declared.fault.Fault.TheVariants.{InProgress}
 use Rattle.jv_model.specs.declared.op.Op.{Op}
 use Rattle.jv_model.specs.declared.op.Reply.TheVariants.{Refused}
-use Rattle.jv_model.specs.client.ModelClient.{ModelClient, Doing, Stage, Working, Reading, Missing, LookedAgain, Compacting, Cleans, Listed, Judged, Removing, Published, Replying, unmounted}
-use Rattle.jv_model.specs.client.Submission.{submission}
-use Rattle.jv_model.specs.journal.State.{State, answered_client, with_client, is_of_another, of_doing, effect}
-use Rattle.jv_model.specs.journal.Steps.{must_answer}
-use Rattle.jv_model.specs.journal.Past.{Past, Due, Refusal, CrashEntry, TickEntry, asks_clock, ends_in_step, line_reply}
-use Rattle.jv_model.specs.journal.Legal.{OfLine, Refuses, tick_of}
+use Rattle.jv_model.specs.promise.client.ModelClient.{ModelClient, Doing, Stage, Working, Reading, Missing, LookedAgain, Compacting, Cleans, Listed, Judged, Removing, Published, Replying, unmounted}
+use Rattle.jv_model.specs.promise.client.Submission.{submission}
+use Rattle.jv_model.specs.promise.journal.State.{State, answered_client, with_client, is_of_another, of_doing, effect}
+use Rattle.jv_model.specs.promise.journal.Steps.{must_answer}
+use Rattle.jv_model.specs.promise.journal.Past.{Past, Due, Refusal, CrashEntry, TickEntry, asks_clock, ends_in_step, line_reply}
+use Rattle.jv_model.specs.promise.journal.Legal.{OfLine, Refuses, tick_of}
 use Rattle.jv_model.specs.journal.Stepping.{entry_of}
-use Rattle.jv_model.specs.script.ReplyText.{printed_line, with_feed}
+use Rattle.jv_model.specs.promise.script.ReplyText.{printed_line, with_feed}
 use Rattle.jv_model_laws.proofs.JournalGrowthLaws.{own_client, other_client}
-use Rattle.jv_model_laws.specs.OnLines.{IsAlone, IsNow, Leads, SameLine}
+use Rattle.jv_model_laws.specs.OnLines.{IsAlone, Leads, SameLine}
+use Rattle.jv_model.specs.promise.journal.Legal.{IsNow}
 use Rattle.jv_model_laws.proofs.LineEntryLaws.{moment_asked, stands_on, entered, after_asking, leads_one}
 use Rattle.jv_model_laws.proofs.LineStepLaws.{IsDone}
 

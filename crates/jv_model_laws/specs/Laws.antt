@@ -6,25 +6,25 @@ use Rattle.jv_model.specs.declared.limits.TheConstants.{LAST_MOMENT, MAX_ITEMS}
 use Rattle.jv_model.specs.declared.act.Act.{Act}
 use Rattle.jv_model.specs.declared.act.ActKind.{ActKind}
 use Rattle.jv_model.specs.declared.act.ActKind.TheVariants.{Mounted, Meta, Opened, Commit, Settled, Expired, Purged, Cleaned, Quiet, Crashed, Ticked, Answered}
-use Rattle.jv_model.specs.tree.Tree.{Tree, content_at, node_at}
-use Rattle.jv_model.specs.FiniteMap.{get}
-use Rattle.jv_model.specs.tree.Trash.{due_purge}
-use Rattle.jv_model.specs.tree.Sessions.{due_session}
+use Rattle.jv_model.specs.promise.tree.Tree.{Tree, content_at, node_at}
+use Rattle.jv_model.specs.promise.FiniteMap.{get}
+use Rattle.jv_model.specs.promise.tree.Trash.{due_purge}
+use Rattle.jv_model.specs.promise.tree.Sessions.{due_session}
 use Rattle.jv_model.specs.declared.act.TheConstants.{NO_CLIENT}
 use Rattle.jv_model.specs.declared.act.Told.TheVariants.{Fine, Looks, Refused as ToldRefused}
 use Rattle.jv_model.specs.declared.fault.Fault.TheVariants.{Stale, NoMemory, InProgress}
 use Rattle.jv_model.specs.declared.fault.Gone.TheVariants.{Session, Node}
 use Rattle.jv_model.specs.declared.op.Op.{Op}
 use Rattle.jv_model.specs.declared.op.Op.TheVariants as op
-use Rattle.jv_model.specs.client.Pending.{pending_of}
-use Rattle.jv_model.specs.client.ModelClient.{ModelClient, OpenFile, View, Doing, Stage, Cleaning, Cleans, file_of, inode_at, session_of}
-use Rattle.jv_model.specs.journal.State.{State, effect, or_empty, transacted}
-use Rattle.jv_model.specs.journal.Steps.{told_of, items, is_owed_by}
+use Rattle.jv_model.specs.promise.client.Pending.{pending_of}
+use Rattle.jv_model.specs.promise.client.ModelClient.{ModelClient, OpenFile, View, Doing, Stage, Cleaning, Cleans, file_of, inode_at, session_of}
+use Rattle.jv_model.specs.promise.journal.State.{State, effect, or_empty, transacted}
+use Rattle.jv_model.specs.promise.journal.Steps.{told_of, items, is_owed_by}
 use Rattle.jv_model.specs.declared.op.Reply.{Reply}
-use Rattle.jv_model.specs.journal.Reading.{Asked, asked_parts, bytes_between, fresh_view, is_full}
+use Rattle.jv_model.specs.promise.journal.Reading.{Asked, asked_parts, bytes_between, fresh_view, is_full}
 use Rattle.jv_model.specs.declared.op.Reply.TheVariants.{Data}
-use Rattle.jv_model.specs.journal.Past.{Setup, Past, Refusal, at_start, begun_to, reached, line_reply, reply_of, DrainEntries, asks_clock}
-use Rattle.jv_model.specs.journal.Legal.{AllAllowed, Legal, may_be_cut, clock_moment, tick_of}
+use Rattle.jv_model.specs.promise.journal.Past.{Setup, Past, Refusal, at_start, begun_to, reached, line_reply, reply_of, DrainEntries, asks_clock}
+use Rattle.jv_model.specs.promise.journal.Legal.{AllAllowed, Legal, may_be_cut, clock_moment, tick_of}
 use Rattle.jv_model.specs.declared.act.Told.{Told}
 use Rattle.jv_model.specs.declared.fault.Fault.{Fault}
 use Rattle.jv_model.specs.declared.op.Line.{Line}

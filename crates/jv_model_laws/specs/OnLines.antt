@@ -1,9 +1,9 @@
 -- Entries of the line that is present, where no uploading thread makes one.
 use Rattle.std.specs.Prelude.{◌≡◌, ℕ, false, List}
 use Rattle.jv_model.specs.declared.act.Act.{Act}
-use Rattle.jv_model.specs.journal.Past.{Past, past}
-use Rattle.jv_model.specs.journal.Legal.{AllAllowed}
-pub use Rattle.jv_model.specs.journal.Legal.{IsNow}
+use Rattle.jv_model.specs.promise.journal.Past.{Past, past}
+use Rattle.jv_model.specs.promise.journal.Legal.{AllAllowed}
+pub use Rattle.jv_model.specs.promise.journal.Legal.{IsNow}
 
 -- no uploading thread makes an entry
 abbrev pub IsAlone : Past → Type 0

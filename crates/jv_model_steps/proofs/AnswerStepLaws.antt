@@ -13,15 +13,15 @@ use Rattle.jv_model.specs.declared.op.Reply.TheVariants as reply
 use Rattle.jv_model.specs.declared.op.Step.TheVariants.{Done}
 use Rattle.jv_model.specs.declared.profile.Answer.TheVariants as answer
 use Rattle.jv_model.specs.declared.profile.Does.TheVariants.{Answers, Releases}
-use Rattle.jv_model.specs.client.ModelClient.{ModelClient, OpenFile, Doing, Working, inode_at, is_last_of_removed}
-use Rattle.jv_model.specs.client.ModelClient.{with_file}
-use Rattle.jv_model.specs.client.Pending.{written}
-use Rattle.jv_model.specs.client.Profile.{handle_of}
-use Rattle.jv_model.specs.client.Submission.{is_flushed}
-use Rattle.jv_model.specs.journal.State.{State, after_told, answer_then, is_of_another}
-use Rattle.jv_model.specs.journal.Steps.{Start, AtOnce, CountsCache, MayAnswer, file_in_use, is_failure, told_of}
-use Rattle.jv_model.specs.journal.Past.{reply_of, told_reply}
-use Rattle.jv_model.specs.journal.Reading.{reading}
+use Rattle.jv_model.specs.promise.client.ModelClient.{ModelClient, OpenFile, Doing, Working, inode_at, is_last_of_removed}
+use Rattle.jv_model.specs.promise.client.ModelClient.{with_file}
+use Rattle.jv_model.specs.promise.client.Pending.{written}
+use Rattle.jv_model.specs.promise.client.Profile.{handle_of}
+use Rattle.jv_model.specs.promise.client.Submission.{is_flushed}
+use Rattle.jv_model.specs.promise.journal.State.{State, after_told, answer_then, is_of_another}
+use Rattle.jv_model.specs.promise.journal.Steps.{Start, AtOnce, CountsCache, MayAnswer, file_in_use, is_failure, told_of}
+use Rattle.jv_model.specs.promise.journal.Past.{reply_of, told_reply}
+use Rattle.jv_model.specs.promise.journal.Reading.{reading}
 use Rattle.jv_model_steps.specs.IsStep.{IsStep}
 use Rattle.jv_model_steps.proofs.ReadyLaws.{ready-at}
 use Rattle.jv_model_steps.proofs.StepFormLaws.{step-alone}

@@ -12,15 +12,15 @@ use Rattle.jv_model.specs.declared.op.Reply.{Reply}
 use Rattle.jv_model.specs.declared.op.Reply.TheVariants as reply
 use Rattle.jv_model.specs.declared.op.Step.TheVariants.{Done}
 use Rattle.jv_model.specs.declared.profile.Does.TheVariants.{Truncates, Copies}
-use Rattle.jv_model.specs.tree.Tree.{Tree}
-use Rattle.jv_model.specs.tree.Caller.{Caller, Outcome, outcome}
-use Rattle.jv_model.specs.tree.TreeAct.{tree_act}
-use Rattle.jv_model.specs.tree.FileBytes.{truncate, truncated, copy, copied}
-use Rattle.jv_model.specs.client.ModelClient.{ModelClient, Doing, Working, Replying, inode_at}
-use Rattle.jv_model.specs.client.Profile.{handle_of}
-use Rattle.jv_model.specs.client.Submission.{is_flushed}
-use Rattle.jv_model.specs.journal.State.{State, after_told, caller, is_refused, refusal_in, transacted, without_views}
-use Rattle.jv_model.specs.journal.Steps.{Start, Decided, change_entry, is_crowded}
+use Rattle.jv_model.specs.promise.tree.Tree.{Tree}
+use Rattle.jv_model.specs.promise.tree.Caller.{Caller, Outcome, outcome}
+use Rattle.jv_model.specs.promise.tree.TreeAct.{tree_act}
+use Rattle.jv_model.specs.promise.tree.FileBytes.{truncate, truncated, copy, copied}
+use Rattle.jv_model.specs.promise.client.ModelClient.{ModelClient, Doing, Working, Replying, inode_at}
+use Rattle.jv_model.specs.promise.client.Profile.{handle_of}
+use Rattle.jv_model.specs.promise.client.Submission.{is_flushed}
+use Rattle.jv_model.specs.promise.journal.State.{State, after_told, caller, is_refused, refusal_in, transacted, without_views}
+use Rattle.jv_model.specs.promise.journal.Steps.{Start, Decided, change_entry, is_crowded}
 use Rattle.jv_model_steps.specs.IsStep.{IsStep, at_stage}
 use Rattle.jv_model_steps.specs.Stages.{changes_files}
 use Rattle.jv_model_steps.proofs.ReadyLaws.{ready-at, quiet-changes, quieted-changes}

@@ -15,15 +15,15 @@ use Rattle.jv_model.specs.declared.op.Step.TheVariants.{More, Done}
 use Rattle.jv_model.specs.declared.profile.Answer.TheVariants as answer
 use Rattle.jv_model.specs.declared.profile.Does.{Does}
 use Rattle.jv_model.specs.declared.profile.Does.TheVariants.{Answers, Releases}
-use Rattle.jv_model.specs.tree.Tree.{Tree, fits, node_at}
-use Rattle.jv_model.specs.tree.FileBytes.{committed}
-use Rattle.jv_model.specs.client.Pending.{Segment, bytes_in_range, without_range}
-use Rattle.jv_model.specs.client.Profile.{handle_of}
-use Rattle.jv_model.specs.client.Submission.{next_segment}
-use Rattle.jv_model.specs.client.ModelClient.{ModelClient, Doing, Stage, Working, Replying, is_last_of_removed}
-use Rattle.jv_model.specs.journal.State.{State, after_told, answer_then, committed_stage, finished, has_session}
-use Rattle.jv_model.specs.journal.State.{with_client, without_committed}
-use Rattle.jv_model.specs.journal.Steps.{Start, Commits, Decided, is_failure, told_of}
+use Rattle.jv_model.specs.promise.tree.Tree.{Tree, fits, node_at}
+use Rattle.jv_model.specs.promise.tree.FileBytes.{committed}
+use Rattle.jv_model.specs.promise.client.Pending.{Segment, bytes_in_range, without_range}
+use Rattle.jv_model.specs.promise.client.Profile.{handle_of}
+use Rattle.jv_model.specs.promise.client.Submission.{next_segment}
+use Rattle.jv_model.specs.promise.client.ModelClient.{ModelClient, Doing, Stage, Working, Replying, is_last_of_removed}
+use Rattle.jv_model.specs.promise.journal.State.{State, after_told, answer_then, committed_stage, finished, has_session}
+use Rattle.jv_model.specs.promise.journal.State.{with_client, without_committed}
+use Rattle.jv_model.specs.promise.journal.Steps.{Start, Commits, Decided, is_failure, told_of}
 use Rattle.jv_model_steps.specs.Leaves.{Leaves}
 use Rattle.jv_model_steps.specs.IsStep.{IsStep, at_stage}
 use Rattle.jv_model_steps.proofs.StepFormLaws.{leaves-one, requested, step-answered, step-on, with_stage-doing}

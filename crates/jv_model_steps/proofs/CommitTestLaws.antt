@@ -9,16 +9,17 @@ use Rattle.jv_model.specs.declared.fault.Fault.{Fault}
 use Rattle.jv_model.specs.declared.fault.Fault.TheVariants.{NoSpace, Stale, TimedOut}
 use Rattle.jv_model.specs.declared.fault.Gone.TheVariants.{Session, Node as GoneNode}
 use Rattle.jv_model.specs.declared.op.Reply.TheVariants.{Done}
-use Rattle.jv_model.specs.FiniteMap.{get}
-use Rattle.jv_model.specs.tree.Attempt.{◌>>=◌, require, some_or}
-use Rattle.jv_model.specs.tree.Caller.{Outcome, done}
-use Rattle.jv_model.specs.tree.Tree.{Tree, Content, Node, content_at, content_in, fits, node_at}
-use Rattle.jv_model.specs.tree.FileBytes.{commit_of, committed}
-use Rattle.jv_model.specs.client.Pending.{Segment, bytes_in_range}
-use Rattle.jv_model.specs.client.Submission.{next_segment}
-use Rattle.jv_model.specs.client.ModelClient.{ModelClient, Doing, Working, session_of}
-use Rattle.jv_model.specs.journal.State.{State, has_session}
-use Rattle.jv_model.specs.journal.Steps.{Start, Commits, is_crowded}
+use Rattle.jv_model.specs.promise.FiniteMap.{get}
+use Rattle.jv_model.specs.promise.tree.Attempt.{◌>>=◌, require, some_or}
+use Rattle.jv_model.specs.promise.tree.Caller.{Outcome, done}
+use Rattle.jv_model.specs.promise.tree.Tree.{Tree, Content, Node, content_at, content_in, fits, node_at}
+use Rattle.jv_model.specs.tree.FileBytes.{commit_of}
+use Rattle.jv_model.specs.promise.tree.FileBytes.{committed}
+use Rattle.jv_model.specs.promise.client.Pending.{Segment, bytes_in_range}
+use Rattle.jv_model.specs.promise.client.Submission.{next_segment}
+use Rattle.jv_model.specs.promise.client.ModelClient.{ModelClient, Doing, Working, session_of}
+use Rattle.jv_model.specs.promise.journal.State.{State, has_session}
+use Rattle.jv_model.specs.promise.journal.Steps.{Start, Commits, is_crowded}
 use Rattle.jv_model_steps.specs.RefusesCommit.{RefusesCommit, Late, NoFile, NoRoom, NoSession}
 use Rattle.jv_model_steps.proofs.CommitStepLaws.{commits-may}
 use Rattle.jv_model_steps.proofs.SessionLaws.{has_session-mounted}

@@ -5,11 +5,11 @@ use Rattle.jv_model.specs.declared.act.Told.{Told}
 use Rattle.jv_model.specs.declared.act.Told.TheVariants.{Fine, Looks, Refused as ToldRefused}
 use Rattle.jv_model.specs.declared.op.Op.{Op}
 use Rattle.jv_model.specs.declared.op.Reply.TheVariants as reply
-use Rattle.jv_model.specs.tree.FileBytes.{truncated, copied}
-use Rattle.jv_model.specs.client.ModelClient.{ModelClient, Doing, Stage, Replying, with_stage}
-use Rattle.jv_model.specs.journal.State.{State, after_quiet, after_look, after_truncation, after_copy, after_told}
-use Rattle.jv_model.specs.journal.State.{quieted, view_now, looked, compaction_looked}
-use Rattle.jv_model.specs.journal.State.{is_compaction, with_client, with_look, without_views}
+use Rattle.jv_model.specs.promise.tree.FileBytes.{truncated, copied}
+use Rattle.jv_model.specs.promise.client.ModelClient.{ModelClient, Doing, Stage, Replying, with_stage}
+use Rattle.jv_model.specs.promise.journal.State.{State, after_quiet, after_look, after_truncation, after_copy, after_told}
+use Rattle.jv_model.specs.promise.journal.State.{quieted, view_now, looked, compaction_looked}
+use Rattle.jv_model.specs.promise.journal.State.{is_compaction, with_client, with_look, without_views}
 use Rattle.jv_model_steps.specs.Leaves.{Leaves}
 use Rattle.jv_model_steps.specs.IsStep.{at_stage}
 use Rattle.jv_model_steps.proofs.CommitStepLaws.{finished-doing}

@@ -11,14 +11,14 @@ use Rattle.jv_model.specs.declared.fault.Fault.TheVariants.{NoSpace, Stale}
 use Rattle.jv_model.specs.declared.fault.Gone.TheVariants.{Session, Node}
 use Rattle.jv_model.specs.declared.op.Reply.TheVariants.{Refused}
 use Rattle.jv_model.specs.declared.op.Step.TheVariants.{More, Done}
-use Rattle.jv_model.specs.client.Pending.{Segment}
-use Rattle.jv_model.specs.client.Submission.{next_segment}
-use Rattle.jv_model.specs.client.ModelClient.{ModelClient, Doing, Stage, Working, Replying, unmounted, session_of}
-use Rattle.jv_model.specs.journal.State.{State, after_told, begun_quietly, flushing_on, has_session, is_of_another}
-use Rattle.jv_model.specs.journal.State.{quieted, refused_as, session_gone, with_client}
-use Rattle.jv_model.specs.journal.Steps.{Start, MayAnswer, NumberRefused, Refuses, Decided, is_crowded, is_failure}
-use Rattle.jv_model.specs.journal.Steps.{may_be_quiet}
-use Rattle.jv_model.specs.journal.Past.{reply_of}
+use Rattle.jv_model.specs.promise.client.Pending.{Segment}
+use Rattle.jv_model.specs.promise.client.Submission.{next_segment}
+use Rattle.jv_model.specs.promise.client.ModelClient.{ModelClient, Doing, Stage, Working, Replying, unmounted, session_of}
+use Rattle.jv_model.specs.promise.journal.State.{State, after_told, begun_quietly, flushing_on, has_session, is_of_another}
+use Rattle.jv_model.specs.promise.journal.State.{quieted, refused_as, session_gone, with_client}
+use Rattle.jv_model.specs.promise.journal.Steps.{Start, MayAnswer, NumberRefused, Refuses, Decided, is_crowded, is_failure}
+use Rattle.jv_model.specs.promise.journal.Steps.{may_be_quiet}
+use Rattle.jv_model.specs.promise.journal.Past.{reply_of}
 use Rattle.jv_model_steps.specs.Leaves.{Leaves}
 use Rattle.jv_model_steps.specs.IsStep.{IsStep, at_stage}
 use Rattle.jv_model_steps.proofs.StepFormLaws.{leaves-one, requested, step-answered, step-on, with_stage-doing}

@@ -5,10 +5,10 @@ use Rattle.std.proofs.lemmas.Bool.{eqb-true}
 use Rattle.std.proofs.lemmas.Map.Views.{any-filter_same}
 use Rattle.jv_model.specs.declared.profile.Does.{Does}
 use Rattle.jv_model.specs.declared.profile.Does.TheVariants.{Mounts}
-use Rattle.jv_model.specs.tree.Tree.{Tree, is_sustained}
-use Rattle.jv_model.specs.client.ModelClient.{ModelClient, held_inodes, session_of}
-use Rattle.jv_model.specs.journal.State.{Gift, NewSession, NewHandle, Nothing, given, newly_sustained}
-use Rattle.jv_model.specs.Lists.{is_among}
+use Rattle.jv_model.specs.promise.tree.Tree.{Tree, is_sustained}
+use Rattle.jv_model.specs.promise.client.ModelClient.{ModelClient, held_inodes, session_of}
+use Rattle.jv_model.specs.promise.journal.State.{Gift, NewSession, NewHandle, Nothing, given, newly_sustained}
+use Rattle.jv_model.specs.promise.Lists.{is_among}
 
 -- an operation that doesn't mount in writeback mode
 abbrev pub IsDirect : Does → Type 0

@@ -12,17 +12,17 @@ use Rattle.jv_model.specs.declared.op.Reply.{Reply}
 use Rattle.jv_model.specs.declared.op.Reply.TheVariants as reply
 use Rattle.jv_model.specs.declared.op.Step.TheVariants.{More, Done}
 use Rattle.jv_model.specs.declared.profile.Does.TheVariants.{Reads}
-use Rattle.jv_model.specs.tree.Tree.{Tree, Node as TreeNode, node_at}
-use Rattle.jv_model.specs.client.ModelClient.{ModelClient, OpenFile, Doing, Stage, Reading, Replying, session_of}
-use Rattle.jv_model.specs.client.ModelClient.{inode_at, inode_in}
-use Rattle.jv_model.specs.client.Profile.{handle_of}
-use Rattle.jv_model.specs.journal.State.{State, after_told, has_session, is_compaction, look_refusal, looked}
-use Rattle.jv_model.specs.journal.State.{quieted, sees_first, is_of_another, with_look, sees}
-use Rattle.jv_model.specs.journal.Steps.{Start, IsRefusedIn, SessionGone, InodeGone, LooksAt, CompactionLooks}
-use Rattle.jv_model.specs.journal.Steps.{MayStep, MayAnswer, Refuses, Decided, file_in_use, is_missing}
-use Rattle.jv_model.specs.journal.Steps.{may_be_quiet, may_read_on, window_to_look}
-use Rattle.jv_model.specs.journal.Past.{reply_of}
-use Rattle.jv_model.specs.journal.Reading.{Asked, asked_parts, fresh_view, part_to_look}
+use Rattle.jv_model.specs.promise.tree.Tree.{Tree, Node as TreeNode, node_at}
+use Rattle.jv_model.specs.promise.client.ModelClient.{ModelClient, OpenFile, Doing, Stage, Reading, Replying, session_of}
+use Rattle.jv_model.specs.promise.client.ModelClient.{inode_at, inode_in}
+use Rattle.jv_model.specs.promise.client.Profile.{handle_of}
+use Rattle.jv_model.specs.promise.journal.State.{State, after_told, has_session, is_compaction, look_refusal, looked}
+use Rattle.jv_model.specs.promise.journal.State.{quieted, sees_first, is_of_another, with_look, sees}
+use Rattle.jv_model.specs.promise.journal.Steps.{Start, IsRefusedIn, SessionGone, InodeGone, LooksAt, CompactionLooks}
+use Rattle.jv_model.specs.promise.journal.Steps.{MayStep, MayAnswer, Refuses, Decided, file_in_use, is_missing}
+use Rattle.jv_model.specs.promise.journal.Steps.{may_be_quiet, may_read_on, window_to_look}
+use Rattle.jv_model.specs.promise.journal.Past.{reply_of}
+use Rattle.jv_model.specs.promise.journal.Reading.{Asked, asked_parts, fresh_view, part_to_look}
 use Rattle.jv_model_steps.specs.IsStep.{IsStep, at_stage}
 use Rattle.jv_model_steps.specs.Leaves.{Leaves}
 use Rattle.jv_model_steps.specs.Stages.{MayRead, Begins, GoesOn}

@@ -11,16 +11,16 @@ use Rattle.jv_model.specs.declared.op.Op.TheVariants as op
 use Rattle.jv_model.specs.declared.op.Reply.TheVariants.{Data}
 use Rattle.jv_model.specs.declared.op.Step.TheVariants.{More, Done}
 use Rattle.jv_model.specs.declared.profile.Does.TheVariants.{Reads}
-use Rattle.jv_model.specs.tree.Tree.{node_at}
-use Rattle.jv_model.specs.client.ModelClient.{ModelClient, OpenFile, Doing, Working, Reading}
-use Rattle.jv_model.specs.client.Profile.{handle_of}
-use Rattle.jv_model.specs.client.Submission.{is_flushed}
-use Rattle.jv_model.specs.journal.State.{State, after_told, has_session, is_of_another, quieted}
-use Rattle.jv_model.specs.journal.State.{sees_first, with_look}
-use Rattle.jv_model.specs.journal.Steps.{Start, MayStep, ReadsFresh, ReadsViews, asked_of, file_in_use}
-use Rattle.jv_model.specs.journal.Steps.{may_be_quiet, may_read_on, window_to_look}
-use Rattle.jv_model.specs.journal.Past.{read_in, reply_of}
-use Rattle.jv_model.specs.journal.Reading.{asked_parts, reading}
+use Rattle.jv_model.specs.promise.tree.Tree.{node_at}
+use Rattle.jv_model.specs.promise.client.ModelClient.{ModelClient, OpenFile, Doing, Working, Reading}
+use Rattle.jv_model.specs.promise.client.Profile.{handle_of}
+use Rattle.jv_model.specs.promise.client.Submission.{is_flushed}
+use Rattle.jv_model.specs.promise.journal.State.{State, after_told, has_session, is_of_another, quieted}
+use Rattle.jv_model.specs.promise.journal.State.{sees_first, with_look}
+use Rattle.jv_model.specs.promise.journal.Steps.{Start, MayStep, ReadsFresh, ReadsViews, asked_of, file_in_use}
+use Rattle.jv_model.specs.promise.journal.Steps.{may_be_quiet, may_read_on, window_to_look}
+use Rattle.jv_model.specs.promise.journal.Past.{read_in, reply_of}
+use Rattle.jv_model.specs.promise.journal.Reading.{asked_parts, reading}
 use Rattle.jv_model.specs.journal.Stepping.{is_answer}
 use Rattle.jv_model_steps.specs.Leaves.{Leaves}
 use Rattle.jv_model_steps.specs.IsStep.{IsStep, at_stage}

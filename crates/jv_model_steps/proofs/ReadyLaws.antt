@@ -3,13 +3,13 @@ use Rattle.std.proofs.Common.{◌≡◌, ℕ, Bool, true, ap, ◌∙◌}
 use Rattle.std.specs.Prelude.{◌||◌, if◌then◌else◌, is_some}
 use Rattle.jv_model.specs.declared.profile.Does.{Does}
 use Rattle.jv_model.specs.declared.profile.Does.TheVariants.{Reads, Truncates, Copies}
-use Rattle.jv_model.specs.client.ModelClient.{ModelClient, Doing, Working, Reading, Replying, inode_at}
-use Rattle.jv_model.specs.client.Profile.{handle_of}
-use Rattle.jv_model.specs.client.Submission.{is_flushed}
-use Rattle.jv_model.specs.journal.State.{State, begun_quietly, flushing_on, look_refusal, quieted, refused_look}
-use Rattle.jv_model.specs.journal.State.{sees_first, is_refused, refusal_in, transacted}
-use Rattle.jv_model.specs.journal.Steps.{Start, is_crowded, is_ready, may_be_quiet}
-use Rattle.jv_model.specs.journal.Reading.{asked_parts}
+use Rattle.jv_model.specs.promise.client.ModelClient.{ModelClient, Doing, Working, Reading, Replying, inode_at}
+use Rattle.jv_model.specs.promise.client.Profile.{handle_of}
+use Rattle.jv_model.specs.promise.client.Submission.{is_flushed}
+use Rattle.jv_model.specs.promise.journal.State.{State, begun_quietly, flushing_on, look_refusal, quieted, refused_look}
+use Rattle.jv_model.specs.promise.journal.State.{sees_first, is_refused, refusal_in, transacted}
+use Rattle.jv_model.specs.promise.journal.Steps.{Start, is_crowded, is_ready, may_be_quiet}
+use Rattle.jv_model.specs.promise.journal.Reading.{asked_parts}
 use Rattle.jv_model_steps.specs.Stages.{changes_files}
 
 module _ (s : State) (client now : ℕ) (c : ModelClient) (d : Doing) (started : ℕ) (at : d.stage ≡ Working 0 started)

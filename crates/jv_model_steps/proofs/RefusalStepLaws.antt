@@ -13,16 +13,16 @@ use Rattle.jv_model.specs.declared.fault.Gone.TheVariants.{Session, Node}
 use Rattle.jv_model.specs.declared.op.Reply.{Reply}
 use Rattle.jv_model.specs.declared.op.Reply.TheVariants.{Refused}
 use Rattle.jv_model.specs.declared.op.Step.TheVariants.{Done}
-use Rattle.jv_model.specs.tree.Tree.{fits, node_at}
-use Rattle.jv_model.specs.tree.FileBytes.{committed}
-use Rattle.jv_model.specs.client.Pending.{Segment, bytes_in_range, pending_of_others}
-use Rattle.jv_model.specs.client.Submission.{next_segment}
-use Rattle.jv_model.specs.client.ModelClient.{ModelClient, Doing, Stage, Working, Reading, Replying, session_of}
-use Rattle.jv_model.specs.client.ModelClient.{unmounted}
-use Rattle.jv_model.specs.journal.State.{State, after_told, flushing_on, has_session, is_of_another, refused_as}
-use Rattle.jv_model.specs.journal.Steps.{Start, CommitAsked, CommitLate, CommitTooLarge, Fails, InodeGone, IsRefusedIn}
-use Rattle.jv_model.specs.journal.Steps.{Refuses, SessionGone, is_crowded, is_failure, must_answer}
-use Rattle.jv_model.specs.journal.Past.{decided_reply, told_reply}
+use Rattle.jv_model.specs.promise.tree.Tree.{fits, node_at}
+use Rattle.jv_model.specs.promise.tree.FileBytes.{committed}
+use Rattle.jv_model.specs.promise.client.Pending.{Segment, bytes_in_range, pending_of_others}
+use Rattle.jv_model.specs.promise.client.Submission.{next_segment}
+use Rattle.jv_model.specs.promise.client.ModelClient.{ModelClient, Doing, Stage, Working, Reading, Replying, session_of}
+use Rattle.jv_model.specs.promise.client.ModelClient.{unmounted}
+use Rattle.jv_model.specs.promise.journal.State.{State, after_told, flushing_on, has_session, is_of_another, refused_as}
+use Rattle.jv_model.specs.promise.journal.Steps.{Start, CommitAsked, CommitLate, CommitTooLarge, Fails, InodeGone, IsRefusedIn}
+use Rattle.jv_model.specs.promise.journal.Steps.{Refuses, SessionGone, is_crowded, is_failure, must_answer}
+use Rattle.jv_model.specs.promise.journal.Past.{decided_reply, told_reply}
 use Rattle.jv_model_steps.specs.IsStep.{IsStep, at_stage}
 use Rattle.jv_model_steps.specs.RefusesCommit.{RefusesCommit, Late, NoFile, NoRoom, NoSession}
 use Rattle.jv_model_steps.proofs.StepFormLaws.{requested, step-alone}

@@ -1,9 +1,9 @@
 -- Whether a client's session is there, by its number.
 use Rattle.std.proofs.Common.{◌≡◌, ℕ, Bool, true, false, IsTrue, is_some, Option, None, Some, refl, unwrap_or, sym, ◌∙◌}
-use Rattle.jv_model.specs.FiniteMap.{get}
-use Rattle.jv_model.specs.client.ModelClient.{ModelClient, session_of}
-use Rattle.jv_model.specs.journal.State.{has_session}
-use Rattle.jv_model.specs.tree.Tree.{Tree}
+use Rattle.jv_model.specs.promise.FiniteMap.{get}
+use Rattle.jv_model.specs.promise.client.ModelClient.{ModelClient, session_of}
+use Rattle.jv_model.specs.promise.journal.State.{has_session}
+use Rattle.jv_model.specs.promise.tree.Tree.{Tree}
 
 session-mounted : (t : Tree) (o : Option ℕ) → IsTrue (is_some o)
     → (elim o as (λ o. Bool) [ None ↦ true | Some sid ↦ is_some (get t.sessions sid) ])

@@ -7,12 +7,12 @@ use Rattle.jv_model.specs.declared.act.ActKind.TheVariants.{Crashed, Ticked, Ans
 use Rattle.jv_model.specs.declared.act.Told.{Told}
 use Rattle.jv_model.specs.declared.op.Reply.{Reply}
 use Rattle.jv_model.specs.declared.op.Step.TheVariants.{More, Done}
-use Rattle.jv_model.specs.tree.Tree.{Tree}
-use Rattle.jv_model.specs.client.ModelClient.{ModelClient, Doing, Stage, with_stage}
-use Rattle.jv_model.specs.journal.State.{State, after_step, after_told, answered_client, is_of_another, of_doing}
-use Rattle.jv_model.specs.journal.State.{with_client}
-use Rattle.jv_model.specs.journal.Steps.{Start, IsEntry, MayAnswer, MayStep, begins_step}
-use Rattle.jv_model.specs.journal.Past.{ends_in_step, reply_of}
+use Rattle.jv_model.specs.promise.tree.Tree.{Tree}
+use Rattle.jv_model.specs.promise.client.ModelClient.{ModelClient, Doing, Stage, with_stage}
+use Rattle.jv_model.specs.promise.journal.State.{State, after_step, after_told, answered_client, is_of_another, of_doing}
+use Rattle.jv_model.specs.promise.journal.State.{with_client}
+use Rattle.jv_model.specs.promise.journal.Steps.{Start, IsEntry, MayAnswer, MayStep, begins_step}
+use Rattle.jv_model.specs.promise.journal.Past.{ends_in_step, reply_of}
 use Rattle.jv_model.specs.journal.Stepping.{GoesOn, AnswersAlone, AnswersAfter, entry_of, stepped, is_answer, answer_of}
 use Rattle.jv_model.proofs.ClientsLaws.{own_client, other_client}
 use Rattle.jv_model_steps.specs.Leaves.{Leaves}

@@ -11,15 +11,15 @@ use Rattle.jv_model.specs.declared.fault.Fault.{Fault}
 use Rattle.jv_model.specs.declared.op.Reply.TheVariants as reply
 use Rattle.jv_model.specs.declared.op.Step.TheVariants.{Done}
 use Rattle.jv_model.specs.declared.profile.Does.TheVariants as does
-use Rattle.jv_model.specs.tree.Tree.{Tree, is_sustained}
-use Rattle.jv_model.specs.tree.Caller.{Outcome}
-use Rattle.jv_model.specs.client.ModelClient.{ModelClient, Doing, Stage, Working, Replying, with_stage, held_inodes}
-use Rattle.jv_model.specs.client.ModelClient.{session_of}
-use Rattle.jv_model.specs.client.Submission.{is_flushed}
-use Rattle.jv_model.specs.journal.State.{State, Gift, NewSession, NewHandle, Nothing, after_told, after_transaction}
-use Rattle.jv_model.specs.journal.State.{gift_of, newly_sustained, transacted, with_client}
-use Rattle.jv_model.specs.journal.Steps.{Start, MayStep, Decided, Transaction, entry_of_gift, is_failure, told_of}
-use Rattle.jv_model.specs.journal.Steps.{transacts}
+use Rattle.jv_model.specs.promise.tree.Tree.{Tree, is_sustained}
+use Rattle.jv_model.specs.promise.tree.Caller.{Outcome}
+use Rattle.jv_model.specs.promise.client.ModelClient.{ModelClient, Doing, Stage, Working, Replying, with_stage, held_inodes}
+use Rattle.jv_model.specs.promise.client.ModelClient.{session_of}
+use Rattle.jv_model.specs.promise.client.Submission.{is_flushed}
+use Rattle.jv_model.specs.promise.journal.State.{State, Gift, NewSession, NewHandle, Nothing, after_told, after_transaction}
+use Rattle.jv_model.specs.promise.journal.State.{gift_of, newly_sustained, transacted, with_client}
+use Rattle.jv_model.specs.promise.journal.Steps.{Start, MayStep, Decided, Transaction, entry_of_gift, is_failure, told_of}
+use Rattle.jv_model.specs.promise.journal.Steps.{transacts}
 use Rattle.jv_model.specs.journal.Stepping.{is_answer}
 use Rattle.jv_model.proofs.ClientsLaws.{doing_given}
 use Rattle.jv_model_steps.specs.Stages.{handed}

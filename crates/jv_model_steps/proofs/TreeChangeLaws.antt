@@ -7,12 +7,12 @@ use Rattle.jv_model.specs.declared.fault.Fault.{Fault}
 use Rattle.jv_model.specs.declared.fault.Fault.TheVariants.{FileTooLarge, Invalid, NoSpace, Stale}
 use Rattle.jv_model.specs.declared.fault.Gone.TheVariants.{Session, Node}
 use Rattle.jv_model.specs.declared.op.Reply.TheVariants.{Count, Done}
-use Rattle.jv_model.specs.FiniteMap.{get}
-use Rattle.jv_model.specs.tree.Attempt.{◌>>=◌, require, some_or}
-use Rattle.jv_model.specs.tree.Caller.{Caller, Outcome, answered, done, in_session}
-use Rattle.jv_model.specs.tree.FileBytes.{copied, copy, copy_bytes, open_content, overlap, truncate, truncated}
-use Rattle.jv_model.specs.tree.Tree.{Content, Tree, content_at, fits}
-use Rattle.jv_model.specs.journal.Steps.{is_failure}
+use Rattle.jv_model.specs.promise.FiniteMap.{get}
+use Rattle.jv_model.specs.promise.tree.Attempt.{◌>>=◌, require, some_or}
+use Rattle.jv_model.specs.promise.tree.Caller.{Caller, Outcome, answered, done, in_session}
+use Rattle.jv_model.specs.promise.tree.FileBytes.{copied, copy, copy_bytes, open_content, overlap, truncate, truncated}
+use Rattle.jv_model.specs.promise.tree.Tree.{Content, Tree, content_at, fits}
+use Rattle.jv_model.specs.promise.journal.Steps.{is_failure}
 
 -- a refusal that is no failure of a device, and no lack of memory
 abbrev pub IsCalm : Fault → Type 0

@@ -4,12 +4,12 @@ use Rattle.jv_model.specs.declared.lifetimes.TheConstants.{UPLOAD_LIFE}
 use Rattle.jv_model.specs.declared.fault.Fault.{Fault}
 use Rattle.jv_model.specs.declared.fault.Fault.TheVariants.{NoSpace, Stale, TimedOut}
 use Rattle.jv_model.specs.declared.fault.Gone.TheVariants.{Session, Node}
-use Rattle.jv_model.specs.tree.Tree.{fits, node_at}
-use Rattle.jv_model.specs.tree.FileBytes.{committed}
-use Rattle.jv_model.specs.client.Pending.{Segment, bytes_in_range}
-use Rattle.jv_model.specs.client.ModelClient.{ModelClient, session_of}
-use Rattle.jv_model.specs.journal.State.{State, has_session}
-use Rattle.jv_model.specs.journal.Steps.{Start, is_crowded}
+use Rattle.jv_model.specs.promise.tree.Tree.{fits, node_at}
+use Rattle.jv_model.specs.promise.tree.FileBytes.{committed}
+use Rattle.jv_model.specs.promise.client.Pending.{Segment, bytes_in_range}
+use Rattle.jv_model.specs.promise.client.ModelClient.{ModelClient, session_of}
+use Rattle.jv_model.specs.promise.journal.State.{State, has_session}
+use Rattle.jv_model.specs.promise.journal.Steps.{Start, is_crowded}
 
 -- The first of what it needs that isn't so: its session, its file, that its first block was put
 -- less than an upload's life ago, and room for its bytes, its slice and its record.

@@ -2,10 +2,10 @@
 use Rattle.std.specs.Prelude.{◌≡◌, ℕ, ◌+◌, Bool, true, false, ◌++◌}
 use Rattle.jv_model.specs.declared.profile.Does.{Does}
 use Rattle.jv_model.specs.declared.profile.Does.TheVariants.{Truncates, Copies}
-use Rattle.jv_model.specs.tree.Caller.{Outcome}
-use Rattle.jv_model.specs.client.ModelClient.{ModelClient, Doing, Working, Reading}
-use Rattle.jv_model.specs.client.Submission.{is_flushed}
-use Rattle.jv_model.specs.journal.State.{State, gift_of, given, newly_sustained, next_entry}
+use Rattle.jv_model.specs.promise.tree.Caller.{Outcome}
+use Rattle.jv_model.specs.promise.client.ModelClient.{ModelClient, Doing, Working, Reading}
+use Rattle.jv_model.specs.promise.client.Submission.{is_flushed}
+use Rattle.jv_model.specs.promise.journal.State.{State, gift_of, given, newly_sustained, next_entry}
 
 -- the client with what the reply of its transaction handed to it, and with the files that its
 -- session keeps from then on

@@ -12,7 +12,7 @@ use Rattle.std.specs.Cmp.Lexicographic.{slice_cmp}
 use Rattle.std.specs.BTreeMap.Range.{entries_between, range_contains}
 use Rattle.std.specs.Prelude.{unwrap_or}
 use Rattle.jv_model.proofs.TestLaws.{lt_is, and_true}
-use Rattle.jv_outside.specs.Blocks.{staged_cmp}
+use Rattle.jv_outside.specs.promise.Blocks.{staged_cmp}
 use Rattle.jv_outside.specs.Objects.{is_later}
 use Rattle.jv_outside.specs.StoredBlocks.{key_start}
 use Rattle.jv_outside.specs.StoredObjects.{list_start}

@@ -2,7 +2,7 @@
 use Rattle.std.proofs.Common.{◌≡◌, Bool, true, false, cond, not, List, [], ◌∷◌, ◌++◌, filter, None, Some, refl, sym, ap, subst, ◌∙◌}
 use Rattle.std.specs.Ordering.{eq_by_cmp}
 use Rattle.std.proofs.lemmas.Bool.{not-true, not-false}
-use Rattle.jv_model.specs.FiniteMap.{KeyOrder, Map, empty_map, get, insert, remove, map_of}
+use Rattle.jv_model.specs.promise.FiniteMap.{KeyOrder, Map, empty_map, get, insert, remove, map_of}
 use Rattle.jv_model.proofs.FiniteMapLaws.{get-insert, get-remove, get-empty_map, same_maps}
 use Rattle.jv_model.proofs.TestLaws.{tie_is}
 use Rattle.jv_outside.specs.declared.block_store.BlockStore.{BlockStore}

@@ -14,8 +14,8 @@ use Rattle.std.specs.Cmp.Lexicographic.{slice_cmp}
 use Rattle.std.specs.BTreeMap.Range.{entries_between, range_contains}
 use Rattle.std.specs.FinMap.Entries.{below_all, is_sorted}
 use Rattle.jv_model.specs.declared.row.RowKey.{RowKey}
-use Rattle.jv_model.specs.FiniteMap.{KeyOrder, Map, get, map_of}
-use Rattle.jv_model.specs.rows.RowKeys.{row_cmp, row_cmp_total}
+use Rattle.jv_model.specs.promise.FiniteMap.{KeyOrder, Map, get, map_of}
+use Rattle.jv_model.specs.promise.rows.RowKeys.{row_cmp, row_cmp_total}
 use Rattle.jv_model.proofs.FiniteMapLaws.{get-map_of, same_map}
 use Rattle.jv_model.proofs.TestLaws.{lt_is, and_true}
 use Rattle.jv_outside.specs.Rows.{is_after}

@@ -5,14 +5,15 @@ use Rattle.std.specs.Cmp.{eq_by_cmp_equiv}
 use Rattle.std.specs.Map.{lookup}
 use Rattle.std.specs.BTreeMap.{is_at}
 use Rattle.std.specs.FinMap.Entries.{find}
-use Rattle.jv_model.specs.FiniteMap.{KeyOrder, get, insert, alter, map_of, text_key}
+use Rattle.jv_model.specs.promise.FiniteMap.{KeyOrder, get, insert, map_of, text_key}
+use Rattle.jv_model.specs.FiniteMap.{alter}
 use Rattle.jv_outside.specs.declared.store.RowStore.{RowStore}
 use Rattle.jv_outside.specs.LazyTrees.{entries_in, IsLike}
-use Rattle.jv_outside.specs.Rows.{applied}
+use Rattle.jv_outside.specs.promise.Rows.{applied}
 use Rattle.jv_outside.specs.declared.lazy_tree.LazyTree.{LazyTree}
 use Rattle.jv_outside.specs.declared.object_store.ObjectStore.{ObjectStore}
 use Rattle.jv_model.specs.declared.row.RowKey.{RowKey}
-use Rattle.jv_model.specs.rows.RowKeys.{row_cmp, row_key}
+use Rattle.jv_model.specs.promise.rows.RowKeys.{row_cmp, row_key}
 use Rattle.std.specs.Cmp.Lexicographic.{slice_cmp}
 use Rattle.jv_outside.specs.Objects.{name_of, value_of}
 use Rattle.jv_outside.specs.Overlaid.{overlaid}

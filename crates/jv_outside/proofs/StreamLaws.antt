@@ -2,7 +2,7 @@
 use Rattle.std.proofs.Common.{ℕ, ◌+◌, ◌-◌, List, [], ◌++◌, length, take, drop, Option, Some, None, sym, ap, ◌∙◌, append_assoc, append-nil}
 use Rattle.std.proofs.Math.Seq.{take-add}
 use Rattle.std.proofs.lemmas.List.{take_rest}
-use Rattle.jv_outside.specs.Stream.{Gains}
+use Rattle.jv_outside.specs.promise.Stream.{Gains}
 
 -- nothing is gained
 pub Gains-nil : (a : Option (List ℕ)) → Gains a a []

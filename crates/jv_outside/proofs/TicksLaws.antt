@@ -1,6 +1,6 @@
 -- What several calls of a clock in a row do to its answers to come.
 use Rattle.std.proofs.Common.{ℕ, ◌+◌, Option, Some, None, ap, ◌∙◌, arith}
-use Rattle.jv_outside.specs.Ticks.{Passes}
+use Rattle.jv_outside.specs.promise.Ticks.{Passes}
 
 -- no answer is passed
 pub Passes-zero : (a : Option (ℕ → ℕ)) → Passes a a 0

@@ -1,7 +1,7 @@
 -- Which calls of a device in memory are to fail, and what is counted of them.
 use Rattle.std.specs.Prelude.{ℕ, Bool, if◌then◌else◌}
-use Rattle.jv_model.specs.Counts.{counted}
-use Rattle.jv_model.specs.Lists.{is_among}
+use Rattle.jv_model.specs.promise.Counts.{counted}
+use Rattle.jv_model.specs.promise.Lists.{is_among}
 use Rattle.jv_outside.specs.declared.calls.Fails.{Fails}
 use Rattle.jv_outside.specs.declared.calls.Fails.TheVariants.{At}
 

@@ -1,29 +1,10 @@
--- What a device's error says of its count of faults.
-use Rattle.std.specs.Prelude.{◌≡◌, ℕ, zero, suc, ◌≤◌, max, Bool, true, false}
+-- What only inner contracts cite: of `promise/Causes`.
+use Rattle.std.specs.Prelude.{◌≡◌, ℕ}
 use Rattle.jv_model.specs.declared.fault.Down.{Down}
-use Rattle.jv_model.specs.declared.fault.Down.TheVariants.{Failed, Memory}
-use Rattle.jv_model.specs.Counts.{counted}
-
--- the count rose, or is saturated at 2^64 - 1
-abbrev pub Rose : ℕ → ℕ → Type 0
-Rose before now = max before (counted before) ≤ now
+use Rattle.jv_model.specs.declared.fault.Down.TheVariants.{Failed}
+use Rattle.jv_outside.specs.promise.Causes.{Rose}
 
 -- the error is Failed, never Memory, and the count rose
 pub record HasFailed (before now : ℕ) (down : Down) : Type 0 where
   pub failed : down ≡ Failed
   pub rose : Rose before now
-
--- the count rose where the error is Failed, and is the same where memory ran out
-abbrev pub IsCaused : ℕ → ℕ → Down → Type 0
-IsCaused before now Failed = Rose before now
-IsCaused before now Memory = now ≡ before
-
--- the count rose where the device failed, and is the same otherwise
-abbrev pub RoseIf : Bool → ℕ → ℕ → Type 0
-RoseIf true before now = Rose before now
-RoseIf false before now = now ≡ before
-
--- the count rose `n` times, and not otherwise
-abbrev pub RoseTimes : ℕ → ℕ → ℕ → Type 0
-RoseTimes zero before now = now ≡ before
-RoseTimes (suc n) before now = (between : ℕ) × RoseTimes n before between × Rose between now

@@ -1,15 +1,16 @@
--- What contracts see of the devices in memory.
+-- What only inner contracts cite: of `promise/InMemory`.
 use Rattle.std.specs.Prelude.{◌≡◌, ℕ, List, Option, Some, refl}
 use Rattle.std.specs.Coded.{Coded, code_by, coded×, coded_list, coded_option, coded_ℕ}
-use Rattle.jv_model.specs.rows.RowKeys.{RowMap, row_map_code}
+use Rattle.jv_model.specs.promise.rows.RowKeys.{RowMap}
+use Rattle.jv_model.specs.rows.RowKeys.{row_map_code}
 use Rattle.jv_outside.specs.declared.calls.Fails.{Fails}
 use Rattle.jv_outside.specs.declared.calls.Fails.TheVariants.{At}
 use Rattle.jv_outside.specs.Calls.{CallsValue}
-use Rattle.jv_outside.specs.Carriage.{Carriage}
-use Rattle.jv_outside.specs.Holding.{Holding}
-use Rattle.jv_outside.specs.Store.{Store}
-use Rattle.jv_outside.specs.Stream.{Stream}
-use Rattle.jv_outside.specs.Ticks.{Ticks}
+use Rattle.jv_outside.specs.promise.Carriage.{Carriage}
+use Rattle.jv_outside.specs.promise.Holding.{Holding}
+use Rattle.jv_outside.specs.promise.Store.{Store}
+use Rattle.jv_outside.specs.promise.Stream.{Stream}
+use Rattle.jv_outside.specs.promise.Ticks.{Ticks}
 
 -- the bytes left, the most that a call reads, and the calls
 pub record SourceValue : Type 0 where
@@ -64,10 +65,6 @@ pub record CarrierValue : Type 0 where
 -- bytes that are all known, and the faults of the calls
 abbrev pub stream_of : List ℕ → CallsValue → Stream
 stream_of bytes calls = record { content = Some bytes; faults = calls.faults }
-
--- bytes of a device that never fails
-abbrev pub never_failing : Option (List ℕ) → Stream
-never_failing content = record { content = content; faults = 0 }
 
 -- a clock that answers one moment, whatever the calls are
 abbrev pub ticks_at : ℕ → ℕ → Ticks

@@ -1,4 +1,5 @@
 -- The definitions that contracts cite.
+pub mod promise
 pub mod Causes
 pub mod Rows
 pub mod Stream

@@ -1,4 +1,4 @@
--- What a depot holds, and what its calls do to that.
+-- What only inner contracts cite: of `promise/Objects`.
 use Rattle.std.specs.Prelude.{◌≡◌, ℕ, List, length, filter, map, take, Bool, true, Option, None, Some, Result, Ok, Err}
 use Rattle.std.specs.Coded.{Coded, coded×, coded_list, coded_ℕ}
 use Rattle.std.specs.Option.{option_map}
@@ -6,16 +6,14 @@ use Rattle.std.specs.Ordering.{nat_cmp, is_lt}
 use Rattle.std.specs.Cmp.Lexicographic.{slice_cmp}
 use Rattle.jv_model.specs.declared.fault.Down.{Down}
 use Rattle.jv_model.specs.declared.slice.Seen.{Seen}
-use Rattle.jv_model.specs.FiniteMap.{Map, text_key, empty_map, get, insert, remove, map_code}
+use Rattle.jv_model.specs.promise.FiniteMap.{empty_map, insert, remove}
+use Rattle.jv_model.specs.FiniteMap.{map_code}
 use Rattle.jv_outside.specs.declared.object.Object.{Object}
 use Rattle.jv_outside.specs.declared.parcel.Parcel.{Parcel}
-use Rattle.jv_outside.specs.Holding.{Holding, FailsToHold}
+use Rattle.jv_outside.specs.promise.Holding.{Holding, FailsToHold}
 use Rattle.jv_outside.specs.Overlaid.{overlaid}
 use Rattle.jv_outside.specs.Parcels.{Carries}
-
--- objects: the bytes and the moment at each name, in the order of the names' bytes
-abbrev pub ObjectMap : Type 0
-ObjectMap = Map text_key (List ℕ × ℕ)
+use Rattle.jv_outside.specs.promise.Objects.{ObjectMap}
 
 abbrev pub object_map_code : Coded ObjectMap
 object_map_code = map_code (coded_list coded_ℕ) (coded× (coded_list coded_ℕ) coded_ℕ)
@@ -29,10 +27,6 @@ value_of object = (object.bytes, object.at)
 -- objects in any order as a map, where the first of one name stands
 abbrev pub object_map : List Object → ObjectMap
 object_map objects = overlaid name_of value_of objects empty_map
-
--- the bytes at a name
-abbrev pub bytes_at : List ℕ → ObjectMap → Option (List ℕ)
-bytes_at name objects = option_map (λ object. object.0) (get objects name)
 
 -- with these bytes and this moment at a name
 abbrev pub with_object : List ℕ → List ℕ → ℕ → ObjectMap → ObjectMap

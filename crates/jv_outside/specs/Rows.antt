@@ -1,21 +1,8 @@
--- What a keeper's calls do to its rows.
-use Rattle.std.specs.Prelude.{ℕ, ◌==◌, ◌&&◌, List, [], ◌∷◌, filter, take, Bool, Option, None, Some}
+-- What only inner contracts cite: of `promise/Rows`.
+use Rattle.std.specs.Prelude.{ℕ, ◌==◌, ◌&&◌, List, filter, take, Bool, Option, None, Some}
 use Rattle.std.specs.Ordering.{is_lt}
 use Rattle.jv_model.specs.declared.row.RowKey.{RowKey}
-use Rattle.jv_model.specs.FiniteMap.{insert, remove}
-use Rattle.jv_model.specs.rows.RowKeys.{row_cmp, RowMap}
-use Rattle.jv_outside.specs.declared.batch.Change.{Change}
-use Rattle.jv_outside.specs.declared.batch.Change.TheVariants.{Put, Del}
-
--- the rows after a change
-abbrev pub after_change : Change → RowMap → RowMap
-after_change (Put key bytes) rows = insert rows key bytes
-after_change (Del key) rows = remove rows key
-
--- the rows after changes, one after another
-abbrev pub applied : List Change → RowMap → RowMap
-applied [] rows = rows
-applied (first ∷ rest) rows = applied rest (after_change first rows)
+use Rattle.jv_model.specs.promise.rows.RowKeys.{row_cmp, RowMap}
 
 -- whether a key is of a table, and after another key where there is one
 abbrev pub is_after : ℕ → Option RowKey → RowKey → Bool

@@ -1,23 +1,14 @@
--- What is seen of a keeper, and what a call does to it: a keeper is a device that holds rows.
+-- What only inner contracts cite: of `promise/Store`.
 use Rattle.std.specs.Prelude.{ℕ, List, Option, Result}
 use Rattle.jv_model.specs.declared.fault.Down.{Down}
 use Rattle.jv_model.specs.declared.row.RowKey.{RowKey}
-use Rattle.jv_model.specs.FiniteMap.{get}
-use Rattle.jv_model.specs.rows.RowKeys.{RowMap}
+use Rattle.jv_model.specs.promise.FiniteMap.{get}
 use Rattle.jv_outside.specs.declared.batch.Change.{Change}
-use Rattle.jv_outside.specs.Holding.{Holding, Attaches, Answers, Changes}
-use Rattle.jv_outside.specs.Rows.{applied, rows_after}
-
--- the rows, where they are known; the place where the keeper was opened last, if it was; and how
--- many calls failed
-pub record Store : Type 0 where
-  pub rows : Option RowMap
-  pub opened : Option (List ℕ)
-  pub faults : ℕ
-
--- the same, as of any device that holds a map
-abbrev pub held : Store → Holding RowMap
-held store = record { content = store.rows; opened = store.opened; faults = store.faults }
+use Rattle.jv_outside.specs.promise.Holding.{Attaches}
+use Rattle.jv_outside.specs.Holding.{Answers, Changes}
+use Rattle.jv_outside.specs.promise.Rows.{applied}
+use Rattle.jv_outside.specs.Rows.{rows_after}
+use Rattle.jv_outside.specs.promise.Store.{Store, held}
 
 -- opening the keeper at a place, by the result
 abbrev pub Opens : Store → Store → Result (Unit {0}) Down → List ℕ → Type 0

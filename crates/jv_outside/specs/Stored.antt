@@ -4,10 +4,11 @@ use Rattle.std.specs.declared.ops.Bound.{Bound}
 use Rattle.std.specs.declared.ops.Bound.TheVariants.{Included, Excluded}
 use Rattle.std.specs.Ordering.{is_le}
 use Rattle.jv_model.specs.declared.row.RowKey.{RowKey}
-use Rattle.jv_model.specs.rows.RowKeys.{RowMap, row_map, row_cmp}
+use Rattle.jv_model.specs.promise.rows.RowKeys.{RowMap, row_cmp}
+use Rattle.jv_model.specs.rows.RowKeys.{row_map}
 use Rattle.jv_outside.specs.declared.store.RowStore.{RowStore}
 use Rattle.jv_outside.specs.LazyTrees.{entries_in}
-use Rattle.jv_outside.specs.Rows.{applied}
+use Rattle.jv_outside.specs.promise.Rows.{applied}
 
 -- the rows: those in the tree, before them those that aren't there yet, and on both the changes
 -- that wait

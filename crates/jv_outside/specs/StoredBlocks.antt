@@ -2,9 +2,10 @@
 use Rattle.std.specs.Prelude.{ℕ, List, Option, None, Some}
 use Rattle.std.specs.declared.ops.Bound.{Bound}
 use Rattle.std.specs.declared.ops.Bound.TheVariants.{Included, Excluded}
-use Rattle.jv_model.specs.FiniteMap.{map_of}
+use Rattle.jv_model.specs.promise.FiniteMap.{map_of}
 use Rattle.jv_outside.specs.declared.block_store.BlockStore.{BlockStore}
-use Rattle.jv_outside.specs.Blocks.{StagedMap, key_of, bytes_of}
+use Rattle.jv_outside.specs.promise.Blocks.{StagedMap}
+use Rattle.jv_outside.specs.Blocks.{key_of, bytes_of}
 use Rattle.jv_outside.specs.Overlaid.{overlaid}
 
 -- the blocks: those in order, and over them those that aren't in order yet

@@ -2,10 +2,11 @@
 use Rattle.std.specs.Prelude.{ℕ, List, Option, None, Some}
 use Rattle.std.specs.declared.ops.Bound.{Bound}
 use Rattle.std.specs.declared.ops.Bound.TheVariants.{Excluded, Unbounded}
-use Rattle.jv_model.specs.FiniteMap.{map_of}
+use Rattle.jv_model.specs.promise.FiniteMap.{map_of}
 use Rattle.jv_outside.specs.declared.object_store.ObjectStore.{ObjectStore}
 use Rattle.jv_outside.specs.LazyTrees.{entries_in}
-use Rattle.jv_outside.specs.Objects.{ObjectMap, name_of, value_of}
+use Rattle.jv_outside.specs.promise.Objects.{ObjectMap}
+use Rattle.jv_outside.specs.Objects.{name_of, value_of}
 use Rattle.jv_outside.specs.Overlaid.{overlaid}
 
 -- the objects: those in the tree, and over them those that aren't there yet

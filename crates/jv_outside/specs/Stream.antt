@@ -1,19 +1,10 @@
--- What is seen of a source or a sink, and what a call does to it.
-use Rattle.std.specs.Prelude.{◌≡◌, ℕ, ◌<◌, ◌≤◌, List, ◌++◌, length, take, Option, IfSome, IsSomeAnd, Result, Ok, Err}
+-- What only inner contracts cite: of `promise/Stream`.
+use Rattle.std.specs.Prelude.{◌≡◌, ℕ, ◌<◌, ◌≤◌, List, length, take, Result, Ok, Err}
 use Rattle.std.specs.Io.KnownBytes.{Consumes, IsAtEnd, Keeps}
 use Rattle.jv_model.specs.declared.fault.Down.{Down}
 use Rattle.jv_model.specs.declared.fault.Down.TheVariants.{Failed}
-use Rattle.jv_outside.specs.Causes.{Rose, HasFailed}
-
--- The bytes left of a source, or taken by a sink, where they are known; and how many calls failed.
--- A sink's bytes may become unknown, and then stay so.
-pub record Stream : Type 0 where
-  pub content : Option (List ℕ)
-  pub faults : ℕ
-
--- where the bytes are known after, they were known before, and are now followed by these
-pub record Gains (before after : Option (List ℕ)) (gained : List ℕ) : Type 0 where
-  pub known : IfSome after (λ new. IsSomeAnd before (λ old. new ≡ old ++ gained))
+use Rattle.jv_outside.specs.Causes.{HasFailed}
+use Rattle.jv_outside.specs.promise.Stream.{Stream, Gains, HasAll, IsCut}
 
 -- `count` bytes were read from the first of those left, and none only at the end or where there was
 -- no room
@@ -49,18 +40,6 @@ pub record FailsToWrite (before after : Stream) (down : Down) : Type 0 where
 abbrev pub Writes : Stream → Stream → Result ℕ Down → List ℕ → Type 0
 Writes before after (Ok count) piece = HasWritten before after count piece
 Writes before after (Err down) piece = FailsToWrite before after down
-
--- all these bytes were written, by calls that succeeded
-pub record HasAll (before after : Stream) (bytes : List ℕ) : Type 0 where
-  pub gains : Gains before.content after.content bytes
-  pub calm : after.faults ≡ before.faults
-
--- a proper prefix of these bytes was written, and then a call failed
-pub record IsCut (before after : Stream) (bytes : List ℕ) : Type 0 where
-  pub count : ℕ
-  pub proper : count < length bytes
-  pub gains : Gains before.content after.content (take count bytes)
-  pub rose : Rose before.faults after.faults
 
 -- a call failed before all these bytes were written: the error is Failed, never Memory
 pub record FailsToWriteAll (before after : Stream) (down : Down) (bytes : List ℕ) : Type 0 where

@@ -3,8 +3,9 @@ ghost use Rattle.std.specs.Prelude.{◌≡◌, ◌==◌, [], map, take, take_whi
 ghost use Rattle.std.specs.Option.{option_copied};
 ghost use Rattle.std.specs.Ordering.{eq_by_cmp};
 ghost use Rattle.std.specs.Range.Bound.{bound_map};
-ghost use Rattle.jv_model.specs.FiniteMap.{map_of};
-ghost use Rattle.jv_outside.specs.Blocks.{key_of, names_after, staged_at, staged_cmp, staged_key, staged_map, staging, unstaged};
+ghost use Rattle.jv_model.specs.promise.FiniteMap.{map_of};
+ghost use Rattle.jv_outside.specs.Blocks.{key_of, names_after, staged_map, staging, unstaged};
+ghost use Rattle.jv_outside.specs.promise.Blocks.{staged_at, staged_cmp, staged_key};
 ghost use Rattle.jv_outside.specs.StoredBlocks.{blocks_in, key_start};
 
 use crate::object::{Staged, StagedList};

@@ -1,5 +1,5 @@
 ghost use Rattle.std.specs.Prelude.{◌≡◌, ◌-◌, is_err, IfErr};
-ghost use Rattle.jv_model.specs.Counts.{counted};
+ghost use Rattle.jv_model.specs.promise.Counts.{counted};
 ghost use Rattle.jv_model.specs.declared.fault.Down.TheVariants.{Failed};
 ghost use Rattle.jv_outside.specs.Causes.{HasFailed};
 

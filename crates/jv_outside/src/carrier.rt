@@ -1,4 +1,5 @@
-ghost use Rattle.jv_outside.specs.Carriage.{Carriage, Moves, Sends};
+ghost use Rattle.jv_outside.specs.promise.Carriage.{Carriage, Moves};
+ghost use Rattle.jv_outside.specs.Carriage.{Sends};
 
 use crate::parcel::Parcel;
 use jv_model::{Down, Moment, Name, Text};

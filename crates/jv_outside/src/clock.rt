@@ -1,4 +1,5 @@
-ghost use Rattle.jv_outside.specs.Ticks.{Ticks, ClockAnswers};
+ghost use Rattle.jv_outside.specs.promise.Ticks.{Ticks};
+ghost use Rattle.jv_outside.specs.Ticks.{ClockAnswers};
 
 use jv_model::{Down, Moment};
 

@@ -2,8 +2,10 @@
 //! calls failed, where they are opened and what they hold.
 ghost use Rattle.std.specs.Prelude.{◌≡◌, IfOk, None};
 ghost use Rattle.std.specs.Option.{option_copied};
-ghost use Rattle.jv_outside.specs.Blocks.{names_after, staged_at};
-ghost use Rattle.jv_outside.specs.Objects.{bytes_at, seen_after};
+ghost use Rattle.jv_outside.specs.Blocks.{names_after};
+ghost use Rattle.jv_outside.specs.promise.Blocks.{staged_at};
+ghost use Rattle.jv_outside.specs.promise.Objects.{bytes_at};
+ghost use Rattle.jv_outside.specs.Objects.{seen_after};
 ghost use Rattle.jv_outside.specs.Rows.{rows_after};
 
 use crate::mem_carrier::MemCarrier;

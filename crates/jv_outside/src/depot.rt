@@ -1,6 +1,8 @@
 ghost use Rattle.std.specs.Option.{option_copied};
-ghost use Rattle.jv_outside.specs.Holding.{Holding, Attaches, Answers, Changes};
-ghost use Rattle.jv_outside.specs.Objects.{ObjectMap, Publishes, bytes_at, without, seen_after};
+ghost use Rattle.jv_outside.specs.promise.Holding.{Holding, Attaches};
+ghost use Rattle.jv_outside.specs.Holding.{Answers, Changes};
+ghost use Rattle.jv_outside.specs.promise.Objects.{ObjectMap, bytes_at};
+ghost use Rattle.jv_outside.specs.Objects.{Publishes, without, seen_after};
 
 use crate::parcel::Parcel;
 use jv_model::{Bytes, Down, Moment, Name, SeenList, Text};

@@ -1,5 +1,6 @@
 ghost use Rattle.std.specs.Option.{option_copied};
-ghost use Rattle.jv_outside.specs.Store.{Store, Opens, Finds, Scans, Commits};
+ghost use Rattle.jv_outside.specs.promise.Store.{Store};
+ghost use Rattle.jv_outside.specs.Store.{Opens, Finds, Scans, Commits};
 
 use crate::batch::Batch;
 use jv_model::row_bytes::RowBytes;

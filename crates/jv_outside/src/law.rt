@@ -1,6 +1,7 @@
 ghost use Rattle.std.specs.Prelude.{◌≡◌, ◌<◌, IsOk, IfErr};
 ghost use Rattle.jv_model.specs.declared.fault.Down.TheVariants.{Memory};
-ghost use Rattle.jv_outside.specs.Causes.{HasFailed, IsCaused};
+ghost use Rattle.jv_outside.specs.Causes.{HasFailed};
+ghost use Rattle.jv_outside.specs.promise.Causes.{IsCaused};
 
 use jv_model::Down;
 

@@ -3,7 +3,8 @@ ghost use Rattle.std.specs.Prelude.{◌≡◌, ◌↔◌, IsTrue, IfOk, IfErr, N
 ghost use Rattle.jv_model.specs.declared.fault.Down.TheVariants.{Failed, Memory};
 ghost use Rattle.jv_outside.specs.declared.parcel.Load.TheVariants.{Held};
 ghost use Rattle.jv_outside.specs.Calls.{fails_next, after_call};
-ghost use Rattle.jv_outside.specs.Carriage.{Moves, Sends};
+ghost use Rattle.jv_outside.specs.promise.Carriage.{Moves};
+ghost use Rattle.jv_outside.specs.Carriage.{Sends};
 ghost use Rattle.jv_outside.specs.InMemory.{carriage_of, never_failing_carriage};
 
 use crate::calls::{Calls, Fails};

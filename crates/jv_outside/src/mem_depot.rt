@@ -6,9 +6,11 @@ ghost use Rattle.std.specs.Prelude.{◌≡◌, ◌↔◌, ◌||◌, IsTrue, IfEr
 ghost use Rattle.std.specs.Option.{option_copied};
 ghost use Rattle.jv_model.specs.declared.fault.Down.TheVariants.{Failed, Memory};
 ghost use Rattle.jv_outside.specs.Calls.{fails_next, after_call};
-ghost use Rattle.jv_outside.specs.Holding.{Attaches, Answers, Changes};
+ghost use Rattle.jv_outside.specs.promise.Holding.{Attaches};
+ghost use Rattle.jv_outside.specs.Holding.{Answers, Changes};
 ghost use Rattle.jv_outside.specs.InMemory.{holding_of, faulted_holding};
-ghost use Rattle.jv_outside.specs.Objects.{Publishes, bytes_at, object_map, seen_after, without};
+ghost use Rattle.jv_outside.specs.Objects.{Publishes, object_map, seen_after, without};
+ghost use Rattle.jv_outside.specs.promise.Objects.{bytes_at};
 ghost use Rattle.jv_outside.specs.Parcels.{is_placed};
 
 use crate::calls::{Calls, Fails, fault};
@@ -31,7 +33,8 @@ pub struct MemDepot {
 
 impl Model for MemDepot {
     ghost use Rattle.jv_outside.specs.InMemory.{DeviceValue, device_code};
-    ghost use Rattle.jv_outside.specs.Objects.{ObjectMap, object_map_code};
+    ghost use Rattle.jv_outside.specs.promise.Objects.{ObjectMap};
+    ghost use Rattle.jv_outside.specs.Objects.{object_map_code};
 
     ghost Value = { DeviceValue ObjectMap };
 
@@ -138,7 +141,8 @@ pub struct NeverDepot {
 
 impl Model for NeverDepot {
     ghost use Rattle.jv_outside.specs.InMemory.{FaultedContent, faulted_content_code};
-    ghost use Rattle.jv_outside.specs.Objects.{ObjectMap, object_map_code};
+    ghost use Rattle.jv_outside.specs.promise.Objects.{ObjectMap};
+    ghost use Rattle.jv_outside.specs.Objects.{object_map_code};
 
     ghost Value = { FaultedContent ObjectMap };
 

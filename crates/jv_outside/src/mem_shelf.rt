@@ -4,9 +4,11 @@
 ghost use Rattle.std.specs.Prelude.{◌≡◌, ◌↔◌, IsTrue, IfErr, IsOk, None};
 ghost use Rattle.std.specs.Option.{option_copied};
 ghost use Rattle.jv_model.specs.declared.fault.Down.TheVariants.{Failed, Memory};
-ghost use Rattle.jv_outside.specs.Blocks.{names_after, staged_at, staged_map, staging, unstaged};
+ghost use Rattle.jv_outside.specs.Blocks.{names_after, staged_map, staging, unstaged};
+ghost use Rattle.jv_outside.specs.promise.Blocks.{staged_at};
 ghost use Rattle.jv_outside.specs.Calls.{fails_next, after_call};
-ghost use Rattle.jv_outside.specs.Holding.{Attaches, Answers, Changes};
+ghost use Rattle.jv_outside.specs.promise.Holding.{Attaches};
+ghost use Rattle.jv_outside.specs.Holding.{Answers, Changes};
 ghost use Rattle.jv_outside.specs.InMemory.{holding_of, never_failing_holding};
 
 use crate::block_store::BlockStore;
@@ -28,7 +30,8 @@ pub struct MemShelf {
 
 impl Model for MemShelf {
     ghost use Rattle.jv_outside.specs.InMemory.{DeviceValue, device_code};
-    ghost use Rattle.jv_outside.specs.Blocks.{StagedMap, staged_map_code};
+    ghost use Rattle.jv_outside.specs.promise.Blocks.{StagedMap};
+    ghost use Rattle.jv_outside.specs.Blocks.{staged_map_code};
 
     ghost Value = { DeviceValue StagedMap };
 
@@ -126,7 +129,8 @@ pub struct NeverShelf {
 
 impl Model for NeverShelf {
     ghost use Rattle.jv_outside.specs.InMemory.{OpenedContent, opened_content_code};
-    ghost use Rattle.jv_outside.specs.Blocks.{StagedMap, staged_map_code};
+    ghost use Rattle.jv_outside.specs.promise.Blocks.{StagedMap};
+    ghost use Rattle.jv_outside.specs.Blocks.{staged_map_code};
 
     ghost Value = { OpenedContent StagedMap };
 

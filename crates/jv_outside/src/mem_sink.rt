@@ -1,7 +1,8 @@
 ghost use Rattle.std.specs.Prelude.{◌≡◌, ◌<◌, min, length, Some, Ok, IfOk, IsErr, is_err, IsTrue};
 ghost use Rattle.std.specs.Option.{option_copied};
 ghost use Rattle.jv_outside.specs.Calls.{fails_next, after_call};
-ghost use Rattle.jv_outside.specs.InMemory.{never_failing, stream_of};
+ghost use Rattle.jv_outside.specs.promise.InMemory.{never_failing};
+ghost use Rattle.jv_outside.specs.InMemory.{stream_of};
 ghost use Rattle.jv_outside.specs.Stream.{Writes};
 
 use crate::calls::{Calls, Fails};

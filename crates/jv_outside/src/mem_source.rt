@@ -1,6 +1,7 @@
 ghost use Rattle.std.specs.Prelude.{◌≡◌, ◌<◌, min, length, take, drop, Some, Ok, IfOk, is_err};
 ghost use Rattle.jv_outside.specs.Calls.{fails_next, after_call};
-ghost use Rattle.jv_outside.specs.InMemory.{never_failing, stream_of};
+ghost use Rattle.jv_outside.specs.promise.InMemory.{never_failing};
+ghost use Rattle.jv_outside.specs.InMemory.{stream_of};
 ghost use Rattle.jv_outside.specs.Stream.{Reads};
 
 use crate::calls::{Calls, Fails};

@@ -3,9 +3,10 @@ ghost use Rattle.std.specs.Prelude.{◌≡◌, [], map, take, IfOk, IfErr, OnOk,
 ghost use Rattle.std.specs.Option.{option_copied};
 ghost use Rattle.std.specs.Range.Bound.{bound_map};
 ghost use Rattle.jv_model.specs.declared.fault.Down.TheVariants.{Memory};
-ghost use Rattle.jv_model.specs.FiniteMap.{map_of, text_key};
+ghost use Rattle.jv_model.specs.promise.FiniteMap.{map_of, text_key};
 ghost use Rattle.jv_outside.specs.LazyTrees.{entries_in};
-ghost use Rattle.jv_outside.specs.Objects.{as_seen, bytes_at, object_map, seen_after, with_object, without};
+ghost use Rattle.jv_outside.specs.Objects.{as_seen, object_map, seen_after, with_object, without};
+ghost use Rattle.jv_outside.specs.promise.Objects.{bytes_at};
 ghost use Rattle.jv_outside.specs.Parcels.{parcel_of};
 ghost use Rattle.jv_outside.specs.StoredObjects.{list_start, objects_in};
 

@@ -1,8 +1,10 @@
 ghost use Rattle.std.specs.Option.{option_copied};
 ghost use Rattle.std.specs.Prelude.{IfErr, ◌≡◌};
 ghost use Rattle.jv_model.specs.declared.fault.Down.TheVariants.{Failed};
-ghost use Rattle.jv_outside.specs.Holding.{Holding, Attaches, Answers, Changes};
-ghost use Rattle.jv_outside.specs.Blocks.{StagedMap, staged_at, staging, unstaged, names_after};
+ghost use Rattle.jv_outside.specs.promise.Holding.{Holding, Attaches};
+ghost use Rattle.jv_outside.specs.Holding.{Answers, Changes};
+ghost use Rattle.jv_outside.specs.promise.Blocks.{StagedMap, staged_at};
+ghost use Rattle.jv_outside.specs.Blocks.{staging, unstaged, names_after};
 
 use jv_model::{Bytes, ClientId, Down, Name, NameList, Text};
 

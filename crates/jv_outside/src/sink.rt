@@ -1,4 +1,5 @@
-ghost use Rattle.jv_outside.specs.Stream.{Stream, Writes, WritesAll};
+ghost use Rattle.jv_outside.specs.promise.Stream.{Stream};
+ghost use Rattle.jv_outside.specs.Stream.{Writes, WritesAll};
 
 use jv_model::Down;
 

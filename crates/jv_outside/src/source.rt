@@ -1,4 +1,5 @@
-ghost use Rattle.jv_outside.specs.Stream.{Stream, Reads};
+ghost use Rattle.jv_outside.specs.promise.Stream.{Stream};
+ghost use Rattle.jv_outside.specs.Stream.{Reads};
 
 use jv_model::Down;
 

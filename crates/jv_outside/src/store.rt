@@ -2,10 +2,11 @@
 ghost use Rattle.std.specs.Prelude.{◌≡◌, ◌==◌, [], take, take_while, IfOk, IfErr, OnOk, OnErr};
 ghost use Rattle.std.specs.Option.{option_copied};
 ghost use Rattle.std.specs.Range.Bound.{bound_map};
-ghost use Rattle.jv_model.specs.FiniteMap.{get, insert};
+ghost use Rattle.jv_model.specs.promise.FiniteMap.{get, insert};
 ghost use Rattle.jv_model.specs.rows.RowKeys.{row_map};
 ghost use Rattle.jv_outside.specs.LazyTrees.{entries_in};
-ghost use Rattle.jv_outside.specs.Rows.{after_change, applied, rows_after};
+ghost use Rattle.jv_outside.specs.promise.Rows.{after_change, applied};
+ghost use Rattle.jv_outside.specs.Rows.{rows_after};
 ghost use Rattle.jv_outside.specs.Stored.{stored, IsSettled, scan_start};
 
 use crate::batch::{Batch, Change};

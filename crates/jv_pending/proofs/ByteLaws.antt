@@ -2,7 +2,7 @@
 use Rattle.std.proofs.Common.{◌≡◌, ℕ, ◌+◌, ◌<◌, ◌≤◌, true, false, cond, ltb, List, [], ◌∷◌, ◌++◌, length, ⊎_elim, refl, sym, ap, ◌∙◌, arith, nat_lt, if◌then◌else◌}
 use Rattle.std.proofs.lemmas.Bool.{cases_order, cases_lt, cond-true, cond-false, lt-ltb, le-ltb}
 use Rattle.jv_model.specs.declared.limits.TheConstants.{FILE_END}
-use Rattle.jv_model.specs.client.Pending.{PendingByte, stands_at, comes_before, byte_set, written}
+use Rattle.jv_model.specs.promise.client.Pending.{PendingByte, stands_at, comes_before, byte_set, written}
 use Rattle.jv_pending.specs.Runs.{place, placed}
 use Rattle.jv_pending.proofs.PlaceLaws.{byte_place, stands_here, stands_apart, after_true, after_false}
 

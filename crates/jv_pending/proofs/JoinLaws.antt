@@ -3,7 +3,7 @@ use Rattle.std.proofs.Common.{◌≡◌, ℕ, ◌+◌, ◌-◌, ◌<◌, ◌≤�
 use Rattle.std.proofs.lemmas.Bool.{cases_lt, cases_eq, cond-true, cond-false, eq-eqb, ne_eqb}
 use Rattle.std.proofs.lemmas.List.{append_assoc, append-nil, length-append, length-take-le, length-drop}
 use Rattle.jv_model.specs.declared.limits.TheConstants.{FILE_END, WINDOW}
-use Rattle.jv_model.specs.client.Pending.{PendingByte, written}
+use Rattle.jv_model.specs.promise.client.Pending.{PendingByte, written}
 use Rattle.jv_pending.specs.Runs.{Run, place, placed, pending_bytes, end_of_run, end_place, start_place, gap, InOrder, Rise, end_after, IsCut, head_of, tail_of, joined_from, joined, EndBy, BeginBy, Reaches}
 use Rattle.jv_pending.proofs.ByteLaws.{Rises, Rises-weaker, front, back, front_from, back_from, written_is}
 use Rattle.jv_pending.proofs.OrderLaws.{EndBy-weaker, InOrder-weaker, InOrder-left, InOrder-right, InOrder-append, end_after_by, end_after_mono, pending_bytes-append, placed-append, Rises-runs, front_runs, back_runs, back_run, front_part, back_part}

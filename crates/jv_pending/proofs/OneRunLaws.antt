@@ -2,8 +2,8 @@
 use Rattle.std.proofs.Common.{◌≡◌, ℕ, ◌+◌, ◌-◌, ◌%◌, ◌<◌, ◌≤◌, List, [], ◌∷◌, ◌++◌, length, Some, Option, is_some, unwrap_or, refl, sym, ap, subst, ◌∙◌, arith}
 use Rattle.std.proofs.lemmas.List.{length-append}
 use Rattle.jv_model.specs.declared.limits.TheConstants.{FILE_END, WINDOW}
-use Rattle.jv_model.specs.client.Pending.{written}
-use Rattle.jv_model.specs.Lists.{last_item}
+use Rattle.jv_model.specs.promise.client.Pending.{written}
+use Rattle.jv_model.specs.promise.Lists.{last_item}
 use Rattle.jv_pending.specs.declared.run.RunStart.{RunStart}
 use Rattle.jv_pending.specs.Runs.{Run, place, place_of, placed, start_place, end_of_run, gap, bytes_at, pending_bytes, InOrder, Rise, Before, runs_before, runs_from, runs_within, with_runs, tail_of, joined_behind, IsFirst, IsOnly, Starts, Writes}
 use Rattle.jv_pending.proofs.OrderLaws.{pending_bytes-append, length-placed}

@@ -3,7 +3,7 @@ use Rattle.std.proofs.Common.{◌≡◌, ℕ, suc, ◌+◌, ◌-◌, ◌≤◌, 
 use Rattle.std.proofs.lemmas.Bool.{cases_lt}
 use Rattle.std.proofs.lemmas.List.{append_assoc, take_all, drop_all}
 use Rattle.jv_model.specs.declared.limits.TheConstants.{FILE_END}
-use Rattle.jv_model.specs.client.Pending.{PendingByte}
+use Rattle.jv_model.specs.promise.client.Pending.{PendingByte}
 use Rattle.jv_pending.specs.Runs.{Run, place, placed, pending_bytes, end_of_run, end_place, InOrder, end_after, EndBy}
 use Rattle.jv_pending.proofs.ByteLaws.{Rises, Rises-weaker, Rises-placed, front, back, front_below, front_from, back_below, back_here, back_from}
 

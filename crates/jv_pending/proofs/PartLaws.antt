@@ -5,7 +5,8 @@ use Rattle.std.proofs.lemmas.List.{append-nil}
 use Rattle.std.proofs.lemmas.Option.{none-some, same_Some}
 use Rattle.std.proofs.lemmas.List.Elements.{filter-append}
 use Rattle.jv_model.specs.declared.limits.TheConstants.{FILE_END}
-use Rattle.jv_model.specs.Lists.{first_item, last_item}
+use Rattle.jv_model.specs.Lists.{first_item}
+use Rattle.jv_model.specs.promise.Lists.{last_item}
 use Rattle.jv_pending.specs.Runs.{Run, Before, start_place, end_place, Rise, InOrder, runs_before, runs_from, runs_within, first_place, with_runs}
 
 pub before_yes : (n : ℕ) (r : Run) (rs : List Run) → start_place r < n → runs_before n (r ∷ rs) ≡ r ∷ runs_before n rs

@@ -3,7 +3,7 @@ use Rattle.std.proofs.Common.{◌≡◌, ℕ, ◌<◌, true, false, ◌⊎◌, i
 use Rattle.std.proofs.lemmas.Bool.{cases_order}
 use Rattle.std.proofs.lemmas.Bool.Decides.{nat_tests}
 use Rattle.jv_model.specs.declared.limits.TheConstants.{FILE_END}
-use Rattle.jv_model.specs.client.Pending.{PendingByte, stands_at, comes_before}
+use Rattle.jv_model.specs.promise.client.Pending.{PendingByte, stands_at, comes_before}
 use Rattle.jv_pending.specs.Runs.{place}
 
 abbrev pub byte_place : PendingByte → ℕ

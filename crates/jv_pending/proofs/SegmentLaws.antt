@@ -4,7 +4,8 @@ use Rattle.std.proofs.lemmas.Bool.{cases_eq, cond-true, cond-false, cond_both, a
 use Rattle.std.proofs.lemmas.Bool.Decides.{nat_tests}
 use Rattle.std.proofs.lemmas.Option.{none-some, same_Some}
 use Rattle.jv_model.specs.declared.limits.TheConstants.{WINDOW}
-use Rattle.jv_model.specs.client.Pending.{PendingByte, Segment, comes_before, all_after, is_rising, stands_at, is_in_range, without_range, pending_of, pending_of_others, pending_end, end_of, run_length, first_segment, byte_set, written}
+use Rattle.jv_model.specs.promise.client.Pending.{PendingByte, Segment, comes_before, stands_at, is_in_range, without_range, pending_of, pending_of_others, run_length, first_segment, byte_set, written}
+use Rattle.jv_model.specs.client.Pending.{all_after, is_rising, pending_end, end_of}
 use Rattle.jv_model.proofs.PendingLaws.{no_first_segment}
 
 -- an inode's first segment is its own, and its first byte lies in it

@@ -6,8 +6,10 @@ use Rattle.std.proofs.lemmas.Option.{none-some, same_Some}
 use Rattle.std.proofs.lemmas.List.{append-nil, length-append}
 use Rattle.std.proofs.lemmas.List.Elements.{filter-append}
 use Rattle.jv_model.specs.declared.limits.TheConstants.{FILE_END, WINDOW}
-use Rattle.jv_model.specs.client.Pending.{PendingByte, Segment, stands_at, comes_before, all_after, is_rising, is_in_range, without_range, pending_of, run_length, first_segment, bytes_in_range, pending_end}
-use Rattle.jv_model.specs.Lists.{first_item, last_item}
+use Rattle.jv_model.specs.promise.client.Pending.{PendingByte, Segment, stands_at, comes_before, is_in_range, without_range, pending_of, run_length, first_segment, bytes_in_range}
+use Rattle.jv_model.specs.client.Pending.{all_after, is_rising, pending_end}
+use Rattle.jv_model.specs.Lists.{first_item}
+use Rattle.jv_model.specs.promise.Lists.{last_item}
 use Rattle.jv_pending.specs.declared.run.RunStart.{RunStart}
 use Rattle.jv_pending.specs.Runs.{Run, place, place_of, placed, pending_bytes, bytes_at, end_of_run, start_place, end_place, segment_of_run, IsRun, InOrder, Rise, Before, runs_before, runs_from, without_run}
 use Rattle.jv_pending.proofs.PlaceLaws.{byte_place, stands_here, stands_apart, after_true}

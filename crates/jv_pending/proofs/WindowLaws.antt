@@ -3,7 +3,7 @@ use Rattle.std.proofs.Common.{◌≡◌, ℕ, ◌+◌, ◌-◌, ◌*◌, ◌/◌
 use Rattle.std.proofs.lemmas.List.{append-nil, length-append, length-drop, drop_all}
 use Rattle.std.proofs.lemmas.Bool.{cases_lt}
 use Rattle.jv_model.specs.declared.limits.TheConstants.{FILE_END, WINDOW}
-use Rattle.jv_model.specs.client.Pending.{PendingByte, written}
+use Rattle.jv_model.specs.promise.client.Pending.{PendingByte, written}
 use Rattle.jv_pending.specs.Runs.{Run, place, place_of, bytes_at, runs_before, runs_from, runs_within, Rise, placed, pending_bytes, end_place, gap, IsRun, InOrder, end_after, IsCut, IsTouched, BeginBy, Reaches, head_of, tail_of, joined_from, joined, joined_behind, Rewrites}
 use Rattle.jv_pending.specs.declared.run.RunStart.{RunStart}
 use Rattle.jv_pending.proofs.OrderLaws.{EndBy-weaker, InOrder-left, InOrder-right, pending_bytes-append, length-placed, Rises-runs}

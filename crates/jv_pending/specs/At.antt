@@ -1,7 +1,7 @@
 -- Segments as the code names them.
 use Rattle.std.specs.Prelude.{◌+◌, ◌*◌}
 use Rattle.jv_model.specs.declared.limits.TheConstants.{WINDOW}
-use Rattle.jv_model.specs.client.Pending.{Segment}
+use Rattle.jv_model.specs.promise.client.Pending.{Segment}
 use Rattle.jv_pending.specs.declared.segment.SegmentAt.{SegmentAt}
 
 -- the segment with this window and this position in it

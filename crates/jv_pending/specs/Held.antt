@@ -1,6 +1,6 @@
 -- What contracts see of the pending bytes.
 use Rattle.std.specs.Prelude.{◌≡◌, ◌≤◌, ℕ, List, length}
-use Rattle.jv_model.specs.client.Pending.{PendingByte}
+use Rattle.jv_model.specs.promise.client.Pending.{PendingByte}
 use Rattle.jv_pending.specs.Runs.{Run, InOrder, pending_bytes}
 
 -- the bytes in rising order of their places, and how many there may be

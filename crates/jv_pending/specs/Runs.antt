@@ -5,8 +5,9 @@ use Rattle.std.specs.Ordering.{nat_cmp, ordering_then}
 use Rattle.std.specs.BTreeMap.{is_at}
 use Rattle.std.specs.Map.{lookup}
 use Rattle.jv_model.specs.declared.limits.TheConstants.{FILE_END, WINDOW}
-use Rattle.jv_model.specs.client.Pending.{PendingByte, Segment, written}
-use Rattle.jv_model.specs.Lists.{first_item, last_item}
+use Rattle.jv_model.specs.promise.client.Pending.{PendingByte, Segment, written}
+use Rattle.jv_model.specs.Lists.{first_item}
+use Rattle.jv_model.specs.promise.Lists.{last_item}
 use Rattle.jv_pending.specs.declared.run.RunStart.{RunStart}
 
 -- a run: where it begins, and its bytes

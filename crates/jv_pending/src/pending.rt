@@ -6,7 +6,8 @@
 ghost use Rattle.std.specs.Prelude.{◌≡◌, ◌+◌, ◌*◌, ◌<◌, ◌≤◌, ◌↔◌, [], length, Some, OnOk, OnErr, IfSome, IsErrOf, IsOk, IsOkUnless, IsTrue};
 ghost use Rattle.std.specs.Option.{option_map};
 ghost use Rattle.jv_model.specs.declared.limits.TheConstants.{FILE_END, WINDOW};
-ghost use Rattle.jv_model.specs.client.Pending.{written, first_segment_of, bytes_in_range, without_range, pending_of, pending_of_others, end_of, is_rising};
+ghost use Rattle.jv_model.specs.promise.client.Pending.{written, bytes_in_range, without_range, pending_of, pending_of_others};
+ghost use Rattle.jv_model.specs.client.Pending.{first_segment_of, end_of, is_rising};
 ghost use Rattle.jv_pending.specs.At.{segment_at};
 
 use crate::run::{RunStart, Runs, find_end, find_first};

@@ -2,7 +2,8 @@
 ghost use Rattle.std.specs.Prelude.{◌≡◌, ◌+◌, ◌*◌, ◌<◌, ◌≤◌, ◌^◌, length, Option, Some, None, IfSome};
 ghost use Rattle.std.specs.Option.{option_map};
 ghost use Rattle.jv_model.specs.client.Pending.{first_segment_of, end_of};
-ghost use Rattle.jv_model.specs.Lists.{first_item, last_item};
+ghost use Rattle.jv_model.specs.Lists.{first_item};
+ghost use Rattle.jv_model.specs.promise.Lists.{last_item};
 ghost use Rattle.jv_pending.specs.At.{segment_at};
 ghost use Rattle.jv_pending.specs.Runs.{place_of, end_of_run, segment_of_run, IsRun, InOrder, Rise, pending_bytes, runs_before, runs_from, runs_within};
 

@@ -9,7 +9,7 @@
 //! logarithmic number of times at most.
 ghost use Rattle.std.specs.Prelude.{◌≡◌, ◌+◌, ◌-◌, ◌<◌, ◌≤◌, ◌^◌, ◌%◌, [], ◌∷◌, ◌++◌, length, take, OnOk, OnErr, IfOk, Some, unwrap_or, IsSome, IfSome};
 ghost use Rattle.jv_model.specs.declared.limits.TheConstants.{FILE_END};
-ghost use Rattle.jv_model.specs.client.Pending.{written};
+ghost use Rattle.jv_model.specs.promise.client.Pending.{written};
 ghost use Rattle.jv_pending.specs.Runs.{place_of, bytes_at, gap, pending_bytes, InOrder, Rise, IsFirst, IsTouched, runs_within, with_runs, tail_of, joined_behind, IsLonger, IsOnly, Starts, Writes};
 
 use crate::place::{give_back, put_over, swap_bytes, take_run};

@@ -7,13 +7,13 @@ use Rattle.jv_model.specs.declared.fault.RowFault.{RowFault}
 use Rattle.jv_model.specs.declared.row.Row.TheVariants.{OfList}
 use Rattle.jv_model.specs.declared.row.RowKey.{RowKey}
 use Rattle.jv_model.specs.declared.slice.Rec.{Rec}
-use Rattle.jv_model.specs.FiniteMap.{get}
-use Rattle.jv_model.specs.rows.RowGrammar.{is_list, list_of}
-use Rattle.jv_model.specs.rows.RowPlaces.{list_key}
+use Rattle.jv_model.specs.promise.FiniteMap.{get}
+use Rattle.jv_model.specs.promise.rows.RowGrammar.{is_list, list_of}
+use Rattle.jv_model.specs.promise.rows.RowPlaces.{list_key}
 use Rattle.jv_outside.specs.declared.batch.Change.{Change}
 use Rattle.jv_outside.specs.Holding.{Answers}
-use Rattle.jv_outside.specs.Rows.{applied}
-use Rattle.jv_outside.specs.Store.{Store, held}
+use Rattle.jv_outside.specs.promise.Rows.{applied}
+use Rattle.jv_outside.specs.promise.Store.{Store, held}
 use Rattle.jv_rows.specs.declared.misread.Misread.{Misread}
 use Rattle.jv_rows.specs.Drafts.{cell, Drafts, ReadsPut, Sees}
 use Rattle.jv_rows.specs.Reads.{Misses}

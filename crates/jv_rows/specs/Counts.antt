@@ -10,14 +10,14 @@ use Rattle.jv_model.specs.declared.fault.Fault.TheVariants.{NoSpace}
 use Rattle.jv_model.specs.declared.fault.RowFault.TheVariants.{Bad, Failed, Memory}
 use Rattle.jv_model.specs.declared.fault.TxFault.{TxFault}
 use Rattle.jv_model.specs.declared.fault.TxFault.TheVariants.{Refused, Moved, Rows as OfRows}
-use Rattle.jv_model.specs.FiniteMap.{get, insert, remove}
-use Rattle.jv_model.specs.rows.RowKeys.{RowMap}
-use Rattle.jv_model.specs.rows.RowPlaces.{slice_key, dead_key}
-use Rattle.jv_model.specs.Lists.{is_nil}
+use Rattle.jv_model.specs.promise.FiniteMap.{get, insert, remove}
+use Rattle.jv_model.specs.promise.rows.RowKeys.{RowMap}
+use Rattle.jv_model.specs.promise.rows.RowPlaces.{slice_key, dead_key}
+use Rattle.jv_model.specs.promise.Lists.{is_nil}
 use Rattle.jv_outside.specs.declared.batch.Change.{Change}
-use Rattle.jv_outside.specs.Store.{Store}
-use Rattle.jv_volume.specs.TypedRows.{Cell, Rows, typed}
-use Rattle.jv_volume.specs.Slices.{records_naming}
+use Rattle.jv_outside.specs.promise.Store.{Store}
+use Rattle.jv_volume.specs.promise.TypedRows.{Cell, Rows, typed}
+use Rattle.jv_volume.specs.promise.Slices.{records_naming}
 use Rattle.jv_rows.specs.Drafts.{drafted, RefusesNeeded}
 use Rattle.jv_rows.specs.Transactions.{TransactionCounts}
 

@@ -7,15 +7,16 @@ use Rattle.jv_model.specs.declared.fault.RowFault.{RowFault}
 use Rattle.jv_model.specs.declared.fault.TxFault.{TxFault}
 use Rattle.jv_model.specs.declared.fault.TxFault.TheVariants.{Refused, Moved, Rows as OfRows}
 use Rattle.jv_model.specs.declared.fault.RowFault.TheVariants.{Bad, Failed, Memory}
-use Rattle.jv_model.specs.FiniteMap.{get, alter}
-use Rattle.jv_model.specs.rows.RowKeys.{RowMap, is_key_of}
+use Rattle.jv_model.specs.promise.FiniteMap.{get}
+use Rattle.jv_model.specs.FiniteMap.{alter}
+use Rattle.jv_model.specs.promise.rows.RowKeys.{RowMap, is_key_of}
 use Rattle.jv_outside.specs.declared.batch.Change.{Change}
 use Rattle.jv_outside.specs.declared.batch.Change.TheVariants.{Put, Del}
-use Rattle.jv_outside.specs.Rows.{applied}
-use Rattle.jv_outside.specs.Store.{Store}
+use Rattle.jv_outside.specs.promise.Rows.{applied}
+use Rattle.jv_outside.specs.promise.Store.{Store}
 use Rattle.jv_rows.specs.Readings.{RowCounts}
 use Rattle.jv_rows.specs.Transactions.{TransactionCounts}
-use Rattle.jv_volume.specs.TypedRows.{Cell, Rows, typed}
+use Rattle.jv_volume.specs.promise.TypedRows.{Cell, Rows, typed}
 
 -- the key that a change is of
 abbrev pub key_in : Change → RowKey

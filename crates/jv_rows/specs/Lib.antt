@@ -1,4 +1,5 @@
 -- The definitions that contracts cite.
+pub mod promise
 pub mod Reads
 pub mod Tables
 pub mod RoundTrips

@@ -3,10 +3,10 @@ use Rattle.std.specs.Prelude.{◌≡◌, ℕ, Bool, List, Option, None, Some, Re
 use Rattle.jv_model.specs.declared.row.RowKey.{RowKey}
 use Rattle.jv_model.specs.declared.fault.RowFault.{RowFault}
 use Rattle.jv_model.specs.declared.fault.RowFault.TheVariants.{Bad, Failed, Memory}
-use Rattle.jv_model.specs.FiniteMap.{get}
-use Rattle.jv_model.specs.rows.RowKeys.{RowMap}
-use Rattle.jv_outside.specs.Causes.{Rose}
-use Rattle.jv_outside.specs.Store.{Store}
+use Rattle.jv_model.specs.promise.FiniteMap.{get}
+use Rattle.jv_model.specs.promise.rows.RowKeys.{RowMap}
+use Rattle.jv_outside.specs.promise.Causes.{Rose}
+use Rattle.jv_outside.specs.promise.Store.{Store}
 
 -- what is found is what is stored: nothing, or the bytes of the value, from which it is read
 abbrev pub IsFound : {A : Type 0} → (List ℕ → Option A) → (A → List ℕ) → Option (List ℕ) → Option A

@@ -11,7 +11,7 @@ use Rattle.jv_model.specs.declared.row.Session.{Session}
 use Rattle.jv_model.specs.declared.row.Dropped.{Dropped}
 use Rattle.jv_model.specs.declared.row.Dead.{Dead}
 use Rattle.jv_model.specs.Lists.{AreBytes}
-use Rattle.jv_model.specs.rows.RowGrammar.{is_setting, setting_bytes, setting_of, is_counters, counters_bytes, counters_of, is_node, node_bytes, node_of, is_edge, edge_bytes, edge_of, is_list, list_bytes, list_of, is_slice, slice_bytes, slice_of, is_session, session_bytes, session_of, sustained_of, dropped_bytes, dropped_of, dead_bytes, dead_of}
+use Rattle.jv_model.specs.promise.rows.RowGrammar.{is_setting, setting_bytes, setting_of, is_counters, counters_bytes, counters_of, is_node, node_bytes, node_of, is_edge, edge_bytes, edge_of, is_list, list_bytes, list_of, is_slice, slice_bytes, slice_of, is_session, session_bytes, session_of_bytes, sustained_of, dropped_bytes, dropped_of, dead_bytes, dead_of}
 
 -- of the values whose numbers have the widths of the row, those that are allowed are spelled and
 -- read again, and bytes that are read spell an allowed value
@@ -89,7 +89,7 @@ pub record RowsAreExact : Type 0 where
   pub edge : IsExact EdgeWidths is_edge edge_bytes edge_of
   pub list : IsExact ListWidths is_list list_bytes list_of
   pub slice : IsExact SliceWidths is_slice slice_bytes slice_of
-  pub session : IsExact SessionWidths is_session session_bytes session_of
+  pub session : IsExact SessionWidths is_session session_bytes session_of_bytes
   pub sustained : IsExact (λ _. Unit {0}) (λ _. true) (λ _. []) sustained_of
   pub dropped : IsExact DroppedWidths (λ _. true) dropped_bytes dropped_of
   pub dead : IsExact DeadWidths (λ _. true) dead_bytes dead_of

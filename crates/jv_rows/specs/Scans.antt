@@ -5,9 +5,10 @@ use Rattle.jv_model.specs.declared.row.RowKey.{RowKey}
 use Rattle.jv_model.specs.declared.row.Row.{Row}
 use Rattle.jv_model.specs.declared.fault.RowFault.{RowFault}
 use Rattle.jv_model.specs.declared.fault.RowFault.TheVariants.{Bad, Failed, Memory}
-use Rattle.jv_model.specs.rows.RowKeys.{RowMap}
-use Rattle.jv_model.specs.rows.RowGrammar.{row_of, is_row}
-use Rattle.jv_outside.specs.Store.{Store}
+use Rattle.jv_model.specs.promise.rows.RowKeys.{RowMap}
+use Rattle.jv_model.specs.promise.rows.RowGrammar.{row_of}
+use Rattle.jv_model.specs.rows.RowGrammar.{is_row}
+use Rattle.jv_outside.specs.promise.Store.{Store}
 use Rattle.jv_outside.specs.Rows.{rows_after}
 use Rattle.jv_rows.specs.Readings.{RowCounts}
 

@@ -4,7 +4,7 @@ use Rattle.std.specs.Option.{option_map}
 use Rattle.std.proofs.Common.{refl}
 use Rattle.jv_model.specs.declared.tables.TheConstants.{TABLE_OF_SETTING, TABLE_OF_COUNTERS, TABLE_OF_NODES, TABLE_OF_EDGES, TABLE_OF_LISTS, TABLE_OF_SLICES, TABLE_OF_SESSIONS, TABLE_OF_SUSTAINED, TABLE_OF_DROPPED, TABLE_OF_DEAD}
 use Rattle.jv_model.specs.declared.row.Row.TheVariants.{OfSetting, OfCounters, OfNode, OfEdge, OfList, OfSlice, OfSession, OfSustained, OfDropped, OfDead}
-use Rattle.jv_model.specs.rows.RowGrammar.{row_of, setting_of, counters_of, node_of, edge_of, list_of, slice_of, session_of, sustained_of, dropped_of, dead_of}
+use Rattle.jv_model.specs.promise.rows.RowGrammar.{row_of, setting_of, counters_of, node_of, edge_of, list_of, slice_of, session_of_bytes, sustained_of, dropped_of, dead_of}
 
 pub setting_row : (bytes : List ℕ)
     → row_of TABLE_OF_SETTING bytes ≡ option_map OfSetting (setting_of bytes)
@@ -34,7 +34,7 @@ unfolding row_of
 slice_row bytes = refl
 
 pub session_row : (bytes : List ℕ)
-    → row_of TABLE_OF_SESSIONS bytes ≡ option_map OfSession (session_of bytes)
+    → row_of TABLE_OF_SESSIONS bytes ≡ option_map OfSession (session_of_bytes bytes)
 unfolding row_of
 session_row bytes = refl
 

@@ -1,29 +1,22 @@
--- What a transaction on a volume's rows does, by the tree that they have.
-use Rattle.std.specs.Prelude.{◌≡◌, ℕ, Bool, false, ◌&&◌, not, ◌==◌, List, [], ◌∷◌, Option, None, Some, Result, Ok, Err, IfErr, IfSome, OnErr, IsTrue}
-use Rattle.std.specs.List.{list_any}
-use Rattle.std.specs.Int.{w64, from_be_bytes}
-use Rattle.jv_model.specs.declared.limits.TheConstants.{ROOT, TRASH_ROOT}
+-- What only inner contracts cite: of `promise/Transactions`.
+use Rattle.std.specs.Prelude.{◌≡◌, ℕ, Option, Some, Result, Ok, Err, IfErr, IfSome, OnErr}
 use Rattle.jv_model.specs.declared.basics.Who.{Who}
-use Rattle.jv_model.specs.declared.row.Row.{Row}
-use Rattle.jv_model.specs.declared.row.Row.TheVariants.{OfNode, OfEdge, OfList, OfSustained}
-use Rattle.jv_model.specs.declared.row.RowKey.{RowKey}
 use Rattle.jv_model.specs.declared.fault.Fault.{Fault}
 use Rattle.jv_model.specs.declared.fault.RowFault.TheVariants.{Bad, Failed, Memory}
 use Rattle.jv_model.specs.declared.fault.TxFault.{TxFault}
 use Rattle.jv_model.specs.declared.fault.TxFault.TheVariants.{Refused, Moved, Rows as OfRows}
 use Rattle.jv_model.specs.declared.op.Reply.{Reply}
-use Rattle.jv_model.specs.FiniteMap.{get}
-use Rattle.jv_model.specs.rows.RowGrammar.{row_bytes}
-use Rattle.jv_model.specs.rows.RowKeys.{RowMap, is_key_of}
-use Rattle.jv_model.specs.rows.RowPlaces.{setting_key, counters_key, node_key, slice_key}
-use Rattle.jv_model.specs.tree.Tree.{Tree}
-use Rattle.jv_model.specs.tree.Caller.{Caller, Outcome}
-use Rattle.jv_outside.specs.Store.{Store}
+use Rattle.jv_model.specs.promise.rows.RowKeys.{RowMap}
+use Rattle.jv_model.specs.promise.tree.Tree.{Tree}
+use Rattle.jv_model.specs.promise.tree.Caller.{Caller, Outcome}
+use Rattle.jv_outside.specs.promise.Store.{Store}
 use Rattle.jv_rows.specs.Readings.{RowCause}
-use Rattle.jv_volume.specs.TypedRows.{Rows, typed}
-use Rattle.jv_volume.specs.TreeOf.{tree_of}
-use Rattle.jv_volume.specs.Whole.{Whole, Quiet}
+use Rattle.jv_volume.specs.promise.TypedRows.{Rows, typed}
+use Rattle.jv_volume.specs.promise.TreeOf.{tree_of}
+use Rattle.jv_volume.specs.promise.Whole.{Whole}
+use Rattle.jv_volume.specs.Whole.{Quiet}
 use Rattle.jv_model.specs.Optional.{mapped}
+use Rattle.jv_rows.specs.promise.Transactions.{IsBad}
 
 -- whether there was an answer
 abbrev pub without_answer : {A : Type 0} → Result A TxFault → Result (Unit {0}) TxFault
@@ -45,30 +38,6 @@ FaultCause before now (OfRows fault) = RowCause before now fault
 abbrev pub TransactionCounts : {A : Type 0} → ℕ → ℕ → Result A TxFault → Type 0
 TransactionCounts before now (Ok x) = now ≡ before
 TransactionCounts before now (Err fault) = FaultCause before now fault
-
--- Whether a row names another: an entry its node, a directory its parent, a list its slices, and a
--- session's file, which its key spells, its node.
-abbrev pub names : RowKey → Row → RowKey → Bool
-names at (OfEdge edge) key = is_key_of (node_key edge.inode) key
-names at (OfNode node) key = (node.kind == 2) && is_key_of (node_key node.parent) key
-names at (OfList records) key =
-    list_any (λ r. not (r.id == 0) && is_key_of (slice_key r.id) key) records
-names at OfSustained key = is_key_of (node_key (from_be_bytes w64 at.b)) key
-names at _ key = false
-
--- the rows that each volume has
-abbrev pub is_needed : RowKey → Bool
-is_needed key =
-    list_any (is_key_of key) (setting_key ∷ counters_key ∷ node_key ROOT ∷ node_key TRASH_ROOT ∷ [])
-
--- Why a row is Bad: its bytes are malformed, it names a node or a slice that isn't there, or it is
--- absent where each volume has one, and then without bytes.
-pub data IsBad (rows : Rows) (at : RowKey) (bytes : List ℕ) : Type 0 where
-  Malformed : get rows at ≡ Some (Err bytes) → IsBad rows at bytes
-  NamesNone : (row : Row) → (key : RowKey) → get rows at ≡ Some (Ok row) → bytes ≡ row_bytes row
-      → IsTrue (names at row key)
-      → get rows key ≡ None → IsBad rows at bytes
-  Lacks : IsTrue (is_needed at) → get rows at ≡ None → bytes ≡ [] → IsBad rows at bytes
 
 abbrev pub BadFault : Rows → TxFault → Type 0
 BadFault rows (OfRows (Bad at bytes)) = IsBad rows at bytes

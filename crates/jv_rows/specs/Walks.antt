@@ -6,19 +6,19 @@ use Rattle.jv_model.specs.declared.fault.TxFault.{TxFault}
 use Rattle.jv_model.specs.declared.row.Row.TheVariants.{OfNode, OfEdge}
 use Rattle.jv_model.specs.declared.row.Node.{Node}
 use Rattle.jv_model.specs.declared.row.Edge.{Edge}
-use Rattle.jv_model.specs.FiniteMap.{get}
-use Rattle.jv_model.specs.rows.RowGrammar.{is_node}
-use Rattle.jv_model.specs.rows.RowPlaces.{node_key, edge_key}
-use Rattle.jv_model.specs.tree.Attempt.{◌>>=◌}
-use Rattle.jv_model.specs.tree.Tree.{Tree, EntryKey}
-use Rattle.jv_model.specs.tree.Walk.{names_of, is_absolute, stepped, way_on, entry_of, only_names}
-use Rattle.jv_outside.specs.Store.{Store}
+use Rattle.jv_model.specs.promise.FiniteMap.{get}
+use Rattle.jv_model.specs.promise.rows.RowGrammar.{is_node}
+use Rattle.jv_model.specs.promise.rows.RowPlaces.{node_key, edge_key}
+use Rattle.jv_model.specs.promise.tree.Attempt.{◌>>=◌}
+use Rattle.jv_model.specs.promise.tree.Tree.{Tree, EntryKey}
+use Rattle.jv_model.specs.promise.tree.Walk.{names_of, is_absolute, stepped, way_on, entry_of, only_names}
+use Rattle.jv_outside.specs.promise.Store.{Store}
 use Rattle.jv_rows.specs.Transactions.{Looks}
 use Rattle.jv_rows.specs.declared.walking.Place.{Place}
 use Rattle.jv_rows.specs.declared.walking.EntryPlace.{EntryPlace}
 use Rattle.jv_rows.specs.declared.walking.Leg.{Leg}
 use Rattle.jv_rows.specs.declared.walking.Leg.TheVariants.{Ends, Follows}
-use Rattle.jv_volume.specs.TypedRows.{typed}
+use Rattle.jv_volume.specs.promise.TypedRows.{typed}
 use Rattle.jv_model.specs.Optional.{mapped}
 
 -- where the rows are known, the row of a node stands at its inode

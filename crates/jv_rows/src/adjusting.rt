@@ -3,9 +3,9 @@ ghost use Rattle.std.specs.Prelude.{◌≡◌, ℕ, ◌||◌, if◌then◌else�
 ghost use Rattle.std.specs.Ordering.{nat_cmp};
 ghost use Rattle.std.specs.BTreeMap.{get};
 ghost use Rattle.jv_model.specs.declared.row.Row.TheVariants.{OfSlice};
-ghost use Rattle.jv_model.specs.rows.RowGrammar.{is_slice};
-ghost use Rattle.jv_model.specs.rows.RowKeys.{RowMap};
-ghost use Rattle.jv_model.specs.rows.RowPlaces.{slice_key};
+ghost use Rattle.jv_model.specs.promise.rows.RowGrammar.{is_slice};
+ghost use Rattle.jv_model.specs.promise.rows.RowKeys.{RowMap};
+ghost use Rattle.jv_model.specs.promise.rows.RowPlaces.{slice_key};
 ghost use Rattle.jv_rows.specs.Counts.{stored_count, recounted, may_become, with_count, LeavesStored, Recounts, Adjusts};
 ghost use Rattle.jv_rows.specs.Drafts.{Sees, Needs, drafted};
 

@@ -2,8 +2,8 @@
 ghost use Rattle.std.specs.Prelude.{◌≡◌};
 ghost use Rattle.std.specs.List.{list_all};
 ghost use Rattle.std.specs.Str.{is_utf8};
-ghost use Rattle.jv_model.specs.rows.RowGrammar.{is_setting, is_block_length, is_volume_name, is_name_byte, is_bucket, is_counters, is_node, is_of_kind, is_target, is_edge, is_list, is_slice, is_session};
-ghost use Rattle.jv_model.specs.blocks.Slices.{is_record, is_part};
+ghost use Rattle.jv_model.specs.promise.rows.RowGrammar.{is_setting, is_block_length, is_volume_name, is_name_byte, is_bucket, is_counters, is_node, is_of_kind, is_target, is_edge, is_list, is_slice, is_session};
+ghost use Rattle.jv_model.specs.promise.blocks.Slices.{is_record, is_part};
 
 use jv_model::{
     Counters, DIRECTORY_LENGTH, Edge, FULL_COUNT, LAST_CLIENT, List, MAX_BLOCK, MAX_BUCKET,

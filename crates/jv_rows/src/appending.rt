@@ -3,8 +3,8 @@
 ghost use Rattle.std.specs.Prelude.{◌≡◌, ◌++◌, ◌∷◌, [], IfOk, OnOk, OnErr};
 ghost use Rattle.std.specs.Option.{IsSome};
 ghost use Rattle.jv_model.specs.declared.tables.TheConstants.{TABLE_OF_LISTS};
-ghost use Rattle.jv_model.specs.blocks.Slices.{IsRecord};
-ghost use Rattle.jv_model.specs.rows.RowGrammar.{record_bytes, list_of};
+ghost use Rattle.jv_model.specs.promise.blocks.Slices.{IsRecord};
+ghost use Rattle.jv_model.specs.promise.rows.RowGrammar.{record_bytes, list_of};
 ghost use Rattle.jv_outside.specs.declared.batch.Change.TheVariants.{Put};
 ghost use Rattle.jv_rows.specs.Appending.{Judges, FindsLeft, AppendsTo, Appends};
 

@@ -4,9 +4,9 @@ ghost use Rattle.std.specs.List.{list_any};
 ghost use Rattle.std.specs.Option.{option_copied};
 ghost use Rattle.std.specs.Ordering.{eq_by_cmp};
 ghost use Rattle.jv_model.specs.declared.row.Row.TheVariants.{OfSetting, OfCounters, OfNode, OfEdge, OfList, OfSlice, OfSession, OfSustained, OfDropped, OfDead};
-ghost use Rattle.jv_model.specs.rows.RowGrammar.{is_setting, is_counters, is_node, is_edge, is_list, is_slice, is_session};
-ghost use Rattle.jv_model.specs.rows.RowPlaces.{setting_key, counters_key, node_key, edge_key, list_key, slice_key, session_key, sustained_key, dropped_key, dead_key};
-ghost use Rattle.jv_model.specs.rows.RowKeys.{row_cmp};
+ghost use Rattle.jv_model.specs.promise.rows.RowGrammar.{is_setting, is_counters, is_node, is_edge, is_list, is_slice, is_session};
+ghost use Rattle.jv_model.specs.promise.rows.RowPlaces.{setting_key, counters_key, node_key, edge_key, list_key, slice_key, session_key, sustained_key, dropped_key, dead_key};
+ghost use Rattle.jv_model.specs.promise.rows.RowKeys.{row_cmp};
 ghost use Rattle.jv_outside.specs.Store.{Commits};
 ghost use Rattle.jv_rows.specs.Drafts.{Sees, Drafts, ReadsPut, cell, key_in, last_change};
 

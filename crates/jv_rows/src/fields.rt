@@ -1,5 +1,5 @@
 //! Fields at the front of bytes. Numbers are big-endian.
-ghost use Rattle.jv_model.specs.rows.RowFields.{byte_at, half_at, word_at, long_at, front_at};
+ghost use Rattle.jv_model.specs.promise.rows.RowFields.{byte_at, half_at, word_at, long_at, front_at};
 ghost use Rattle.jv_rows.specs.Reads.{Takes};
 
 use crate::misread::Misread;

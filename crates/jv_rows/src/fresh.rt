@@ -1,8 +1,9 @@
 //! The rows of a volume that was just formatted.
 ghost use Rattle.std.specs.Prelude.{◌≡◌, IfOk, IsTrue};
-ghost use Rattle.jv_model.specs.rows.RowGrammar.{is_setting};
-ghost use Rattle.jv_volume.specs.Fresh.{new_directory};
-ghost use Rattle.jv_rows.specs.FreshRows.{default_setting, fresh_rows};
+ghost use Rattle.jv_model.specs.promise.rows.RowGrammar.{is_setting};
+ghost use Rattle.jv_volume.specs.promise.Fresh.{new_directory};
+ghost use Rattle.jv_rows.specs.FreshRows.{default_setting};
+ghost use Rattle.jv_rows.specs.promise.FreshRows.{fresh_rows};
 
 use crate::writing::{put_counters, put_node, put_setting};
 use jv_model::options::DEFAULT_TRASH_DAYS;

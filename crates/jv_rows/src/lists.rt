@@ -1,6 +1,6 @@
 //! The lists of a file, one after another by their windows.
 ghost use Rattle.std.specs.Prelude.{◌≡◌, IfOk, IfSome};
-ghost use Rattle.jv_model.specs.rows.RowFields.{word};
+ghost use Rattle.jv_model.specs.promise.rows.RowFields.{word};
 ghost use Rattle.jv_rows.specs.Lists.{last_list_key, window_in, list_of_row, is_of_another, IsSpelled, FindsList};
 
 use crate::keys::key_of_list;

@@ -5,9 +5,9 @@ ghost use Rattle.jv_model.specs.declared.fault.Gone.TheVariants.{Session};
 ghost use Rattle.jv_model.specs.declared.fault.RowFault.TheVariants.{Bad};
 ghost use Rattle.jv_model.specs.declared.fault.TxFault.TheVariants.{Rows as OfRows};
 ghost use Rattle.jv_model.specs.declared.row.Row.TheVariants.{OfSetting, OfCounters, OfNode};
-ghost use Rattle.jv_model.specs.rows.RowGrammar.{is_setting, is_counters, is_node};
-ghost use Rattle.jv_model.specs.rows.RowPlaces.{setting_key, counters_key, node_key};
-ghost use Rattle.jv_model.specs.tree.Caller.{session_there};
+ghost use Rattle.jv_model.specs.promise.rows.RowGrammar.{is_setting, is_counters, is_node};
+ghost use Rattle.jv_model.specs.promise.rows.RowPlaces.{setting_key, counters_key, node_key};
+ghost use Rattle.jv_model.specs.promise.tree.Caller.{session_there};
 ghost use Rattle.jv_rows.specs.Drafts.{Needs};
 ghost use Rattle.jv_rows.specs.Transactions.{Looks};
 

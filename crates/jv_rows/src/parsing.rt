@@ -1,8 +1,8 @@
 //! What the bytes of a row spell.
 ghost use Rattle.std.specs.Prelude.{◌≡◌, ◌<◌, length, None};
 ghost use Rattle.jv_model.specs.declared.tables.TheConstants.{RECORD_LENGTH};
-ghost use Rattle.jv_model.specs.rows.RowGrammar.{setting_of, counters_of, node_of, edge_of, record_at, records_at, list_of, slice_of, session_of, sustained_of, dropped_of, dead_of};
-ghost use Rattle.jv_model.specs.rows.RowFields.{whole};
+ghost use Rattle.jv_model.specs.promise.rows.RowGrammar.{setting_of, counters_of, node_of, edge_of, record_at, records_at, list_of, slice_of, session_of_bytes, sustained_of, dropped_of, dead_of};
+ghost use Rattle.jv_model.specs.promise.rows.RowFields.{whole};
 ghost use Rattle.jv_rows.specs.Reads.{Takes, ReadsAs};
 
 use crate::allowed::{
@@ -32,7 +32,7 @@ fn settled<T: Drop>(value: T, allowed: bool, rest: &[u8]) -> Result<T, Misread>
 /// # Errors
 ///
 /// [`Misread::Malformed`] if and only if no row of the table has these bytes, and [`Misread::Memory`] out of memory.
-#[tactic(auto, unfolding(jv_model::specs::rows::RowGrammar::setting_of))]
+#[tactic(auto, unfolding(jv_model::specs::promise::rows::RowGrammar::setting_of))]
 pub fn parse_setting(alloc: Global, bytes: &[u8]) -> Result<Setting, Misread>
     ensures { ReadsAs result (setting_of bytes.now) }
 {
@@ -61,7 +61,7 @@ pub fn parse_setting(alloc: Global, bytes: &[u8]) -> Result<Setting, Misread>
 }
 
 /// The next numbers and the running totals that the bytes spell. Errors are as of [`parse_setting`].
-#[tactic(auto, unfolding(jv_model::specs::rows::RowGrammar::counters_of))]
+#[tactic(auto, unfolding(jv_model::specs::promise::rows::RowGrammar::counters_of))]
 pub fn parse_counters(bytes: &[u8]) -> Result<Counters, Misread>
     ensures { ReadsAs result (counters_of bytes.now) }
 {
@@ -82,7 +82,7 @@ pub fn parse_counters(bytes: &[u8]) -> Result<Counters, Misread>
 }
 
 /// The node that the bytes spell. Errors are as of [`parse_setting`].
-#[tactic(auto, unfolding(jv_model::specs::rows::RowGrammar::node_of))]
+#[tactic(auto, unfolding(jv_model::specs::promise::rows::RowGrammar::node_of))]
 pub fn parse_node(alloc: Global, bytes: &[u8]) -> Result<Node, Misread>
     ensures { ReadsAs result (node_of bytes.now) }
 {
@@ -112,7 +112,7 @@ pub fn parse_node(alloc: Global, bytes: &[u8]) -> Result<Node, Misread>
 }
 
 /// The entry that the bytes spell. Errors are as of [`parse_setting`].
-#[tactic(auto, unfolding(jv_model::specs::rows::RowGrammar::edge_of))]
+#[tactic(auto, unfolding(jv_model::specs::promise::rows::RowGrammar::edge_of))]
 pub fn parse_edge(bytes: &[u8]) -> Result<Edge, Misread>
     ensures { ReadsAs result (edge_of bytes.now) }
 {
@@ -130,7 +130,7 @@ fn has_no_record(bytes: &[u8])
 {}
 
 /// A record at the front of bytes, and the bytes after it.
-#[tactic(auto, unfolding(jv_model::specs::rows::RowGrammar::record_at))]
+#[tactic(auto, unfolding(jv_model::specs::promise::rows::RowGrammar::record_at))]
 pub(crate) fn take_record(bytes: &[u8]) -> Result<(Rec, &[u8]), Misread>
     ensures { Takes (λ x. (x.0, x.1.now)) result (record_at bytes.now) }
 {
@@ -171,7 +171,7 @@ fn take_records(alloc: Global, count: usize, bytes: &[u8]) -> Result<(Vec<Rec>, 
 }
 
 /// The list of a window that the bytes spell. Errors are as of [`parse_setting`].
-#[tactic(auto, unfolding(jv_model::specs::rows::RowGrammar::list_of))]
+#[tactic(auto, unfolding(jv_model::specs::promise::rows::RowGrammar::list_of))]
 pub fn parse_list(alloc: Global, bytes: &[u8]) -> Result<List, Misread>
     ensures { ReadsAs result (list_of bytes.now) }
 {
@@ -182,7 +182,7 @@ pub fn parse_list(alloc: Global, bytes: &[u8]) -> Result<List, Misread>
 }
 
 /// The slice that the bytes spell. Errors are as of [`parse_setting`].
-#[tactic(auto, unfolding(jv_model::specs::rows::RowGrammar::slice_of))]
+#[tactic(auto, unfolding(jv_model::specs::promise::rows::RowGrammar::slice_of))]
 pub fn parse_slice(bytes: &[u8]) -> Result<SliceRow, Misread>
     ensures { ReadsAs result (slice_of bytes.now) }
 {
@@ -194,9 +194,9 @@ pub fn parse_slice(bytes: &[u8]) -> Result<SliceRow, Misread>
 }
 
 /// The session that the bytes spell. Errors are as of [`parse_setting`].
-#[tactic(auto, unfolding(jv_model::specs::rows::RowGrammar::session_of))]
+#[tactic(auto, unfolding(jv_model::specs::promise::rows::RowGrammar::session_of_bytes))]
 pub fn parse_session(bytes: &[u8]) -> Result<Session, Misread>
-    ensures { ReadsAs result (session_of bytes.now) }
+    ensures { ReadsAs result (session_of_bytes bytes.now) }
 {
     let (client, rest) = take_byte(bytes)?;
     let (expiry, rest) = take_long(rest)?;
@@ -206,7 +206,7 @@ pub fn parse_session(bytes: &[u8]) -> Result<Session, Misread>
 }
 
 /// Nothing, of which the row of a sustained file consists. Errors are as of [`parse_setting`].
-#[tactic(auto, unfolding(jv_model::specs::rows::RowGrammar::sustained_of))]
+#[tactic(auto, unfolding(jv_model::specs::promise::rows::RowGrammar::sustained_of))]
 pub fn parse_sustained(bytes: &[u8]) -> Result<(), Misread>
     ensures { ReadsAs result (sustained_of bytes.now) }
 {
@@ -214,7 +214,7 @@ pub fn parse_sustained(bytes: &[u8]) -> Result<(), Misread>
 }
 
 /// The dropped file that the bytes spell. Errors are as of [`parse_setting`].
-#[tactic(auto, unfolding(jv_model::specs::rows::RowGrammar::dropped_of))]
+#[tactic(auto, unfolding(jv_model::specs::promise::rows::RowGrammar::dropped_of))]
 pub fn parse_dropped(bytes: &[u8]) -> Result<Dropped, Misread>
     ensures { ReadsAs result (dropped_of bytes.now) }
 {
@@ -223,7 +223,7 @@ pub fn parse_dropped(bytes: &[u8]) -> Result<Dropped, Misread>
 }
 
 /// The dead slice that the bytes spell. Errors are as of [`parse_setting`].
-#[tactic(auto, unfolding(jv_model::specs::rows::RowGrammar::dead_of))]
+#[tactic(auto, unfolding(jv_model::specs::promise::rows::RowGrammar::dead_of))]
 pub fn parse_dead(bytes: &[u8]) -> Result<Dead, Misread>
     ensures { ReadsAs result (dead_of bytes.now) }
 {

@@ -2,8 +2,8 @@
 //! have: that an entry's name, a window's number or a session's inode may stand in a key is a part of what a whole volume
 //! is.
 ghost use Rattle.std.specs.Prelude.{[], true};
-ghost use Rattle.jv_model.specs.rows.RowGrammar.{is_setting, setting_bytes, setting_of, is_counters, counters_bytes, counters_of, is_node, node_bytes, node_of, is_edge, edge_bytes, edge_of, is_list, list_bytes, list_of, is_slice, slice_bytes, slice_of, is_session, session_bytes, session_of, sustained_of, dropped_bytes, dropped_of, dead_bytes, dead_of};
-ghost use Rattle.jv_model.specs.rows.RowPlaces.{setting_key, counters_key, node_key, edge_key, list_key, slice_key, session_key, sustained_key, dropped_key, dead_key};
+ghost use Rattle.jv_model.specs.promise.rows.RowGrammar.{is_setting, setting_bytes, setting_of, is_counters, counters_bytes, counters_of, is_node, node_bytes, node_of, is_edge, edge_bytes, edge_of, is_list, list_bytes, list_of, is_slice, slice_bytes, slice_of, is_session, session_bytes, session_of_bytes, sustained_of, dropped_bytes, dropped_of, dead_bytes, dead_of};
+ghost use Rattle.jv_model.specs.promise.rows.RowPlaces.{setting_key, counters_key, node_key, edge_key, list_key, slice_key, session_key, sustained_key, dropped_key, dead_key};
 ghost use Rattle.jv_rows.specs.Readings.{ReadsRow};
 
 use crate::grammar::Grammar;
@@ -117,7 +117,7 @@ pub fn read_session<K: Keeper>(
     k: &mut K,
     sid: u64,
 ) -> Result<Option<Session>, RowFault>
-    ensures { ReadsRow session_of session_bytes is_session (session_key sid)
+    ensures { ReadsRow session_of_bytes session_bytes is_session (session_key sid)
         (K.seen k.old) (K.seen k.new) result }
 {
     let key = key_of_session(alloc, sid);

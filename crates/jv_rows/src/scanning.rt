@@ -1,7 +1,8 @@
 //! Several rows of a keeper, each read by its table's grammar.
 ghost use Rattle.std.specs.Prelude.{◌≡◌, Some, Ok, IfOk, IfErr, IsTrue};
 ghost use Rattle.std.specs.Option.{option_copied};
-ghost use Rattle.jv_model.specs.rows.RowGrammar.{row_of, row_bytes, is_row};
+ghost use Rattle.jv_model.specs.promise.rows.RowGrammar.{row_of, row_bytes};
+ghost use Rattle.jv_model.specs.rows.RowGrammar.{is_row};
 ghost use Rattle.jv_rows.specs.Reads.{ReadsAs, IsSpelled};
 ghost use Rattle.jv_rows.specs.Scans.{rows_read, AreAllowed, RefusesBytes, RefusesRows, ScansRows};
 
@@ -20,7 +21,7 @@ use jv_outside::Keeper;
 use std::alloc::Global;
 
 /// The row that the bytes spell in the table of that number. There are no rows in tables behind [`TABLE_OF_DEAD`].
-#[tactic(auto, unfolding(jv_model::specs::rows::RowGrammar::row_of))]
+#[tactic(auto, unfolding(jv_model::specs::promise::rows::RowGrammar::row_of))]
 fn row_in(alloc: Global, tab: u8, bytes: &[u8]) -> Result<Row, Misread>
     ensures { ReadsAs result (row_of tab bytes.now) }
 {

@@ -1,6 +1,6 @@
 //! The one spelling of each row.
 ghost use Rattle.std.specs.Prelude.{◌≡◌, ◌++◌, OnOk, IfOk, IsTrue};
-ghost use Rattle.jv_model.specs.rows.RowGrammar.{is_setting, setting_bytes, counters_bytes, node_bytes, edge_bytes, record_bytes, list_bytes, slice_bytes, session_bytes, dropped_bytes, dead_bytes};
+ghost use Rattle.jv_model.specs.promise.rows.RowGrammar.{is_setting, setting_bytes, counters_bytes, node_bytes, edge_bytes, record_bytes, list_bytes, slice_bytes, session_bytes, dropped_bytes, dead_bytes};
 
 use jv_model::tables::RECORD_LENGTH;
 use jv_model::{
@@ -24,7 +24,7 @@ const DROPPED_LENGTH: usize = 8;
 const DEAD_LENGTH: usize = 12;
 
 /// The bytes of a setting. The only error is out of memory, here and for the rows of each other table.
-#[tactic(auto, unfolding(jv_model::specs::rows::RowGrammar::setting_bytes))]
+#[tactic(auto, unfolding(jv_model::specs::promise::rows::RowGrammar::setting_bytes))]
 pub fn spell_setting(alloc: Global, s: &Setting) -> Result<Bytes, AllocError>
     requires { IsTrue (is_setting s.now) }
     ensures { IfOk result (λ bytes. bytes ≡ setting_bytes s.now) }
@@ -44,7 +44,7 @@ pub fn spell_setting(alloc: Global, s: &Setting) -> Result<Bytes, AllocError>
 }
 
 /// The bytes of the next numbers and the running totals.
-#[tactic(auto, unfolding(jv_model::specs::rows::RowGrammar::counters_bytes))]
+#[tactic(auto, unfolding(jv_model::specs::promise::rows::RowGrammar::counters_bytes))]
 pub fn spell_counters(alloc: Global, c: &Counters) -> Result<Bytes, AllocError>
     ensures { IfOk result (λ bytes. bytes ≡ counters_bytes c.now) }
 {
@@ -58,7 +58,7 @@ pub fn spell_counters(alloc: Global, c: &Counters) -> Result<Bytes, AllocError>
 }
 
 /// The bytes of a node.
-#[tactic(auto, unfolding(jv_model::specs::rows::RowGrammar::node_bytes))]
+#[tactic(auto, unfolding(jv_model::specs::promise::rows::RowGrammar::node_bytes))]
 pub fn spell_node(alloc: Global, node: &Node) -> Result<Bytes, AllocError>
     ensures { IfOk result (λ bytes. bytes ≡ node_bytes node.now) }
 {
@@ -77,7 +77,7 @@ pub fn spell_node(alloc: Global, node: &Node) -> Result<Bytes, AllocError>
 }
 
 /// The bytes of an entry.
-#[tactic(auto, unfolding(jv_model::specs::rows::RowGrammar::edge_bytes))]
+#[tactic(auto, unfolding(jv_model::specs::promise::rows::RowGrammar::edge_bytes))]
 pub fn spell_edge(alloc: Global, edge: &Edge) -> Result<Bytes, AllocError>
     ensures { IfOk result (λ bytes. bytes ≡ edge_bytes edge.now) }
 {
@@ -88,7 +88,7 @@ pub fn spell_edge(alloc: Global, edge: &Edge) -> Result<Bytes, AllocError>
 }
 
 /// Adds the bytes of a record at the end.
-#[tactic(auto, unfolding(jv_model::specs::rows::RowGrammar::record_bytes))]
+#[tactic(auto, unfolding(jv_model::specs::promise::rows::RowGrammar::record_bytes))]
 pub(crate) fn put_record(out: &mut Vec<u8>, r: &Rec) -> Result<(), AllocError>
     ensures { OnOk result (out.new.items ≡ out.old.items ++ record_bytes r.now) }
 {
@@ -101,7 +101,7 @@ pub(crate) fn put_record(out: &mut Vec<u8>, r: &Rec) -> Result<(), AllocError>
 }
 
 /// The bytes of a window's list.
-#[tactic(auto, unfolding(jv_model::specs::rows::RowGrammar::list_bytes))]
+#[tactic(auto, unfolding(jv_model::specs::promise::rows::RowGrammar::list_bytes))]
 pub fn spell_list(alloc: Global, list: &List) -> Result<Bytes, AllocError>
     ensures { IfOk result (λ bytes. bytes ≡ list_bytes list.now) }
 {
@@ -113,7 +113,7 @@ pub fn spell_list(alloc: Global, list: &List) -> Result<Bytes, AllocError>
 }
 
 /// The bytes of a slice's row.
-#[tactic(auto, unfolding(jv_model::specs::rows::RowGrammar::slice_bytes))]
+#[tactic(auto, unfolding(jv_model::specs::promise::rows::RowGrammar::slice_bytes))]
 pub fn spell_slice(alloc: Global, slice: &SliceRow) -> Result<Bytes, AllocError>
     ensures { IfOk result (λ bytes. bytes ≡ slice_bytes slice.now) }
 {
@@ -124,7 +124,7 @@ pub fn spell_slice(alloc: Global, slice: &SliceRow) -> Result<Bytes, AllocError>
 }
 
 /// The bytes of a session.
-#[tactic(auto, unfolding(jv_model::specs::rows::RowGrammar::session_bytes))]
+#[tactic(auto, unfolding(jv_model::specs::promise::rows::RowGrammar::session_bytes))]
 pub fn spell_session(alloc: Global, session: &Session) -> Result<Bytes, AllocError>
     ensures { IfOk result (λ bytes. bytes ≡ session_bytes session.now) }
 {
@@ -135,7 +135,7 @@ pub fn spell_session(alloc: Global, session: &Session) -> Result<Bytes, AllocErr
 }
 
 /// The bytes of a dropped file's row.
-#[tactic(auto, unfolding(jv_model::specs::rows::RowGrammar::dropped_bytes))]
+#[tactic(auto, unfolding(jv_model::specs::promise::rows::RowGrammar::dropped_bytes))]
 pub fn spell_dropped(alloc: Global, dropped: &Dropped) -> Result<Bytes, AllocError>
     ensures { IfOk result (λ bytes. bytes ≡ dropped_bytes dropped.now) }
 {
@@ -145,7 +145,7 @@ pub fn spell_dropped(alloc: Global, dropped: &Dropped) -> Result<Bytes, AllocErr
 }
 
 /// The bytes of a dead slice's row.
-#[tactic(auto, unfolding(jv_model::specs::rows::RowGrammar::dead_bytes))]
+#[tactic(auto, unfolding(jv_model::specs::promise::rows::RowGrammar::dead_bytes))]
 pub fn spell_dead(alloc: Global, dead: &Dead) -> Result<Bytes, AllocError>
     ensures { IfOk result (λ bytes. bytes ≡ dead_bytes dead.now) }
 {

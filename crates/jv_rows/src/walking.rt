@@ -5,13 +5,13 @@ ghost use Rattle.jv_model.specs.declared.fault.Fault.TheVariants.{NotFound};
 ghost use Rattle.jv_model.specs.declared.fault.RowFault.TheVariants.{Bad};
 ghost use Rattle.jv_model.specs.declared.fault.TxFault.TheVariants.{Rows as OfRows};
 ghost use Rattle.jv_model.specs.declared.limits.TheConstants.{MAX_SYMLINKS};
-ghost use Rattle.jv_model.specs.FiniteMap.{get};
-ghost use Rattle.jv_model.specs.rows.RowGrammar.{is_node};
-ghost use Rattle.jv_model.specs.tree.Attempt.{some_or};
-ghost use Rattle.jv_model.specs.tree.Walk.{names_of, is_absolute, is_dot, is_dot_dot, is_trash, stepped, walk as walked, inode_by};
+ghost use Rattle.jv_model.specs.promise.FiniteMap.{get};
+ghost use Rattle.jv_model.specs.promise.rows.RowGrammar.{is_node};
+ghost use Rattle.jv_model.specs.promise.tree.Attempt.{some_or};
+ghost use Rattle.jv_model.specs.promise.tree.Walk.{names_of, is_absolute, is_dot, is_dot_dot, is_trash, stepped, walk as walked, inode_by};
 ghost use Rattle.jv_rows.specs.Transactions.{Looks};
 ghost use Rattle.jv_rows.specs.Walks.{HasNodeRow, HasEdgeRow, Comes, ComesToEntry, Goes, onward, course, one_name, entry_pair};
-ghost use Rattle.jv_volume.specs.Shape.{is_top};
+ghost use Rattle.jv_volume.specs.promise.Shape.{is_top};
 
 use crate::keys::{key_of_edge, key_of_node};
 use crate::reading::{read_edge, read_node};

@@ -1,7 +1,7 @@
 //! Rows written into a batch, each in its one spelling.
 ghost use Rattle.std.specs.Prelude.{◌≡◌, [], ◌∷◌, ◌++◌, OnOk, OnErr, IsTrue};
-ghost use Rattle.jv_model.specs.rows.RowGrammar.{is_setting, setting_bytes, is_counters, counters_bytes, is_node, node_bytes, is_edge, edge_bytes, is_list, list_bytes, is_slice, slice_bytes, is_session, session_bytes, dropped_bytes, dead_bytes};
-ghost use Rattle.jv_model.specs.rows.RowPlaces.{setting_key, counters_key, node_key, edge_key, list_key, slice_key, session_key, sustained_key, dropped_key, dead_key};
+ghost use Rattle.jv_model.specs.promise.rows.RowGrammar.{is_setting, setting_bytes, is_counters, counters_bytes, is_node, node_bytes, is_edge, edge_bytes, is_list, list_bytes, is_slice, slice_bytes, is_session, session_bytes, dropped_bytes, dead_bytes};
+ghost use Rattle.jv_model.specs.promise.rows.RowPlaces.{setting_key, counters_key, node_key, edge_key, list_key, slice_key, session_key, sustained_key, dropped_key, dead_key};
 ghost use Rattle.jv_outside.specs.declared.batch.Change.TheVariants.{Put};
 
 use crate::keys::{

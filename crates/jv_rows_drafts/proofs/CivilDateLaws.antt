@@ -16,8 +16,8 @@ use Rattle.jiff_core.proofs.DateTimeLemmas.{civil_nanos-parts, time_nanos_bound}
 use Rattle.jv_model.specs.declared.limits.TheConstants.{LAST_MOMENT}
 use Rattle.jv_model.specs.declared.lifetimes.TheConstants.{HOUR}
 use Rattle.jv_rows_drafts.specs.CivilDates.{IsDateOf}
-use Rattle.jv_model.specs.tree.HourNames.{day_hours, hour_at, hour_name, date_text, two_digits, year_in_era, days_before_year, month_in_year, days_before_month, date_of, era_days, days_before_1970}
-use Rattle.jv_volume.proofs.HourNameLaws.{year_begins, year_few, month_begins, era_of, in_era, in_year, in_era_few}
+use Rattle.jv_model.specs.promise.tree.HourNames.{day_hours, hour_at, hour_name, date_text, two_digits, year_in_era, days_before_year, month_in_year, days_before_month, date_of, era_days, days_before_1970}
+use Rattle.jv_volume.proofs.names.HourNameLaws.{year_begins, year_few, month_begins, era_of, in_era, in_year, in_era_few}
 
 -- A day of an era: its year, and its day in that year, which is within the year from March on to the end of February.
 

@@ -9,19 +9,21 @@ use Rattle.jv_model.specs.declared.fault.TxFault.TheVariants.{Refused, Moved, Ro
 use Rattle.jv_model.specs.declared.limits.TheConstants.{ROOT, TRASH_ROOT}
 use Rattle.jv_model.specs.declared.row.Row.{Row}
 use Rattle.jv_model.specs.declared.row.RowKey.{RowKey}
-use Rattle.jv_model.specs.FiniteMap.{get, alter}
-use Rattle.jv_model.specs.rows.RowKeys.{RowMap, row_key, is_key_of}
-use Rattle.jv_model.specs.rows.RowPlaces.{node_key}
-use Rattle.jv_model.specs.tree.Tree.{Tree}
+use Rattle.jv_model.specs.promise.FiniteMap.{get}
+use Rattle.jv_model.specs.FiniteMap.{alter}
+use Rattle.jv_model.specs.promise.rows.RowKeys.{RowMap, row_key, is_key_of}
+use Rattle.jv_model.specs.promise.rows.RowPlaces.{node_key}
+use Rattle.jv_model.specs.promise.tree.Tree.{Tree}
 use Rattle.jv_outside.specs.declared.batch.Change.{Change}
-use Rattle.jv_outside.specs.Store.{Store}
+use Rattle.jv_outside.specs.promise.Store.{Store}
 use Rattle.jv_rows.specs.Drafts.{drafted, cell, Drafts, Sees, RefusesCell, Needs, IsNoRow, RefusesNeeded}
 use Rattle.jv_rows.specs.Readings.{RowCause}
-use Rattle.jv_rows.specs.Transactions.{FaultCause, is_needed, IsBad, Malformed, Lacks, BadFault}
-use Rattle.jv_volume.specs.Shape.{is_top}
-use Rattle.jv_volume.specs.TypedRows.{Cell, Rows, typed}
-use Rattle.jv_volume.proofs.MapLaws.{get-alter-here, get-alter-apart}
-use Rattle.jv_volume.proofs.ShapeMapLaws.{same_or_apart, tied_apart}
+use Rattle.jv_rows.specs.Transactions.{FaultCause, BadFault}
+use Rattle.jv_rows.specs.promise.Transactions.{is_needed, IsBad, Malformed, Lacks}
+use Rattle.jv_volume.specs.promise.Shape.{is_top}
+use Rattle.jv_volume.specs.promise.TypedRows.{Cell, Rows, typed}
+use Rattle.jv_volume.proofs.maps.MapLaws.{get-alter-here, get-alter-apart}
+use Rattle.jv_volume.proofs.shapes.ShapeMapLaws.{same_or_apart, tied_apart}
 use Rattle.jv_rows_drafts.specs.Drafting.{Minds, AreRows, Led, LeadsTo, Drafting}
 use Rattle.jv_model.proofs.TestLaws.{if_some-by, of_known}
 

@@ -6,22 +6,23 @@ use Rattle.jv_model.specs.declared.fault.RowFault.TheVariants.{Bad, Failed, Memo
 use Rattle.jv_model.specs.declared.fault.TxFault.{TxFault}
 use Rattle.jv_model.specs.declared.fault.TxFault.TheVariants.{Refused, Moved, Rows as OfRows}
 use Rattle.jv_model.specs.declared.op.Reply.{Reply}
-use Rattle.jv_model.specs.rows.RowKeys.{RowMap}
-use Rattle.jv_model.specs.tree.Tree.{Tree}
-use Rattle.jv_model.specs.tree.Caller.{Outcome, answered}
+use Rattle.jv_model.specs.promise.rows.RowKeys.{RowMap}
+use Rattle.jv_model.specs.promise.tree.Tree.{Tree}
+use Rattle.jv_model.specs.promise.tree.Caller.{Outcome, answered}
 use Rattle.jv_outside.specs.declared.batch.Change.{Change}
-use Rattle.jv_outside.specs.Rows.{applied}
-use Rattle.jv_outside.specs.Store.{Store, Commits}
+use Rattle.jv_outside.specs.promise.Rows.{applied}
+use Rattle.jv_outside.specs.promise.Store.{Store}
+use Rattle.jv_outside.specs.Store.{Commits}
 use Rattle.std.specs.Option.{option_map}
 use Rattle.jv_rows.specs.Drafts.{drafted}
 use Rattle.jv_rows.specs.Transactions.{FaultCause, BadFault, Landed, Lands, Transacts}
-use Rattle.jv_rows.proofs.TransactionLaws.{Past, Fails, FailsBy}
-use Rattle.jv_volume.specs.TypedRows.{typed}
-use Rattle.jv_volume.specs.TreeOf.{tree_of}
-use Rattle.jv_volume.specs.Shape.{WholeShape, shape_of}
-use Rattle.jv_volume.specs.Whole.{Whole, no_bytes}
-use Rattle.jv_volume.proofs.QuietLaws.{quiet-none, quiet-slices}
-use Rattle.jv_volume.proofs.StoredLaws.{same_shape, stored-again, whole-stored}
+use Rattle.jv_rows.proofs.transactions.TransactionLaws.{Past, Fails, FailsBy}
+use Rattle.jv_volume.specs.promise.TypedRows.{typed}
+use Rattle.jv_volume.specs.promise.TreeOf.{tree_of}
+use Rattle.jv_volume.specs.promise.Shape.{WholeShape, shape_of}
+use Rattle.jv_volume.specs.promise.Whole.{Whole, no_bytes}
+use Rattle.jv_volume.proofs.stored.QuietLaws.{quiet-none, quiet-slices}
+use Rattle.jv_volume.proofs.stored.StoredLaws.{same_shape, stored-again, whole-stored}
 use Rattle.jv_rows_drafts.specs.Drafting.{Minds, AreRows, Led, LeadsTo, Drafting}
 use Rattle.jv_rows_drafts.proofs.LengthLaws.{lengths-none}
 use Rattle.jv_model.proofs.TestLaws.{if_some-by, of_known, same_Ok}

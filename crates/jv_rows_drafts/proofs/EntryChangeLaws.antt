@@ -11,24 +11,26 @@ use Rattle.jv_model.specs.declared.fault.TxFault.TheVariants.{Refused}
 use Rattle.jv_model.specs.declared.row.Node.{Node as NodeRow}
 use Rattle.jv_model.specs.declared.row.Edge.{Edge}
 use Rattle.jv_model.specs.declared.row.Row.TheVariants.{OfNode, OfEdge}
-use Rattle.jv_model.specs.FiniteMap.{get, insert, alter}
-use Rattle.jv_model.specs.rows.RowKeys.{RowMap}
-use Rattle.jv_model.specs.rows.RowPlaces.{node_key, edge_key}
-use Rattle.jv_model.specs.tree.Attempt.{◌>>=◌, require}
-use Rattle.jv_model.specs.tree.Tree.{Tree, Node, EntryKey, parent_of, is_directory, link_count, links_fit, node_at}
-use Rattle.jv_model.specs.tree.Changes.{put_entry, take_entry}
+use Rattle.jv_model.specs.promise.FiniteMap.{get, insert}
+use Rattle.jv_model.specs.FiniteMap.{alter}
+use Rattle.jv_model.specs.promise.rows.RowKeys.{RowMap}
+use Rattle.jv_model.specs.promise.rows.RowPlaces.{node_key, edge_key}
+use Rattle.jv_model.specs.promise.tree.Attempt.{◌>>=◌, require}
+use Rattle.jv_model.specs.promise.tree.Tree.{Tree, Node, EntryKey, parent_of, is_directory, link_count, links_fit, node_at}
+use Rattle.jv_model.specs.promise.tree.Changes.{put_entry, take_entry}
 use Rattle.jv_outside.specs.declared.batch.Change.{Change}
-use Rattle.jv_outside.specs.Store.{Store}
+use Rattle.jv_outside.specs.promise.Store.{Store}
 use Rattle.jv_rows.specs.Drafts.{drafted}
-use Rattle.jv_volume.specs.TypedRows.{Cell, Rows, is_entry_name, typed}
-use Rattle.jv_volume.specs.Views.{row_in, node_in, node_row_at}
-use Rattle.jv_volume.specs.TreeOf.{tree_of}
-use Rattle.jv_volume.specs.Stored.{Stored, links_by, directory_touched}
-use Rattle.jv_volume.specs.Whole.{IsRowAt}
-use Rattle.jv_volume.proofs.SeenLaws.{row-put}
-use Rattle.jv_volume.proofs.StoredLaws.{HasNode, found_node}
-use Rattle.jv_volume.proofs.StoredStepLaws.{alter_kept, node_apart, node_here}
-use Rattle.jv_volume.proofs.EntryStepLaws.{rows_with_entry, tree_of-entry_in, stored-entry_in, rows_without_entry, tree_of-entry_out, stored-entry_out}
+use Rattle.jv_volume.specs.promise.TypedRows.{Cell, Rows, is_entry_name, typed}
+use Rattle.jv_volume.specs.promise.Views.{row_in, node_in, node_row_at}
+use Rattle.jv_volume.specs.promise.TreeOf.{tree_of}
+use Rattle.jv_volume.specs.promise.Stored.{Stored}
+use Rattle.jv_volume.specs.Stored.{links_by, directory_touched}
+use Rattle.jv_volume.specs.promise.Whole.{IsRowAt}
+use Rattle.jv_volume.proofs.maps.SeenLaws.{row-put}
+use Rattle.jv_volume.proofs.stored.StoredLaws.{HasNode, found_node}
+use Rattle.jv_volume.proofs.stored.StoredStepLaws.{alter_kept, node_apart, node_here}
+use Rattle.jv_volume.proofs.stored.EntryStepLaws.{rows_with_entry, tree_of-entry_in, stored-entry_in, rows_without_entry, tree_of-entry_out, stored-entry_out}
 use Rattle.jv_rows_drafts.specs.Drafting.{Minds, Drafting}
 use Rattle.jv_rows_drafts.specs.Present.{Presents, links_to_node, linked_row}
 use Rattle.jv_rows_drafts.specs.Ready.{StandsAt, MayStandAt, entry_put, IsThere}

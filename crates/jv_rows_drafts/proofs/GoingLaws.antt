@@ -7,32 +7,33 @@ use Rattle.jv_model.specs.declared.row.Counters.{Counters}
 use Rattle.jv_model.specs.declared.row.Node.{Node as NodeRow}
 use Rattle.jv_model.specs.declared.row.Row.TheVariants.{OfCounters, OfSustained, OfDropped}
 use Rattle.jv_model.specs.declared.row.RowKey.{RowKey}
-use Rattle.jv_model.specs.FiniteMap.{get, insert, remove}
+use Rattle.jv_model.specs.promise.FiniteMap.{get, insert, remove}
 use Rattle.jv_model.specs.declared.fault.TxFault.{TxFault}
-use Rattle.jv_model.specs.rows.RowGrammar.{is_counters}
-use Rattle.jv_model.specs.rows.RowKeys.{row_key, RowMap}
-use Rattle.jv_model.specs.rows.RowPlaces.{counters_key, node_key, sustained_key, dropped_key}
-use Rattle.jv_model.specs.tree.Changes.{drop_node, content_of}
-use Rattle.jv_model.specs.tree.Tree.{Tree, File, Directory, Symlink, paged, kind_space, node_space, node_count, is_counted}
+use Rattle.jv_model.specs.promise.rows.RowGrammar.{is_counters}
+use Rattle.jv_model.specs.promise.rows.RowKeys.{row_key, RowMap}
+use Rattle.jv_model.specs.promise.rows.RowPlaces.{counters_key, node_key, sustained_key, dropped_key}
+use Rattle.jv_model.specs.promise.tree.Changes.{drop_node, content_of}
+use Rattle.jv_model.specs.promise.tree.Tree.{Tree, File, Directory, Symlink, paged, kind_space, node_space, node_count, is_counted}
 use Rattle.jv_outside.specs.declared.batch.Change.{Change}
-use Rattle.jv_outside.specs.Store.{Store}
+use Rattle.jv_outside.specs.promise.Store.{Store}
 use Rattle.jv_rows.specs.Drafts.{drafted, Needs}
 use Rattle.jv_rows.specs.Transactions.{Always}
-use Rattle.jv_rows.proofs.WalkLaws.{of_top}
-use Rattle.jv_volume.specs.TypedRows.{Cell, Rows, typed}
-use Rattle.jv_volume.specs.Views.{row_in, counters_in, counters_at, node_row_at}
-use Rattle.jv_volume.specs.TreeOf.{counters_of, node_of, kind_of, tree_of}
-use Rattle.jv_volume.specs.Shape.{is_top}
-use Rattle.jv_volume.specs.Stored.{Stored}
-use Rattle.jv_volume.specs.Whole.{IsRowAt, file_length}
-use Rattle.jv_volume.proofs.FileStepLaws.{files-other, files-drop_other, files-put_counters, files-drop_file}
-use Rattle.jv_volume.proofs.MapLaws.{alter-swap}
-use Rattle.jv_volume.proofs.QuietLaws.{quiet-alter, quiet-drop_file, quiet-drop_other, quiet-put_counters}
-use Rattle.jv_volume.proofs.SeenLaws.{AreRows, node-seen, counters-seen, row-put, rows-alter}
-use Rattle.jv_volume.proofs.StoredLaws.{of_node, of_counters}
-use Rattle.jv_volume.proofs.StoredStepLaws.{rows_without_node, tree_of-old_node, stored-old_node, alter_kept}
-use Rattle.jv_volume.proofs.TableStepLaws.{stored-put_sustained, stored-unseen}
-use Rattle.jv_volume.proofs.TreeOfLaws.{next_inode-tree_of, tree_of-insert-unseen, tree_of-put_sustained}
+use Rattle.jv_rows.proofs.walks.WalkLaws.{of_top}
+use Rattle.jv_volume.specs.promise.TypedRows.{Cell, Rows, typed}
+use Rattle.jv_volume.specs.promise.Views.{row_in, counters_in, counters_at, node_row_at}
+use Rattle.jv_volume.specs.promise.TreeOf.{counters_of_rows, node_of_row, kind_of, tree_of}
+use Rattle.jv_volume.specs.promise.Shape.{is_top}
+use Rattle.jv_volume.specs.promise.Stored.{Stored}
+use Rattle.jv_volume.specs.promise.Whole.{IsRowAt}
+use Rattle.jv_volume.specs.Whole.{file_length}
+use Rattle.jv_volume.proofs.stored.FileStepLaws.{files-other, files-drop_other, files-put_counters, files-drop_file}
+use Rattle.jv_volume.proofs.maps.MapLaws.{alter-swap}
+use Rattle.jv_volume.proofs.stored.QuietLaws.{quiet-alter, quiet-drop_file, quiet-drop_other, quiet-put_counters}
+use Rattle.jv_volume.proofs.maps.SeenLaws.{AreRows, node-seen, counters-seen, row-put, rows-alter}
+use Rattle.jv_volume.proofs.stored.StoredLaws.{of_node, of_counters}
+use Rattle.jv_volume.proofs.stored.StoredStepLaws.{rows_without_node, tree_of-old_node, stored-old_node, alter_kept}
+use Rattle.jv_volume.proofs.stored.TableStepLaws.{stored-put_sustained, stored-unseen}
+use Rattle.jv_volume.proofs.stored.TreeOfLaws.{next_inode-tree_of, tree_of-insert-unseen, tree_of-put_sustained}
 use Rattle.jv_rows_drafts.specs.Drafting.{KeepsLengths, Minds, AreRows as AreRowsInMind, Led, Drafting}
 use Rattle.jv_rows_drafts.specs.Lowered.{space_taken, lowered, with_dropped, with_lowered}
 use Rattle.jv_rows_drafts.specs.Present.{Presents}
@@ -94,9 +95,9 @@ space_is byte row = by_kind (row.kind == 1) (row.kind == 2)
 
 lowered_is : (byte : ℕ → ℕ) (inode : ℕ) (row : NodeRow) (c : Counters) → is_counted inode ≡ true
     → record c {
-      used_space = c.used_space - node_space inode (node_of byte row);
+      used_space = c.used_space - node_space inode (node_of_row byte row);
       used_inodes =
-          c.used_inodes - node_count inode (node_of byte row);
+          c.used_inodes - node_count inode (node_of_row byte row);
     }
     ≡ lowered row c
 lowered_is byte inode row c counted =
@@ -125,7 +126,7 @@ module _ (start rows : Rows) (bytes : ℕ → ℕ → ℕ) (inode : ℕ) (row : 
   counters_are : counters_at rows ≡ Some c
   counters_are = counters-seen rows (Some c) counters
 
-  given : inode < (counters_of rows).inode
+  given : inode < (counters_of_rows rows).inode
   given = subst (λ n. inode < n) (next_inode-tree_of bytes rows) may.given
 
   -- the counters put after the node went

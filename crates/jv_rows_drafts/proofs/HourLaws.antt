@@ -8,31 +8,31 @@ use Rattle.jv_model.specs.declared.limits.TheConstants.{MAX_LINKS, READ_ONLY_MOD
 use Rattle.jv_model.specs.declared.row.Counters.{Counters}
 use Rattle.jv_model.specs.declared.row.Dropped.{Dropped}
 use Rattle.jv_model.specs.declared.row.Node.{Node as NodeRow}
-use Rattle.jv_model.specs.FiniteMap.{number_key, insert}
-use Rattle.jv_model.specs.rows.RowKeys.{row_key}
-use Rattle.jv_model.specs.rows.RowPlaces.{counters_key, node_key}
-use Rattle.jv_model.specs.tree.Attempt.{◌>>=◌, require}
-use Rattle.jv_model.specs.tree.Changes.{put_node, put_entry, with_node}
-use Rattle.jv_model.specs.tree.HourNames.{Date, date_of, date_text, day_hours, hour_name, two_digits}
-use Rattle.jv_model.specs.tree.Trash.{hour_inode, hour_place, with_hour}
-use Rattle.jv_model.specs.tree.Tree.{Tree, Node, Directory, new_node, node_at, is_directory, is_counted, node_space, node_count, link_count, links_fit}
+use Rattle.jv_model.specs.promise.FiniteMap.{number_key, insert}
+use Rattle.jv_model.specs.promise.rows.RowKeys.{row_key}
+use Rattle.jv_model.specs.promise.rows.RowPlaces.{counters_key, node_key}
+use Rattle.jv_model.specs.promise.tree.Attempt.{◌>>=◌, require}
+use Rattle.jv_model.specs.promise.tree.Changes.{put_node, put_entry, with_node}
+use Rattle.jv_model.specs.promise.tree.HourNames.{Date, date_of, date_text, day_hours, hour_name, two_digits}
+use Rattle.jv_model.specs.promise.tree.Trash.{hour_inode, hour_place, with_hour}
+use Rattle.jv_model.specs.promise.tree.Tree.{Tree, Node, Directory, new_node, node_at, is_directory, is_counted, node_space, node_count, link_count, links_fit}
 use Rattle.jv_model.proofs.TestLaws.{and_false}
-use Rattle.jv_volume.specs.TypedRows.{Cell, Rows, is_entry_name}
-use Rattle.jv_volume.specs.Views.{counters_at, node_row_at, dropped_at}
-use Rattle.jv_volume.specs.TreeOf.{node_of, tree_of}
-use Rattle.jv_volume.specs.Stored.{Stored, counters_row}
-use Rattle.jv_volume.proofs.FileStepLaws.{files-node}
-use Rattle.jv_volume.proofs.HourNameLaws.{last_hour}
-use Rattle.jv_volume.proofs.HourShapeLaws.{hour_inode_high}
-use Rattle.jv_volume.proofs.LinkLaws.{IsFree, standing_apart, standing_here, dirs-shape, is_directory-put_here, is_directory-put_apart, link_count-put_alone, link_count-put_unnamed, link_count-put_entry-dir}
-use Rattle.jv_volume.proofs.MapLaws.{alter-same}
-use Rattle.jv_volume.proofs.QuietLaws.{no_file-left, quiet-new_node}
-use Rattle.jv_volume.proofs.SeenLaws.{row-put, rows-alter, counters-seen}
-use Rattle.jv_volume.proofs.ShapeMapLaws.{get-inserted}
-use Rattle.jv_volume.proofs.StoredLaws.{of_node, of_counters}
-use Rattle.jv_volume.proofs.StoredStepLaws.{rows_with_node, counters_with_node, stored-new_node, put_kept}
-use Rattle.jv_volume.proofs.TreeOfLaws.{next_inode-tree_of, node_at-tree_of, tree_of-put_node}
-use Rattle.jv_volume.proofs.WholeLaws.{read_only-row}
+use Rattle.jv_volume.specs.promise.TypedRows.{Cell, Rows, is_entry_name}
+use Rattle.jv_volume.specs.promise.Views.{counters_at, node_row_at, dropped_at}
+use Rattle.jv_volume.specs.promise.TreeOf.{node_of_row, tree_of}
+use Rattle.jv_volume.specs.promise.Stored.{Stored, counters_row}
+use Rattle.jv_volume.proofs.stored.FileStepLaws.{files-node}
+use Rattle.jv_volume.proofs.names.HourNameLaws.{last_hour}
+use Rattle.jv_volume.proofs.shapes.HourShapeLaws.{hour_inode_high}
+use Rattle.jv_volume.proofs.sums.LinkLaws.{IsFree, standing_apart, standing_here, dirs-shape, is_directory-put_here, is_directory-put_apart, link_count-put_alone, link_count-put_unnamed, link_count-put_entry-dir}
+use Rattle.jv_volume.proofs.maps.MapLaws.{alter-same}
+use Rattle.jv_volume.proofs.stored.QuietLaws.{no_file-left, quiet-new_node}
+use Rattle.jv_volume.proofs.maps.SeenLaws.{row-put, rows-alter, counters-seen}
+use Rattle.jv_volume.proofs.shapes.ShapeMapLaws.{get-inserted}
+use Rattle.jv_volume.proofs.stored.StoredLaws.{of_node, of_counters}
+use Rattle.jv_volume.proofs.stored.StoredStepLaws.{rows_with_node, counters_with_node, stored-new_node, put_kept}
+use Rattle.jv_volume.proofs.stored.TreeOfLaws.{next_inode-tree_of, node_at-tree_of, tree_of-put_node}
+use Rattle.jv_volume.proofs.whole.WholeLaws.{read_only-row}
 use Rattle.jv_rows_drafts.specs.Ready.{MayHaveHour, MayStandAt, hour_row, entry_put}
 use Rattle.jv_rows_drafts.proofs.GoingLaws.{OfTree}
 use Rattle.jv_rows_drafts.proofs.HourLinkLaws.{trash_links}
@@ -171,7 +171,7 @@ module _ (start rows : Rows) (bytes : ℕ → ℕ → ℕ) (now hour : ℕ) (m :
   with_row = insert rows (node_key (hour_inode hour)) (of_node (hour_row now))
 
   no_node : node_at (tree_of bytes rows) (hour_inode hour) ≡ None
-  no_node = node_at-tree_of bytes rows inode ∙ ap (option_map (node_of (bytes inode))) absent
+  no_node = node_at-tree_of bytes rows inode ∙ ap (option_map (node_of_row (bytes inode))) absent
 
   free : IsFree (tree_of bytes rows) (hour_inode hour)
   free = hour_free (tree_of bytes rows) now hour may low no_node
@@ -188,11 +188,11 @@ module _ (start rows : Rows) (bytes : ℕ → ℕ → ℕ) (now hour : ℕ) (m :
       }
     where
       same_space : is_counted inode ≡ false
-          → c.used_space + node_space inode (node_of (bytes inode) (hour_row now)) ≡ c.used_space
+          → c.used_space + node_space inode (node_of_row (bytes inode) (hour_row now)) ≡ c.used_space
       same_space none = ap (λ b. c.used_space + (if b then 4096 else 0)) none ∙ omega arith
 
       same_inodes : is_counted inode ≡ false
-          → c.used_inodes + node_count inode (node_of (bytes inode) (hour_row now)) ≡ c.used_inodes
+          → c.used_inodes + node_count inode (node_of_row (bytes inode) (hour_row now)) ≡ c.used_inodes
       same_inodes none = ap (λ b. c.used_inodes + (if b then 1 else 0)) none ∙ omega arith
 
   same_rows : rows_with_node bytes rows inode (hour_row now) c c.inode m.stored counters_are free refl ≡ with_row

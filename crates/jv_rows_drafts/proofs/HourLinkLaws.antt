@@ -4,14 +4,14 @@ use Rattle.std.specs.Prelude.{◌==◌, ◌&&◌, if◌then◌else◌, nat_lt, n
 use Rattle.std.proofs.lemmas.Bool.{cases_eq, cond-false, ne_eqb, leb-true, and_parts}
 use Rattle.jv_model.specs.declared.limits.TheConstants.{TRASH_ROOT}
 use Rattle.jv_model.specs.declared.lifetimes.TheConstants.{FIRST_HOUR}
-use Rattle.jv_model.specs.FiniteMap.{Map, get, remove, sum_over}
-use Rattle.jv_model.specs.tree.Tree.{Tree, EntryKey, entry_key, link_count, name_count}
-use Rattle.jv_model.specs.tree.Trash.{hour_of, hour_place}
+use Rattle.jv_model.specs.promise.FiniteMap.{Map, get, remove, sum_over}
+use Rattle.jv_model.specs.promise.tree.Tree.{Tree, EntryKey, entry_key, link_count, name_count}
+use Rattle.jv_model.specs.promise.tree.Trash.{hour_of, hour_place}
 use Rattle.jv_model.proofs.TestLaws.{at_most_one}
-use Rattle.jv_volume.specs.Shape.{NamesHour, shape_of}
-use Rattle.jv_volume.proofs.LinkLaws.{within_of, dirs_of, link_count-shape}
-use Rattle.jv_volume.proofs.MapLaws.{sum-gone, sum-nothing, remove-absent}
-use Rattle.jv_volume.proofs.ShapeMapLaws.{get-removed, get-remove_apart, same_or_apart}
+use Rattle.jv_volume.specs.promise.Shape.{NamesHour, shape_of}
+use Rattle.jv_volume.proofs.sums.LinkLaws.{within_of, dirs_of, link_count-shape}
+use Rattle.jv_volume.proofs.maps.MapLaws.{sum-gone, sum-nothing, remove-absent}
+use Rattle.jv_volume.proofs.shapes.ShapeMapLaws.{get-removed, get-remove_apart, same_or_apart}
 
 -- an entry adds nothing to a sum, or is that of an hour below a bound
 data AddsFew (n : ℕ) (at : EntryKey) (adds : ℕ) : Type 0 where

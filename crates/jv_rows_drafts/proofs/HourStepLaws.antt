@@ -10,25 +10,25 @@ use Rattle.jv_model.specs.declared.fault.TxFault.TheVariants.{Refused, Moved, Ro
 use Rattle.jv_model.specs.declared.limits.TheConstants.{LAST_MOMENT, TRASH_ROOT}
 use Rattle.jv_model.specs.declared.row.Node.{Node as NodeRow}
 use Rattle.jv_model.specs.declared.row.Row.TheVariants.{OfNode}
-use Rattle.jv_model.specs.FiniteMap.{get, insert}
-use Rattle.jv_model.specs.rows.RowGrammar.{is_node}
-use Rattle.jv_model.specs.rows.RowKeys.{RowMap}
-use Rattle.jv_model.specs.rows.RowPlaces.{node_key}
-use Rattle.jv_model.specs.tree.Changes.{put_node}
-use Rattle.jv_model.specs.tree.HourNames.{hour_at, hour_name}
-use Rattle.jv_model.specs.tree.Trash.{hour_inode, hour_place, with_hour}
-use Rattle.jv_model.specs.tree.Tree.{Tree, Node, node_at, parent_of}
+use Rattle.jv_model.specs.promise.FiniteMap.{get, insert}
+use Rattle.jv_model.specs.promise.rows.RowGrammar.{is_node}
+use Rattle.jv_model.specs.promise.rows.RowKeys.{RowMap}
+use Rattle.jv_model.specs.promise.rows.RowPlaces.{node_key}
+use Rattle.jv_model.specs.promise.tree.Changes.{put_node}
+use Rattle.jv_model.specs.promise.tree.HourNames.{hour_at, hour_name}
+use Rattle.jv_model.specs.promise.tree.Trash.{hour_inode, hour_place, with_hour}
+use Rattle.jv_model.specs.promise.tree.Tree.{Tree, Node, node_at, parent_of}
 use Rattle.jv_outside.specs.declared.batch.Change.{Change}
-use Rattle.jv_outside.specs.Store.{Store}
+use Rattle.jv_outside.specs.promise.Store.{Store}
 use Rattle.jv_rows.specs.Drafts.{drafted, cell, Sees, Needs}
 use Rattle.jv_rows.specs.Transactions.{FaultCause, BadFault}
-use Rattle.jv_volume.specs.TypedRows.{Cell, typed}
-use Rattle.jv_volume.specs.Views.{node_row_at}
-use Rattle.jv_volume.specs.TreeOf.{node_of}
-use Rattle.jv_volume.proofs.HourNameLaws.{last_hour}
-use Rattle.jv_volume.proofs.SeenLaws.{node-seen}
-use Rattle.jv_volume.proofs.StoredLaws.{of_node}
-use Rattle.jv_volume.proofs.TreeOfLaws.{node_at-tree_of}
+use Rattle.jv_volume.specs.promise.TypedRows.{Cell, typed}
+use Rattle.jv_volume.specs.promise.Views.{node_row_at}
+use Rattle.jv_volume.specs.promise.TreeOf.{node_of_row}
+use Rattle.jv_volume.proofs.names.HourNameLaws.{last_hour}
+use Rattle.jv_volume.proofs.maps.SeenLaws.{node-seen}
+use Rattle.jv_volume.proofs.stored.StoredLaws.{of_node}
+use Rattle.jv_volume.proofs.stored.TreeOfLaws.{node_at-tree_of}
 use Rattle.jv_rows_drafts.specs.Drafting.{Minds, AreRows, Led, LeadsTo, Drafting}
 use Rattle.jv_rows_drafts.specs.Ready.{MayHaveHour, MayStandAt, hour_row, entry_put}
 use Rattle.jv_rows_drafts.proofs.DraftedLaws.{Drafted, are_rows-put, Stays, stays-needs, stays-sees, stays-then, seen-stands, drafting-lacking, drafting-made}
@@ -136,10 +136,10 @@ module _ (before middle : Store) (was : List Change) (now hour : ℕ) (low : hou
   -- the node of the row that was read
   node_is : (o : Option NodeRow) → found ≡ o → (known : RowMap) → before.rows ≡ Some known
       → (bytes : ℕ → ℕ → ℕ) (t : Tree) → Minds known was bytes t
-      → node_at t (hour_inode hour) ≡ option_map (node_of (bytes (hour_inode hour))) o
+      → node_at t (hour_inode hour) ≡ option_map (node_of_row (bytes (hour_inode hour))) o
   node_is o same known is bytes t m =
       ap (λ (u : Tree). node_at u inode) (sym m.tree) ∙ node_at-tree_of bytes (drafted was known) inode
-      ∙ ap (option_map (node_of (bytes inode))) (row_is known is ∙ same)
+      ∙ ap (option_map (node_of_row (bytes inode))) (row_is known is ∙ same)
 
   -- it is there
   pub hour-there : is_some found ≡ true → HasHour now hour was was before middle (Ok (hour_inode hour))
@@ -152,7 +152,7 @@ module _ (before middle : Store) (was : List Change) (now hour : ℕ) (low : hou
           → Minds known was bytes t → with_hour t now hour ≡ t
       same None is_none some known is bytes t m = absurd (false≢true some)
       same (Some row) is_row some known is bytes t m =
-          with_hour-there t now hour (node_of (bytes inode) row) (node_is (Some row) is_row known is bytes t m)
+          with_hour-there t now hour (node_of_row (bytes inode) row) (node_is (Some row) is_row known is bytes t m)
 
   -- the trash is there where an hour may come
   trash-there : (known : RowMap) (bytes : ℕ → ℕ → ℕ) (t : Tree) → Minds known was bytes t → MayHaveHour t hour
@@ -164,7 +164,7 @@ module _ (before middle : Store) (was : List Change) (now hour : ℕ) (low : hou
       there None is =
           let none : node_at t TRASH_ROOT ≡ None =
           ap (λ (u : Tree). node_at u TRASH_ROOT) (sym m.tree) ∙ node_at-tree_of bytes (drafted was known) TRASH_ROOT
-          ∙ ap (option_map (node_of (bytes TRASH_ROOT))) (node-seen (drafted was known) TRASH_ROOT None is) in
+          ∙ ap (option_map (node_of_row (bytes TRASH_ROOT))) (node-seen (drafted was known) TRASH_ROOT None is) in
           absurd (true≢false (sym may.trash ∙ ap (λ (o : Option Node). is_some (parent_of o)) none))
 
   -- it wasn't read

@@ -6,14 +6,15 @@ use Rattle.std.proofs.lemmas.Bool.{cases_eq}
 use Rattle.jv_model.specs.declared.row.Node.{Node as NodeRow}
 use Rattle.jv_model.specs.declared.row.Row.TheVariants.{OfNode}
 use Rattle.jv_model.specs.declared.row.RowKey.{RowKey}
-use Rattle.jv_model.specs.FiniteMap.{alter, insert, remove}
-use Rattle.jv_model.specs.rows.RowKeys.{row_key}
-use Rattle.jv_model.specs.rows.RowPlaces.{node_key}
-use Rattle.jv_volume.specs.TypedRows.{Cell, Rows}
-use Rattle.jv_volume.specs.Views.{row_in, node_in, node_row_at}
+use Rattle.jv_model.specs.FiniteMap.{alter}
+use Rattle.jv_model.specs.promise.FiniteMap.{insert, remove}
+use Rattle.jv_model.specs.promise.rows.RowKeys.{row_key}
+use Rattle.jv_model.specs.promise.rows.RowPlaces.{node_key}
+use Rattle.jv_volume.specs.promise.TypedRows.{Cell, Rows}
+use Rattle.jv_volume.specs.promise.Views.{row_in, node_in, node_row_at}
 use Rattle.jv_volume.specs.Whole.{file_length}
-use Rattle.jv_volume.proofs.MapLaws.{get-alter-here, get-alter-apart}
-use Rattle.jv_volume.proofs.QuietLaws.{other_tab}
+use Rattle.jv_volume.proofs.maps.MapLaws.{get-alter-here, get-alter-apart}
+use Rattle.jv_volume.proofs.stored.QuietLaws.{other_tab}
 use Rattle.jv_rows_drafts.specs.Drafting.{KeepsLengths}
 
 pub lengths-none : (rows : Rows) → KeepsLengths rows rows

@@ -4,23 +4,23 @@ use Rattle.std.specs.Prelude.{◌==◌}
 use Rattle.std.specs.Option.{option_map}
 use Rattle.jv_model.specs.declared.row.Node.{Node as NodeRow}
 use Rattle.jv_model.specs.declared.row.Row.TheVariants.{OfNode}
-use Rattle.jv_model.specs.FiniteMap.{insert}
-use Rattle.jv_model.specs.rows.RowKeys.{RowMap}
-use Rattle.jv_model.specs.rows.RowPlaces.{node_key}
-use Rattle.jv_model.specs.tree.Tree.{Tree, Node, Kind, File, Directory, Symlink, kind_space}
-use Rattle.jv_model.specs.tree.Changes.{status_changed, put_node, set_node, change_node}
-use Rattle.jv_model.specs.tree.Renaming.{kind_under, moved_node}
+use Rattle.jv_model.specs.promise.FiniteMap.{insert}
+use Rattle.jv_model.specs.promise.rows.RowKeys.{RowMap}
+use Rattle.jv_model.specs.promise.rows.RowPlaces.{node_key}
+use Rattle.jv_model.specs.promise.tree.Tree.{Tree, Node, Kind, File, Directory, Symlink, kind_space}
+use Rattle.jv_model.specs.promise.tree.Changes.{status_changed, put_node, set_node, change_node}
+use Rattle.jv_model.specs.promise.tree.Renaming.{kind_under, moved_node}
 use Rattle.jv_outside.specs.declared.batch.Change.{Change}
-use Rattle.jv_outside.specs.Store.{Store}
+use Rattle.jv_outside.specs.promise.Store.{Store}
 use Rattle.jv_rows.specs.Drafts.{drafted}
-use Rattle.jv_volume.specs.TypedRows.{Rows, typed}
-use Rattle.jv_volume.specs.Views.{node_row_at}
-use Rattle.jv_volume.specs.TreeOf.{node_of, tree_of}
-use Rattle.jv_volume.specs.Whole.{is_read_only}
-use Rattle.jv_volume.proofs.NodeRowLaws.{IsNodeRow, moved_row, node_of-moved, IsNodeRow-moved_dir, IsNodeRow-moved_leaf}
-use Rattle.jv_volume.proofs.StoredLaws.{HasNode, found_node}
-use Rattle.jv_volume.proofs.StoredStepLaws.{stored-change_node}
-use Rattle.jv_volume.proofs.TreeOfLaws.{tree_of-put_node}
+use Rattle.jv_volume.specs.promise.TypedRows.{Rows, typed}
+use Rattle.jv_volume.specs.promise.Views.{node_row_at}
+use Rattle.jv_volume.specs.promise.TreeOf.{node_of_row, tree_of}
+use Rattle.jv_volume.specs.promise.Whole.{is_read_only}
+use Rattle.jv_volume.proofs.stored.NodeRowLaws.{IsNodeRow, moved_row, node_of-moved, IsNodeRow-moved_dir, IsNodeRow-moved_leaf}
+use Rattle.jv_volume.proofs.stored.StoredLaws.{HasNode, found_node}
+use Rattle.jv_volume.proofs.stored.StoredStepLaws.{stored-change_node}
+use Rattle.jv_volume.proofs.stored.TreeOfLaws.{tree_of-put_node}
 use Rattle.jv_rows_drafts.specs.Drafting.{Minds, Drafting}
 use Rattle.jv_rows_drafts.specs.Present.{Presents}
 use Rattle.jv_rows_drafts.specs.Ready.{IsThere}
@@ -33,7 +33,7 @@ pub record IsRowChanged (change : Node → Node) (row new : NodeRow) : Type 0 wh
   pub length : new.length ≡ row.length
   pub mode : is_read_only new ≡ is_read_only row
   pub row_is : (byte : ℕ → ℕ) → IsNodeRow row.nlink byte row → IsNodeRow row.nlink byte new
-  pub node : (byte : ℕ → ℕ) → node_of byte new ≡ change (node_of byte row)
+  pub node : (byte : ℕ → ℕ) → node_of_row byte new ≡ change (node_of_row byte row)
   pub space : (node : Node) → kind_space (change node).kind ≡ kind_space node.kind
 
 module _ (known : RowMap) (was now : List Change) (bytes : ℕ → ℕ → ℕ) (t : Tree) (m : Minds known was bytes t)
@@ -46,7 +46,7 @@ module _ (known : RowMap) (was now : List Change) (bytes : ℕ → ℕ → ℕ) 
   has : HasNode (tree_of bytes before) inode row (bytes inode)
   has = found_node bytes before m.stored inode row there
 
-  as_changed : put_node (tree_of bytes before) inode (node_of (bytes inode) new) ≡ change_node t inode change
+  as_changed : put_node (tree_of bytes before) inode (node_of_row (bytes inode) new) ≡ change_node t inode change
   as_changed =
       ap (put_node (tree_of bytes before) inode) (is.node (bytes inode))
       ∙ ap (λ o. set_node (tree_of bytes before) inode (option_map change o)) (sym has.there)
@@ -60,7 +60,7 @@ module _ (known : RowMap) (was now : List Change) (bytes : ℕ → ℕ → ℕ) 
       (tree_of-put_node bytes before inode new ∙ as_changed)
       (stored-change_node bytes before inode row new m.stored there
       (is.row_is (bytes inode) (subst (λ l. IsNodeRow l (bytes inode) row) (sym has.links) has.row_is)) is.kind
-      (ap (λ (n : Node). kind_space n.kind) (is.node (bytes inode)) ∙ is.space (node_of (bytes inode) row)))
+      (ap (λ (n : Node). kind_space n.kind) (is.node (bytes inode)) ∙ is.space (node_of_row (bytes inode) row)))
 
 -- the small change that puts such a row
 pub change-made : (inode : ℕ) (was now : List Change) (before after : Store) (change : Node → Node) (row new : NodeRow)

@@ -7,26 +7,28 @@ use Rattle.jv_model.specs.declared.fault.TxFault.TheVariants.{Refused, Moved, Ro
 use Rattle.jv_model.specs.declared.row.Node.{Node as NodeRow}
 use Rattle.jv_model.specs.declared.row.Row.TheVariants.{OfNode}
 use Rattle.jv_model.specs.declared.row.RowKey.{RowKey}
-use Rattle.jv_model.specs.FiniteMap.{get, insert, alter}
-use Rattle.jv_model.specs.rows.RowKeys.{RowMap}
-use Rattle.jv_model.specs.rows.RowPlaces.{node_key, edge_key}
-use Rattle.jv_model.specs.tree.Tree.{Tree, node_at}
+use Rattle.jv_model.specs.promise.FiniteMap.{get, insert}
+use Rattle.jv_model.specs.FiniteMap.{alter}
+use Rattle.jv_model.specs.promise.rows.RowKeys.{RowMap}
+use Rattle.jv_model.specs.promise.rows.RowPlaces.{node_key, edge_key}
+use Rattle.jv_model.specs.promise.tree.Tree.{Tree, node_at}
 use Rattle.jv_model.proofs.TestLaws.{if_some-by, of_known}
 use Rattle.jv_outside.specs.declared.batch.Change.{Change}
-use Rattle.jv_outside.specs.Store.{Store}
+use Rattle.jv_outside.specs.promise.Store.{Store}
 use Rattle.jv_rows.specs.Drafts.{drafted, Drafts}
 use Rattle.jv_rows.specs.Transactions.{FaultCause, BadFault}
-use Rattle.jv_volume.specs.TypedRows.{Cell, Rows, typed}
-use Rattle.jv_volume.specs.Views.{row_in, node_in, node_row_at}
-use Rattle.jv_volume.specs.TreeOf.{tree_of}
-use Rattle.jv_volume.specs.Stored.{Stored}
-use Rattle.jv_volume.specs.Slices.{WholeFiles}
-use Rattle.jv_volume.specs.Whole.{IsRowAt, Quiet, is_read_only}
-use Rattle.jv_volume.proofs.FileStepLaws.{files-other, files-same_length}
-use Rattle.jv_volume.proofs.QuietLaws.{quiet-alter, quiet-put_node}
-use Rattle.jv_volume.proofs.SeenLaws.{row-put, rows-alter}
-use Rattle.jv_volume.proofs.StoredLaws.{no_node}
-use Rattle.jv_volume.proofs.WholeLaws.{again-row}
+use Rattle.jv_volume.specs.promise.TypedRows.{Cell, Rows, typed}
+use Rattle.jv_volume.specs.promise.Views.{row_in, node_in, node_row_at}
+use Rattle.jv_volume.specs.promise.TreeOf.{tree_of}
+use Rattle.jv_volume.specs.promise.Stored.{Stored}
+use Rattle.jv_volume.specs.promise.Slices.{WholeFiles}
+use Rattle.jv_volume.specs.promise.Whole.{IsRowAt, is_read_only}
+use Rattle.jv_volume.specs.Whole.{Quiet}
+use Rattle.jv_volume.proofs.stored.FileStepLaws.{files-other, files-same_length}
+use Rattle.jv_volume.proofs.stored.QuietLaws.{quiet-alter, quiet-put_node}
+use Rattle.jv_volume.proofs.maps.SeenLaws.{row-put, rows-alter}
+use Rattle.jv_volume.proofs.stored.StoredLaws.{no_node}
+use Rattle.jv_volume.proofs.whole.WholeLaws.{again-row}
 use Rattle.jv_rows_drafts.specs.Drafting.{KeepsLengths, Minds, AreRows, LeadsTo, Drafting}
 use Rattle.jv_rows_drafts.specs.Present.{Presents, RefusesNode}
 use Rattle.jv_rows_drafts.specs.Ready.{IsThere}

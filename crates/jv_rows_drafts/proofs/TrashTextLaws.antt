@@ -2,7 +2,7 @@
 use Rattle.std.proofs.Common.{◌≡◌, ℕ, List, [], ◌∷◌, ◌++◌, take, decimal, ap, sym, ◌∙◌}
 use Rattle.std.proofs.lemmas.List.{append_assoc}
 use Rattle.jv_model.specs.declared.limits.TheConstants.{MAX_NAME}
-use Rattle.jv_model.specs.tree.Trash.{trash_name}
+use Rattle.jv_model.specs.promise.tree.Trash.{trash_name}
 
 parts : (a b c : List ℕ) → (((a ++ 45 ∷ []) ++ b) ++ 45 ∷ []) ++ c ≡ a ++ 45 ∷ b ++ 45 ∷ c
 parts a b c =

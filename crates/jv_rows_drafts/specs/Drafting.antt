@@ -7,19 +7,21 @@ use Rattle.jv_model.specs.declared.fault.TxFault.{TxFault}
 use Rattle.jv_model.specs.declared.fault.TxFault.TheVariants.{Refused, Moved, Rows as OfRows}
 use Rattle.jv_model.specs.declared.row.Node.{Node}
 use Rattle.jv_model.specs.declared.row.RowKey.{RowKey}
-use Rattle.jv_model.specs.FiniteMap.{get}
-use Rattle.jv_model.specs.rows.RowKeys.{RowMap}
-use Rattle.jv_model.specs.tree.Tree.{Tree}
+use Rattle.jv_model.specs.promise.FiniteMap.{get}
+use Rattle.jv_model.specs.promise.rows.RowKeys.{RowMap}
+use Rattle.jv_model.specs.promise.tree.Tree.{Tree}
 use Rattle.jv_outside.specs.declared.batch.Change.{Change}
-use Rattle.jv_outside.specs.Store.{Store}
+use Rattle.jv_outside.specs.promise.Store.{Store}
 use Rattle.jv_rows.specs.Drafts.{drafted}
-use Rattle.jv_rows.specs.Transactions.{TransactionCounts, BadFault, is_needed}
-use Rattle.jv_volume.specs.TypedRows.{Cell, Rows, typed}
-use Rattle.jv_volume.specs.TreeOf.{tree_of}
-use Rattle.jv_volume.specs.Views.{node_row_at}
-use Rattle.jv_volume.specs.Stored.{Stored}
-use Rattle.jv_volume.specs.Slices.{WholeFiles}
-use Rattle.jv_volume.specs.Whole.{IsRowAt, Quiet, file_length}
+use Rattle.jv_rows.specs.Transactions.{TransactionCounts, BadFault}
+use Rattle.jv_rows.specs.promise.Transactions.{is_needed}
+use Rattle.jv_volume.specs.promise.TypedRows.{Cell, Rows, typed}
+use Rattle.jv_volume.specs.promise.TreeOf.{tree_of}
+use Rattle.jv_volume.specs.promise.Views.{node_row_at}
+use Rattle.jv_volume.specs.promise.Stored.{Stored}
+use Rattle.jv_volume.specs.promise.Slices.{WholeFiles}
+use Rattle.jv_volume.specs.promise.Whole.{IsRowAt}
+use Rattle.jv_volume.specs.Whole.{Quiet, file_length}
 
 -- each file is as long as at the start, and no file came
 abbrev pub KeepsLengths : Rows → Rows → Type 0

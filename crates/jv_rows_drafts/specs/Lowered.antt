@@ -4,10 +4,10 @@ use Rattle.jv_model.specs.declared.limits.TheConstants.{SPACE_UNIT}
 use Rattle.jv_model.specs.declared.row.Counters.{Counters}
 use Rattle.jv_model.specs.declared.row.Node.{Node}
 use Rattle.jv_model.specs.declared.row.Row.TheVariants.{OfCounters, OfDropped}
-use Rattle.jv_model.specs.FiniteMap.{insert}
-use Rattle.jv_model.specs.rows.RowPlaces.{counters_key, dropped_key}
-use Rattle.jv_model.specs.tree.Tree.{paged}
-use Rattle.jv_volume.specs.TypedRows.{Rows}
+use Rattle.jv_model.specs.promise.FiniteMap.{insert}
+use Rattle.jv_model.specs.promise.rows.RowPlaces.{counters_key, dropped_key}
+use Rattle.jv_model.specs.promise.tree.Tree.{paged}
+use Rattle.jv_volume.specs.promise.TypedRows.{Rows}
 
 -- the space that a node's row takes: a file's length in whole units, and one unit for anything else
 abbrev pub space_taken : Node → ℕ

@@ -4,14 +4,14 @@ use Rattle.jv_model.specs.declared.fault.Fault.{Fault}
 use Rattle.jv_model.specs.declared.fault.Fault.TheVariants.{NoSpace}
 use Rattle.jv_model.specs.declared.limits.TheConstants.{READ_ONLY_MODE, TRASH_ROOT}
 use Rattle.jv_model.specs.declared.row.Node.{Node as NodeRow}
-use Rattle.jv_model.specs.FiniteMap.{get, insert}
-use Rattle.jv_model.specs.tree.Attempt.{◌>>=◌, require}
-use Rattle.jv_model.specs.tree.Tree.{Tree, EntryKey, is_directory, is_counted, links_fit, node_at}
-use Rattle.jv_model.specs.tree.Changes.{put_entry}
-use Rattle.jv_model.specs.tree.Trash.{hour_inode, hour_place}
-use Rattle.jv_volume.specs.Fresh.{new_directory}
-use Rattle.jv_volume.specs.Shape.{NamesHour}
-use Rattle.jv_volume.specs.TypedRows.{is_entry_name}
+use Rattle.jv_model.specs.promise.FiniteMap.{get, insert}
+use Rattle.jv_model.specs.promise.tree.Attempt.{◌>>=◌, require}
+use Rattle.jv_model.specs.promise.tree.Tree.{Tree, EntryKey, is_directory, is_counted, links_fit, node_at}
+use Rattle.jv_model.specs.promise.tree.Changes.{put_entry}
+use Rattle.jv_model.specs.promise.tree.Trash.{hour_inode, hour_place}
+use Rattle.jv_volume.specs.promise.Fresh.{new_directory}
+use Rattle.jv_volume.specs.promise.Shape.{NamesHour}
+use Rattle.jv_volume.specs.promise.TypedRows.{is_entry_name}
 
 -- an entry of a directory that names a node that is there
 pub record StandsAt (t : Tree) (place : EntryKey) (inode : ℕ) : Type 0 where

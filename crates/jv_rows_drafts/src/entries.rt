@@ -4,7 +4,7 @@ ghost use Rattle.jv_rows_drafts.specs.Drafting.{Drafting};
 ghost use Rattle.jv_rows_drafts.specs.Present.{links_to_node, linked_row, Rises};
 ghost use Rattle.jv_volume.specs.Stored.{links_by, directory_touched};
 ghost use Rattle.jv_rows_drafts.specs.Ready.{StandsAt, MayStandAt, entry_put};
-ghost use Rattle.jv_model.specs.tree.Changes as model;
+ghost use Rattle.jv_model.specs.promise.tree.Changes as model;
 
 use crate::nodes::present;
 use jv_model::{Edge, Fault, Moment, Name, Node, TxFault};

@@ -4,8 +4,8 @@ ghost use Rattle.jv_rows_drafts.specs.Drafting.{Drafting};
 ghost use Rattle.jv_rows_drafts.specs.CivilDates.{IsDateOf};
 ghost use Rattle.jv_rows_drafts.specs.Ready.{MayHaveHour};
 ghost use Rattle.jv_model.specs.declared.limits.TheConstants.{LAST_MOMENT};
-ghost use Rattle.jv_model.specs.tree.HourNames.{hour_at, hour_name, day_hours, two_digits};
-ghost use Rattle.jv_model.specs.tree.Trash as model;
+ghost use Rattle.jv_model.specs.promise.tree.HourNames.{hour_at, hour_name, day_hours, two_digits};
+ghost use Rattle.jv_model.specs.promise.tree.Trash as model;
 
 use crate::entries::put_entry;
 use itoa::Buffer;

@@ -4,9 +4,9 @@ ghost use Rattle.jv_rows_drafts.specs.Drafting.{Drafting};
 ghost use Rattle.jv_rows_drafts.specs.Lowered.{lowered, with_dropped};
 ghost use Rattle.jv_rows_drafts.specs.Present.{Presents};
 ghost use Rattle.jv_rows_drafts.specs.Ready.{IsThere, MayGo, sustaining};
-ghost use Rattle.jv_model.specs.rows.RowKeys.{RowMap};
-ghost use Rattle.jv_model.specs.tree.Changes as model;
-ghost use Rattle.jv_model.specs.tree.Renaming.{moved_node};
+ghost use Rattle.jv_model.specs.promise.rows.RowKeys.{RowMap};
+ghost use Rattle.jv_model.specs.promise.tree.Changes as model;
+ghost use Rattle.jv_model.specs.promise.tree.Renaming.{moved_node};
 ghost use Rattle.jv_rows.specs.Drafts.{drafted};
 ghost use Rattle.jv_rows.specs.Transactions.{Always};
 

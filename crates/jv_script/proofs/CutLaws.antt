@@ -4,7 +4,7 @@ use Rattle.std.proofs.lemmas.Bool.{cases_lt, false_from_ne_true}
 use Rattle.std.proofs.lemmas.List.{take_rest, take-append-drop, length-take, length-drop, get_or_default}
 use Rattle.std.proofs.lemmas.List.Splits.{slice_split_at, slice_split_none}
 use Rattle.memchr.specs.Find.{Nowhere, Passes, IsFirstByte}
-use Rattle.jv_model.specs.Lists.{parted}
+use Rattle.jv_model.specs.promise.Lists.{parted}
 
 -- the text round a place
 around : (text : List ℕ) (end : ℕ) → end < length text → text ≡ take end text ++ get_or text end 0 ∷ drop (end + 1) text

@@ -9,10 +9,10 @@ use Rattle.std.proofs.lemmas.List.{append_assoc, length-append, length-replicate
 use Rattle.std.proofs.lemmas.List.Splits.{slice_split_at, slice_split_none}
 use Rattle.std.proofs.lemmas.List.Sums.{AllPass-from_list_all}
 use Rattle.jv_model.specs.declared.limits.TheConstants.{MAX_DATA}
-use Rattle.jv_model.specs.script.Spelling.{is_decimal_digit, is_hex_digit, bytes_of_digits}
-use Rattle.jv_model.specs.script.Printed.{hex_digit, hex_pair, ByteRepeat, with_byte, repeats_of, DataPart, Plain, Repeated, with_short, parts_of, part_text, data_text}
-use Rattle.jv_model.specs.script.Grammar.{is_pairs, repeated_of, part_of, part_bytes, all_parts_of, data_of}
-use Rattle.jv_model.specs.Lists.{parted}
+use Rattle.jv_model.specs.promise.script.Spelling.{is_decimal_digit, is_hex_digit, bytes_of_digits}
+use Rattle.jv_model.specs.promise.script.Printed.{hex_digit, hex_pair, ByteRepeat, with_byte, repeats_of, DataPart, Plain, Repeated, with_short, parts_of, part_text, data_text}
+use Rattle.jv_model.specs.promise.script.Grammar.{is_pairs, repeated_of, part_of, part_bytes, all_parts_of, data_of}
+use Rattle.jv_model.specs.promise.Lists.{parted}
 use Rattle.jv_script.specs.Reading.{bytes_after}
 use Rattle.jv_script.specs.RoundTrips.{IsByte, DataIsReadAgain}
 use Rattle.jv_script.proofs.PrintedDigitLaws.{high_is_hex, low_is_hex, pair_value, decimal_digits, decimal_read}

@@ -2,7 +2,7 @@
 use Rattle.std.proofs.Common.{nat_le, ◌≡◌, ℕ, ◌<◌, ◌==◌, Bool, true, false, not, cond, List, [], ◌∷◌, ◌++◌, length, replicate, refl, sym, ap, ◌∙◌, arith}
 use Rattle.std.proofs.lemmas.Bool.{ne_eqb}
 use Rattle.std.proofs.lemmas.List.{append-nil, append_assoc}
-use Rattle.jv_model.specs.script.Printed.{ByteRepeat, repeats_of, DataPart, Plain, Repeated, with_short, parts_of, part_text}
+use Rattle.jv_model.specs.promise.script.Printed.{ByteRepeat, repeats_of, DataPart, Plain, Repeated, with_short, parts_of, part_text}
 use Rattle.jv_script.specs.Printing.{joint, joined, rest_text}
 use Rattle.jv_script.proofs.RepeatLaws.{with_byte-first}
 

@@ -5,7 +5,7 @@ use Rattle.std.proofs.lemmas.Bool.{le-leb, lt-leb}
 use Rattle.std.proofs.lemmas.List.Sums.{fold_more}
 use Rattle.std.proofs.lemmas.Grind.{fold-append}
 use Rattle.jv_model.specs.declared.options.TheConstants.{MAX_NUMBER}
-use Rattle.jv_model.specs.script.Spelling.{value_of, is_numeral, number_of, hex_value, bytes_of_digits}
+use Rattle.jv_model.specs.promise.script.Spelling.{value_of, is_numeral, number_of, hex_value, bytes_of_digits}
 
 -- the byte of the digits at twice a place
 abbrev pub byte_at : List ℕ → ℕ → ℕ

@@ -3,7 +3,7 @@ use Rattle.std.proofs.Common.{◌≡◌, ℕ, length, arith, List, [], ◌∷◌
 use Rattle.std.specs.Prelude.{codes}
 use Rattle.std.specs.List.{flat_map, join_with_byte}
 use Rattle.std.proofs.lemmas.List.{append-nil}
-use Rattle.jv_model.specs.script.ReplyText.{entry_text, entries_text}
+use Rattle.jv_model.specs.promise.script.ReplyText.{entry_text, entries_text}
 
 joined : (entry : List ℕ × ℕ) (entries : List (List ℕ × ℕ)) → join_with_byte 32 (map entry_text (entry ∷ entries)) ≡ entry_text entry ++ flat_map (λ e. 32 ∷ entry_text e) entries
 joined entry [] = sym (append-nil (entry_text entry))

@@ -2,11 +2,11 @@
 use Rattle.std.proofs.Common.{◌≡◌, ◌≢◌, ◌⊎◌, inl, inr, ◌==◌, ℕ, arith, length, nat_lt, eqb, Bool, true, false, ◌&&◌, List, [], ◌∷◌, ◌++◌, Option, Some, None, IsSome, is_some, refl, sym, ap, subst, ◌∙◌}
 use Rattle.std.specs.List.{list_all, flat_map}
 use Rattle.std.proofs.lemmas.Bool.{eq-eqb, ne_eqb, lt-ltb, cases_eq}
-use Rattle.jv_model.specs.script.Spelling.{◌>>=◌}
-use Rattle.jv_model.specs.script.Grammar.{is_plain, is_escape, escape_bytes, bytes_of_escapes, unescaped, path_of, target_of}
-use Rattle.jv_model.specs.Lists.{parted}
-use Rattle.jv_model.specs.tree.Walk.{is_absolute}
-use Rattle.jv_model.specs.Optional.{provided}
+use Rattle.jv_model.specs.promise.Optional.{◌>>=◌}
+use Rattle.jv_model.specs.promise.script.Grammar.{is_plain, is_escape, escape_bytes, bytes_of_escapes, unescaped, path_of, target_of}
+use Rattle.jv_model.specs.promise.Lists.{parted}
+use Rattle.jv_model.specs.promise.tree.Walk.{is_absolute}
+use Rattle.jv_model.specs.promise.Optional.{provided}
 use Rattle.jv_script.specs.Reading.{first_of}
 
 pub unescaped_parts : (text plain : List ℕ) (escapes : List (List ℕ)) → parted 37 text ≡ plain ∷ escapes → unescaped text ≡ provided (list_all is_plain plain && list_all is_escape escapes) (plain ++ flat_map escape_bytes escapes)

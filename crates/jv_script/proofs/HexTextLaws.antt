@@ -4,7 +4,7 @@ use Rattle.std.proofs.Common.{◌≢◌, refl, sym, ap, ◌∙◌, arith, below_
 use Rattle.std.specs.List.{flat_map}
 use Rattle.std.proofs.lemmas.List.{get_or-set_other, get_or-set_same, length-set, append-nil, take_at, take_all, drop_all, length-append, length-drop}
 use borrow.Rule.Slice.PartMut.{post_of}
-use Rattle.jv_model.specs.script.Printed.{hex_digit, hex_pair}
+use Rattle.jv_model.specs.promise.script.Printed.{hex_digit, hex_pair}
 
 -- two digits that are those of the byte at a place
 abbrev pub HasPair : List ℕ → List ℕ → ℕ → Type 0

@@ -2,8 +2,8 @@
 use Rattle.std.proofs.Common.{◌≡◌, ℕ, zero, suc, ◌+◌, ◌*◌, ◌<◌, ◌&&◌, Bool, true, false, List, [], ◌∷◌, Some, None, get_or, refl, ap, ◌∙◌, arith}
 use Rattle.std.specs.Prelude.{if◌then◌else◌}
 use Rattle.std.proofs.lemmas.Bool.Decides.{nat_tests}
-use Rattle.jv_model.specs.script.Spelling.{is_hex_digit, hex_value, byte_of}
-use Rattle.jv_model.specs.Optional.{provided}
+use Rattle.jv_model.specs.promise.script.Spelling.{is_hex_digit, hex_value, byte_of}
+use Rattle.jv_model.specs.promise.Optional.{provided}
 use Rattle.jv_script.specs.declared.hex_digits.TheConstants.{VALUES}
 
 -- the value of a digit, or a number that is none

@@ -7,11 +7,12 @@ use Rattle.std.proofs.Math.Bool.{and-false}
 use Rattle.std.proofs.lemmas.List.Sums.{sum_by-cons}
 use Rattle.std.proofs.lemmas.List.Folds.{list_all_at}
 use Rattle.jv_model.specs.declared.limits.TheConstants.{MAX_DATA}
-use Rattle.jv_model.specs.script.Spelling.{is_hex_digit, number_of, ◌>>=◌, at_most, bytes_of_digits, byte_of}
-use Rattle.jv_model.specs.script.Printed.{DataPart, Plain, Repeated}
-use Rattle.jv_model.specs.script.Grammar.{is_pairs, repeated_of, part_of, part_length, part_bytes, all_parts_of, bytes_of_parts, data_of}
-use Rattle.jv_model.specs.Lists.{parted}
-use Rattle.jv_model.specs.Optional.{provided}
+use Rattle.jv_model.specs.promise.script.Spelling.{is_hex_digit, number_of, at_most, bytes_of_digits, byte_of}
+use Rattle.jv_model.specs.promise.Optional.{◌>>=◌}
+use Rattle.jv_model.specs.promise.script.Printed.{DataPart, Plain, Repeated}
+use Rattle.jv_model.specs.promise.script.Grammar.{is_pairs, repeated_of, part_of, part_length, part_bytes, all_parts_of, bytes_of_parts, data_of}
+use Rattle.jv_model.specs.promise.Lists.{parted}
+use Rattle.jv_model.specs.promise.Optional.{provided}
 use Rattle.jv_script.proofs.CutLaws.{parted_none}
 use Rattle.jv_script.specs.Reading.{has_x, pairs_of, limited_bytes, bytes_after, Appends, Leaves, IsFirstPart}
 

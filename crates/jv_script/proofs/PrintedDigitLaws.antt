@@ -4,8 +4,8 @@ use Rattle.std.specs.List.{list_all}
 use Rattle.std.proofs.lemmas.Fmt.{decimal_digit, digits_decimal, digits_value-decimal, first_decimal}
 use Rattle.std.proofs.lemmas.Str.Parse.{IsNumeralModel, numerals_by_fold}
 use Rattle.std.proofs.lemmas.Bool.{ne_eqb, and_parts}
-use Rattle.jv_model.specs.script.Spelling.{is_decimal_digit, is_hex_digit, hex_value, value_of, is_numeral, number_of, byte_of}
-use Rattle.jv_model.specs.script.Printed.{hex_digit}
+use Rattle.jv_model.specs.promise.script.Spelling.{is_decimal_digit, is_hex_digit, hex_value, value_of, is_numeral, number_of, byte_of}
+use Rattle.jv_model.specs.promise.script.Printed.{hex_digit}
 use Rattle.jv_script.specs.RoundTrips.{IsByte}
 use Rattle.jv_script.proofs.DigitLaws.{number_in}
 use Rattle.jv_script.proofs.RoundTripLaws.{all_at, counted_from, counted_at, map_at}

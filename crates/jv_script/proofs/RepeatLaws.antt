@@ -4,7 +4,7 @@ use Rattle.std.specs.List.{flat_map, join_with_byte}
 use Rattle.std.proofs.lemmas.Bool.{eq-eqb, eqb-true, ne_eqb, le-leb, lt-leb, cases_lt, false≢true}
 use Rattle.std.proofs.lemmas.List.{append-nil, append_assoc, take-append-drop, length-take, length-take-le, length-drop, length-replicate, get_or-take, get_or-drop, get_or-replicate, drop-drop}
 use Rattle.std.proofs.lemmas.Grind.{same_number_lists}
-use Rattle.jv_model.specs.script.Printed.{ByteRepeat, with_byte, repeats_of, DataPart, Plain, Repeated, with_short, parts_of, part_text, data_text}
+use Rattle.jv_model.specs.promise.script.Printed.{ByteRepeat, with_byte, repeats_of, DataPart, Plain, Repeated, with_short, parts_of, part_text, data_text}
 use Rattle.jv_script.specs.Printing.{IsFirstRepeat, IsFrontCount, begins_long, HasNoLongBefore}
 
 -- one more byte in front makes a repeat of that byte the first

@@ -6,13 +6,13 @@ use Rattle.std.proofs.lemmas.Bool.{eqb-true, lt-ltb, false≢true, false_from_ne
 use Rattle.std.proofs.lemmas.Bool.Decides.{nat_tests}
 use Rattle.std.proofs.lemmas.List.{append_assoc, append-nil}
 use Rattle.std.proofs.lemmas.List.Splits.{slice_split-cons_no, slice_split-cons_yes, length-slice_split}
-use Rattle.jv_model.specs.blocks.BlockNames.{upper_digit}
-use Rattle.jv_model.specs.script.Spelling.{is_hex_digit, hex_value, byte_of}
-use Rattle.jv_model.specs.script.ReplyText.{is_kept_in_name, is_kept_in_path, escaped_byte, name_text, path_text}
-use Rattle.jv_model.specs.script.Grammar.{is_plain, is_escape, escape_bytes, bytes_of_escapes, unescaped, path_of, target_of}
-use Rattle.jv_model.specs.Lists.{parted}
-use Rattle.jv_model.specs.tree.Walk.{is_absolute}
-use Rattle.jv_model.specs.Optional.{provided}
+use Rattle.jv_model.specs.promise.blocks.BlockNames.{upper_digit}
+use Rattle.jv_model.specs.promise.script.Spelling.{is_hex_digit, hex_value, byte_of}
+use Rattle.jv_model.specs.promise.script.ReplyText.{is_kept_in_name, is_kept_in_path, escaped_byte, name_text, path_text}
+use Rattle.jv_model.specs.promise.script.Grammar.{is_plain, is_escape, escape_bytes, bytes_of_escapes, unescaped, path_of, target_of}
+use Rattle.jv_model.specs.promise.Lists.{parted}
+use Rattle.jv_model.specs.promise.tree.Walk.{is_absolute}
+use Rattle.jv_model.specs.promise.Optional.{provided}
 use Rattle.jv_script.specs.RoundTrips.{IsNameByte, PathsAreReadAgain, TargetsAreReadAgain, NamesAreReadAgain}
 
 -- the numbers from one on

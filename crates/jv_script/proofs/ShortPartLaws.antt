@@ -3,11 +3,11 @@ use Rattle.std.proofs.Common.{◌≡◌, ℕ, zero, suc, ◌-◌, ◌<◌, ◌�
 use Rattle.std.proofs.lemmas.Bool.{eq-eqb, eqb-true, le-leb, lt-ltb, false≢true, false_from_ne_true}
 use Rattle.std.proofs.lemmas.List.{take_rest}
 use Rattle.std.proofs.lemmas.List.Splits.{slice_split_at}
-use Rattle.jv_model.specs.script.Spelling.{is_hex_digit, number_of, value_of, byte_of}
-use Rattle.jv_model.specs.script.Printed.{Repeated}
-use Rattle.jv_model.specs.script.Grammar.{is_pairs, repeated_of, part_of, part_bytes}
-use Rattle.jv_model.specs.Lists.{parted}
-use Rattle.jv_model.specs.Optional.{provided}
+use Rattle.jv_model.specs.promise.script.Spelling.{is_hex_digit, number_of, value_of, byte_of}
+use Rattle.jv_model.specs.promise.script.Printed.{Repeated}
+use Rattle.jv_model.specs.promise.script.Grammar.{is_pairs, repeated_of, part_of, part_bytes}
+use Rattle.jv_model.specs.promise.Lists.{parted}
+use Rattle.jv_model.specs.promise.Optional.{provided}
 use Rattle.jv_script.specs.Reading.{IsFirstPart}
 use Rattle.jv_script.proofs.DigitLaws.{number_in}
 use Rattle.jv_script.proofs.PartLaws.{part_of_pairs, part_of_other}

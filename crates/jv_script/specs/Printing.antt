@@ -3,7 +3,7 @@ use Rattle.std.specs.Prelude.{Bool, true, false, ◌&&◌, ◌==◌, ◌≡◌, 
 use Rattle.std.specs.List.{join_with_byte}
 use Rattle.jv_model.specs.declared.op.Reply.{Reply}
 use Rattle.jv_model.specs.declared.op.Reply.TheVariants as reply
-use Rattle.jv_model.specs.script.Printed.{DataPart, Plain, repeats_of, parts_of, part_text}
+use Rattle.jv_model.specs.promise.script.Printed.{DataPart, Plain, repeats_of, parts_of, part_text}
 
 -- the first n bytes are equal, and the next one, if any, is another
 pub record IsFirstRepeat (bytes : List ℕ) (n : ℕ) : Type 0 where

@@ -4,11 +4,13 @@ use Rattle.std.specs.Borrow.{Bor}
 use Rattle.std.specs.List.{flat_map}
 use Rattle.std.specs.Option.{option_copied}
 use Rattle.jv_model.specs.declared.limits.TheConstants.{MAX_DATA}
-use Rattle.jv_model.specs.script.Spelling.{◌>>=◌, bytes_of_digits}
-use Rattle.jv_model.specs.script.Printed.{DataPart, Plain}
-use Rattle.jv_model.specs.script.Grammar.{is_pairs, part_of, part_length, part_bytes, all_parts_of}
-use Rattle.jv_model.specs.Lists.{parted, first_item}
-use Rattle.jv_model.specs.Optional.{provided}
+use Rattle.jv_model.specs.promise.Optional.{◌>>=◌}
+use Rattle.jv_model.specs.promise.script.Spelling.{bytes_of_digits}
+use Rattle.jv_model.specs.promise.script.Printed.{DataPart, Plain}
+use Rattle.jv_model.specs.promise.script.Grammar.{is_pairs, part_of, part_length, part_bytes, all_parts_of}
+use Rattle.jv_model.specs.promise.Lists.{parted}
+use Rattle.jv_model.specs.Lists.{first_item}
+use Rattle.jv_model.specs.promise.Optional.{provided}
 use Rattle.jv_script.specs.declared.bad_line.BadLine.{BadLine}
 use Rattle.jv_script.specs.declared.bad_line.BadLine.TheVariants.{Off, Memory}
 

@@ -1,10 +1,10 @@
 -- What is printed is read again as what it was, for all values that an answer may have.
 use Rattle.std.specs.Prelude.{◌≡◌, ℕ, ◌<◌, ◌≤◌, true, List, ◌∷◌, ◌++◌, length, All, Some}
 use Rattle.jv_model.specs.declared.limits.TheConstants.{MAX_DATA}
-use Rattle.jv_model.specs.script.Printed.{data_text}
-use Rattle.jv_model.specs.script.ReplyText.{name_text, path_text}
-use Rattle.jv_model.specs.script.Grammar.{data_of, path_of, target_of}
-use Rattle.jv_model.specs.tree.Walk.{is_absolute}
+use Rattle.jv_model.specs.promise.script.Printed.{data_text}
+use Rattle.jv_model.specs.promise.script.ReplyText.{name_text, path_text}
+use Rattle.jv_model.specs.promise.script.Grammar.{data_of, path_of, target_of}
+use Rattle.jv_model.specs.promise.tree.Walk.{is_absolute}
 
 -- a byte of a file
 abbrev pub IsByte : ℕ → Type 0

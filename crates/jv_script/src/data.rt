@@ -1,9 +1,9 @@
 //! Reads DATA, the bytes of a write: `-` for none, or parts joined by `+`.
 ghost use Rattle.std.specs.Prelude.{◌≡◌, true, is_some, IfOk, option_map};
-ghost use Rattle.jv_model.specs.script.Spelling.{bytes_of_digits};
-ghost use Rattle.jv_model.specs.script.Printed.{Repeated};
-ghost use Rattle.jv_model.specs.script.Grammar.{is_pairs, repeated_of, part_of, part_length, bytes_of_parts, data_of};
-ghost use Rattle.jv_model.specs.Lists.{parted};
+ghost use Rattle.jv_model.specs.promise.script.Spelling.{bytes_of_digits};
+ghost use Rattle.jv_model.specs.promise.script.Printed.{Repeated};
+ghost use Rattle.jv_model.specs.promise.script.Grammar.{is_pairs, repeated_of, part_of, part_length, bytes_of_parts, data_of};
+ghost use Rattle.jv_model.specs.promise.Lists.{parted};
 ghost use Rattle.jv_script.specs.Reading.{has_x, pairs_of, Reads, Appends};
 
 use crate::bad_line::BadLine;
@@ -106,7 +106,7 @@ fn part_length(part: &[u8]) -> Option<u64>
 }
 
 // The byte of a part `HHxN`, and how often it stands.
-#[tactic(auto, unfolding(jv_model::specs::script::Grammar::repeated_of))]
+#[tactic(auto, unfolding(jv_model::specs::promise::script::Grammar::repeated_of))]
 fn repeated(part: &[u8]) -> Option<(u8, u64)>
     ensures { option_map (λ r. Repeated (record { byte = r.0; count = r.1 })) result
         ≡ repeated_of part.now }

@@ -2,7 +2,7 @@
 //! room of its own and goes behind the text together: a call for each takes longer than the part.
 ghost use Rattle.std.specs.Prelude.{◌≡◌, ◌<◌, ◌≤◌, [], ◌++◌, false, true, length, IfOk, OnOk};
 ghost use Rattle.std.specs.List.{flat_map};
-ghost use Rattle.jv_model.specs.script.Printed.{data_text, hex_pair, part_text, Repeated};
+ghost use Rattle.jv_model.specs.promise.script.Printed.{data_text, hex_pair, part_text, Repeated};
 ghost use Rattle.jv_script.specs.declared.data_text.TheConstants.{WAITING};
 ghost use Rattle.jv_script.specs.Printing.{begins_long, joint, PrintsTo};
 
@@ -21,7 +21,7 @@ const FEW_BYTES: usize = 8;
 /// Printed bytes that wait for their place behind a text.
 type Waiting = ArrayVec<u8, WAITING>;
 
-#[tactic(auto, unfolding(jv_model::specs::script::Printed::data_text))]
+#[tactic(auto, unfolding(jv_model::specs::promise::script::Printed::data_text))]
 pub(crate) fn push_data(text: &mut Vec<u8>, bytes: &[u8]) -> Result<(), AllocError>
     ensures { OnOk result (text.new.items ≡ text.old.items ++ data_text bytes.now) }
 {

@@ -1,7 +1,7 @@
 //! Paths and the targets of symlinks, read.
 ghost use Rattle.std.specs.Prelude.{◌≡◌, ◌&&◌, ◌++◌, true, IsSome, IfOk, OnOk, is_some};
 ghost use Rattle.std.specs.List.{list_all, flat_map};
-ghost use Rattle.jv_model.specs.script.Grammar.{is_plain, is_escape, escape_bytes, unescaped, path_of, target_of};
+ghost use Rattle.jv_model.specs.promise.script.Grammar.{is_plain, is_escape, escape_bytes, unescaped, path_of, target_of};
 ghost use Rattle.jv_model.specs.Lists.{first_item};
 ghost use Rattle.jv_script.specs.Reading.{escapes_left, Reads, first_of};
 

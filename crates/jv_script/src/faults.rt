@@ -1,6 +1,6 @@
 //! Refusals, printed.
 ghost use Rattle.std.specs.Prelude.{◌≡◌, ◌++◌, codes, OnOk};
-ghost use Rattle.jv_model.specs.script.Printed.{device_name, gone_words, busy_words, fault_name, fault_words, fault_text};
+ghost use Rattle.jv_model.specs.promise.script.Printed.{device_name, gone_words, busy_words, fault_name, fault_words, fault_text};
 
 use crate::numbers::push_number;
 use jv_model::{Busy, Device, Fault, Gone};
@@ -15,7 +15,7 @@ pub(crate) fn push_refusal(text: &mut Vec<u8>, fault: &Fault) -> Result<(), Allo
     push_fault_words(text, fault)
 }
 
-#[tactic(auto, unfolding(jv_model::specs::script::Printed::fault_name))]
+#[tactic(auto, unfolding(jv_model::specs::promise::script::Printed::fault_name))]
 fn fault_name(fault: &Fault) -> &'static str
     ensures { result.now ≡ fault_name fault.now }
 {
@@ -44,7 +44,7 @@ fn fault_name(fault: &Fault) -> &'static str
     }
 }
 
-#[tactic(auto, unfolding(jv_model::specs::script::Printed::fault_words))]
+#[tactic(auto, unfolding(jv_model::specs::promise::script::Printed::fault_words))]
 fn push_fault_words(text: &mut Vec<u8>, fault: &Fault) -> Result<(), AllocError>
     ensures { OnOk result (text.new.items ≡ text.old.items ++ fault_words fault.now) }
 {

@@ -1,14 +1,14 @@
 //! Clients, numbers and modes, read.
 ghost use Rattle.std.specs.Prelude.{◌≡◌, ◌-◌, ◌<◌, ◌≤◌, if◌then◌else◌, Some, None, IfSome};
 ghost use Rattle.std.specs.List.{list_all};
-ghost use Rattle.jv_model.specs.script.Spelling.{client_of, mode_of, number_of, length_of, is_numeral, is_decimal_digit, is_octal_digit};
-ghost use Rattle.jv_model.specs.script.Grammar.{number_up_to, seconds_of};
+ghost use Rattle.jv_model.specs.promise.script.Spelling.{client_of, mode_of, number_of, length_of, is_numeral, is_decimal_digit, is_octal_digit};
+ghost use Rattle.jv_model.specs.promise.script.Grammar.{number_up_to, seconds_of};
 
 use jv_model::options::MAX_SHORT_NUMBER;
 use jv_model::{ClientId, LAST_CLIENT, MAX_DATA, MAX_TICK};
 
 /// The client of a letter, A to H.
-#[tactic(auto, unfolding(jv_model::specs::script::Spelling::client_of))]
+#[tactic(auto, unfolding(jv_model::specs::promise::script::Spelling::client_of))]
 pub(crate) fn client(letter: &[u8]) -> Option<ClientId>
     ensures { result ≡ client_of letter.now }
 {
@@ -22,7 +22,7 @@ pub(crate) fn client(letter: &[u8]) -> Option<ClientId>
 }
 
 /// The mode of four octal digits.
-#[tactic(auto, unfolding(jv_model::specs::script::Spelling::mode_of))]
+#[tactic(auto, unfolding(jv_model::specs::promise::script::Spelling::mode_of))]
 pub(crate) fn mode(digits: &[u8]) -> Option<u16>
     ensures { result ≡ mode_of digits.now }
 {
@@ -45,7 +45,7 @@ fn octal_value(digit: u8) -> Option<u16>
 }
 
 /// A decimal number without leading zeros, of 64 bits at most.
-#[tactic(auto, unfolding(jv_model::specs::script::Spelling::number_of))]
+#[tactic(auto, unfolding(jv_model::specs::promise::script::Spelling::number_of))]
 pub(crate) fn number(digits: &[u8]) -> Option<u64>
     ensures { result ≡ number_of digits.now }
 {
@@ -78,7 +78,7 @@ fn all_decimal_digits(digits: &[u8]) -> bool
 }
 
 /// The length of a read in bytes.
-#[tactic(auto, unfolding(jv_model::specs::script::Spelling::length_of))]
+#[tactic(auto, unfolding(jv_model::specs::promise::script::Spelling::length_of))]
 pub(crate) fn read_length(digits: &[u8]) -> Option<u32>
     ensures { result ≡ length_of digits.now }
 {
@@ -90,7 +90,7 @@ pub(crate) fn read_length(digits: &[u8]) -> Option<u32>
 }
 
 /// A number of at most `limit`.
-#[tactic(auto, unfolding(jv_model::specs::script::Grammar::number_up_to))]
+#[tactic(auto, unfolding(jv_model::specs::promise::script::Grammar::number_up_to))]
 pub(crate) fn number_up_to(limit: u64, digits: &[u8]) -> Option<u64>
     ensures value { result ≡ number_up_to limit digits.now }
     ensures small { IfSome result (λ number. number ≤ limit) }
@@ -111,7 +111,7 @@ pub(crate) fn short_number(digits: &[u8]) -> Option<u32>
 }
 
 /// The seconds of a tick.
-#[tactic(auto, unfolding(jv_model::specs::script::Grammar::seconds_of))]
+#[tactic(auto, unfolding(jv_model::specs::promise::script::Grammar::seconds_of))]
 pub(crate) fn tick_seconds(digits: &[u8]) -> Option<u64>
     ensures { result ≡ seconds_of digits.now }
 {

@@ -1,9 +1,9 @@
 //! Pairs of hexadecimal digits, read.
 ghost use Rattle.std.specs.Prelude.{◌≡◌, ◌&&◌, ◌*◌, ◌<◌, true, length};
 ghost use Rattle.std.specs.List.{list_all};
-ghost use Rattle.jv_model.specs.script.Spelling.{is_hex_digit, hex_value, bytes_of_digits, byte_of};
-ghost use Rattle.jv_model.specs.script.Grammar.{is_pairs};
-ghost use Rattle.jv_model.specs.Optional.{provided};
+ghost use Rattle.jv_model.specs.promise.script.Spelling.{is_hex_digit, hex_value, bytes_of_digits, byte_of};
+ghost use Rattle.jv_model.specs.promise.script.Grammar.{is_pairs};
+ghost use Rattle.jv_model.specs.promise.Optional.{provided};
 
 /// Whether a text is one byte or more as pairs of digits.
 pub(crate) fn is_pairs(text: &[u8]) -> bool

@@ -1,7 +1,7 @@
 //! Bytes as pairs of hexadecimal digits, printed.
 ghost use Rattle.std.specs.Prelude.{◌≡◌, ◌*◌, ◌<◌, ◌++◌, OnOk, length};
 ghost use Rattle.std.specs.List.{flat_map};
-ghost use Rattle.jv_model.specs.script.Printed.{hex_digit, hex_pair};
+ghost use Rattle.jv_model.specs.promise.script.Printed.{hex_digit, hex_pair};
 
 use std::alloc::AllocError;
 

@@ -1,7 +1,7 @@
 //! Lines of a script, read by the grammar.
 ghost use Rattle.std.specs.Prelude.{◌≡◌, ◌↔◌, None, Err, IfOk, Some, option_map};
-ghost use Rattle.jv_model.specs.script.Spelling.{is_silent, words, client_of};
-ghost use Rattle.jv_model.specs.script.Grammar.{line_of, command_of, client_line_of, begin_of, where_last, seconds_of};
+ghost use Rattle.jv_model.specs.promise.script.Spelling.{is_silent, words, client_of};
+ghost use Rattle.jv_model.specs.promise.script.Grammar.{line_of, command_of, client_line_of, begin_of, where_last, seconds_of};
 ghost use Rattle.jv_model.specs.declared.op.Line.TheVariants.{Drain, Tick};
 ghost use Rattle.jv_script.specs.Reading.{Reads, words_left};
 
@@ -18,7 +18,7 @@ use std::alloc::Global;
 ///
 /// [`BadLine::Off`] if and only if the text is malformed, also when memory runs out. [`BadLine::Memory`] for a line
 /// whose path, target or DATA finds no memory.
-#[tactic(auto, unfolding(jv_model::specs::script::Grammar::line_of))]
+#[tactic(auto, unfolding(jv_model::specs::promise::script::Grammar::line_of))]
 pub fn read_line(alloc: Global, text: &[u8]) -> Result<Line, BadLine>
     ensures read { IfOk result (λ line. line_of text.now ≡ Some line) }
     // A malformed text is reported as such, also when memory runs out.
@@ -40,7 +40,7 @@ pub fn is_silent(text: &[u8]) -> bool
     }
 }
 
-#[tactic(auto, unfolding(jv_model::specs::script::Grammar::command_of))]
+#[tactic(auto, unfolding(jv_model::specs::promise::script::Grammar::command_of))]
 fn command(alloc: Global, text: &[u8]) -> Result<Line, BadLine>
     ensures { Reads result (command_of (words text.now)) }
 {
@@ -84,7 +84,7 @@ fn where_last(rest: Option<&[u8]>, line: Line) -> Option<Line>
 }
 
 // What follows a client's letter.
-#[tactic(auto, unfolding(jv_model::specs::script::Grammar::client_line_of))]
+#[tactic(auto, unfolding(jv_model::specs::promise::script::Grammar::client_line_of))]
 fn client_line(
     alloc: Global,
     client: ClientId,
@@ -110,7 +110,7 @@ fn client_line(
 }
 
 // An operation that is submitted alone.
-#[tactic(auto, unfolding(jv_model::specs::script::Grammar::begin_of))]
+#[tactic(auto, unfolding(jv_model::specs::promise::script::Grammar::begin_of))]
 fn begin(alloc: Global, client: ClientId, rest: Option<&[u8]>) -> Result<Line, BadLine>
     ensures { Reads result (begin_of client (words_left rest.entry)) }
 {

@@ -1,14 +1,14 @@
 //! Names, paths and targets, attributes and the names of blocks, printed.
 ghost use Rattle.std.specs.Prelude.{◌≡◌, ◌∷◌, ◌+◌, ◌/◌, ◌%◌, ◌++◌, OnOk};
 ghost use Rattle.std.specs.List.{flat_map};
-ghost use Rattle.jv_model.specs.script.ReplyText.{is_kept_in_name, is_kept_in_path, escaped_byte, name_text, path_text, kind_letter, mode_digits, attr_words, entry_text, entries_text, uploaded_text};
+ghost use Rattle.jv_model.specs.promise.script.ReplyText.{is_kept_in_name, is_kept_in_path, escaped_byte, name_text, path_text, kind_letter, mode_digits, attr_words, entry_text, entries_text, uploaded_text};
 
 use crate::numbers::{push_number, push_numbers};
 use jv_model::{Attr, BlockId, FileKind, Name, Setting};
 use jv_slices::{block_name, push_decimal, upper_pair};
 use std::alloc::{AllocError, Global};
 
-#[tactic(auto, unfolding(jv_model::specs::script::ReplyText::path_text))]
+#[tactic(auto, unfolding(jv_model::specs::promise::script::ReplyText::path_text))]
 pub(crate) fn push_path(text: &mut Vec<u8>, path: &[u8]) -> Result<(), AllocError>
     ensures { OnOk result (text.new.items ≡ text.old.items ++ path_text path.now) }
 {
@@ -18,7 +18,7 @@ pub(crate) fn push_path(text: &mut Vec<u8>, path: &[u8]) -> Result<(), AllocErro
     Ok(())
 }
 
-#[tactic(auto, unfolding(jv_model::specs::script::ReplyText::name_text))]
+#[tactic(auto, unfolding(jv_model::specs::promise::script::ReplyText::name_text))]
 fn push_name(text: &mut Vec<u8>, name: &[u8]) -> Result<(), AllocError>
     ensures { OnOk result (text.new.items ≡ text.old.items ++ name_text name.now) }
 {
@@ -80,7 +80,7 @@ fn push_entry(text: &mut Vec<u8>, entry: &(Name, u64)) -> Result<(), AllocError>
     push_decimal(text, entry.1)
 }
 
-#[tactic(auto, unfolding(jv_model::specs::script::ReplyText::attr_words))]
+#[tactic(auto, unfolding(jv_model::specs::promise::script::ReplyText::attr_words))]
 pub(crate) fn push_attr(text: &mut Vec<u8>, attr: &Attr) -> Result<(), AllocError>
     ensures { OnOk result (text.new.items ≡ text.old.items ++ attr_words attr.now) }
 {
@@ -136,7 +136,7 @@ fn octal_digit(number: u16) -> u8
     b'0' + (number % 8) as u8
 }
 
-#[tactic(auto, unfolding(jv_model::specs::script::ReplyText::uploaded_text))]
+#[tactic(auto, unfolding(jv_model::specs::promise::script::ReplyText::uploaded_text))]
 pub(crate) fn push_uploaded(
     alloc: Global,
     text: &mut Vec<u8>,

@@ -1,7 +1,7 @@
 //! Numbers, printed.
 ghost use Rattle.std.specs.Prelude.{◌≡◌, ◌++◌, OnOk};
 ghost use Rattle.std.specs.List.{flat_map};
-ghost use Rattle.jv_model.specs.script.Printed.{number_word};
+ghost use Rattle.jv_model.specs.promise.script.Printed.{number_word};
 
 use jv_slices::push_decimal;
 use std::alloc::AllocError;

@@ -1,8 +1,8 @@
 //! Operations, read from their words.
 ghost use Rattle.std.specs.Prelude.{◌≡◌, bytes_eq};
-ghost use Rattle.jv_model.specs.script.Spelling.{number_of};
-ghost use Rattle.jv_model.specs.script.Grammar.{operation_of, operation_of_none, operation_of_one, operation_of_path, operation_of_two, operation_of_two_names, operation_of_three, symlink_of, two_paths_of, path_and_mode_of, truncate_of, utimes_of, compact_of, read_of, write_of, chown_of, how_of, rename_of, copy_of};
-ghost use Rattle.jv_model.specs.Optional.{provided};
+ghost use Rattle.jv_model.specs.promise.script.Spelling.{number_of};
+ghost use Rattle.jv_model.specs.promise.script.Grammar.{operation_of, operation_of_none, operation_of_one, operation_of_path, operation_of_two, operation_of_two_names, operation_of_three, symlink_of, two_paths_of, path_and_mode_of, truncate_of, utimes_of, compact_of, read_of, write_of, chown_of, how_of, rename_of, copy_of};
+ghost use Rattle.jv_model.specs.promise.Optional.{provided};
 ghost use Rattle.jv_script.specs.Reading.{Reads, words_left};
 
 use crate::bad_line::BadLine;
@@ -14,7 +14,7 @@ use jv_model::{How, LAST_MOMENT, Op, Path};
 use std::alloc::Global;
 
 /// The operation of a name and of the words that follow it.
-#[tactic(auto, unfolding(jv_model::specs::script::Grammar::operation_of))]
+#[tactic(auto, unfolding(jv_model::specs::promise::script::Grammar::operation_of))]
 pub(crate) fn operation(alloc: Global, name: &[u8], words: Option<&[u8]>) -> Result<Op, BadLine>
     ensures { Reads result (operation_of name.now (words_left words.entry)) }
 {
@@ -39,7 +39,7 @@ pub(crate) fn operation(alloc: Global, name: &[u8], words: Option<&[u8]>) -> Res
     copy(first, second, third, fourth, fifth).ok_or(BadLine::Off)
 }
 
-#[tactic(auto, unfolding(jv_model::specs::script::Grammar::operation_of_none))]
+#[tactic(auto, unfolding(jv_model::specs::promise::script::Grammar::operation_of_none))]
 fn operation_of_none(name: &[u8]) -> Option<Op>
     ensures { result ≡ operation_of_none name.now }
 {
@@ -70,7 +70,7 @@ fn operation_of_none(name: &[u8]) -> Option<Op>
     None
 }
 
-#[tactic(auto, unfolding(jv_model::specs::script::Grammar::operation_of_one))]
+#[tactic(auto, unfolding(jv_model::specs::promise::script::Grammar::operation_of_one))]
 fn operation_of_one(alloc: Global, name: &[u8], word: &[u8]) -> Result<Op, BadLine>
     ensures { Reads result (operation_of_one name.now word.now) }
 {
@@ -110,7 +110,7 @@ fn handle(word: &[u8]) -> Result<u64, BadLine>
     number(word).ok_or(BadLine::Off)
 }
 
-#[tactic(auto, unfolding(jv_model::specs::script::Grammar::operation_of_path))]
+#[tactic(auto, unfolding(jv_model::specs::promise::script::Grammar::operation_of_path))]
 fn operation_of_path(alloc: Global, name: &[u8], word: &[u8]) -> Result<Op, BadLine>
     ensures { Reads result (operation_of_path name.now word.now) }
 {
@@ -149,7 +149,7 @@ fn operation_of_path(alloc: Global, name: &[u8], word: &[u8]) -> Result<Op, BadL
     Err(BadLine::Off)
 }
 
-#[tactic(auto, unfolding(jv_model::specs::script::Grammar::operation_of_two))]
+#[tactic(auto, unfolding(jv_model::specs::promise::script::Grammar::operation_of_two))]
 fn operation_of_two(alloc: Global, name: &[u8], first: &[u8], second: &[u8]) -> Result<Op, BadLine>
     ensures { Reads result (operation_of_two name.now first.now second.now) }
 {
@@ -177,7 +177,7 @@ fn operation_of_two(alloc: Global, name: &[u8], first: &[u8], second: &[u8]) -> 
     operation_of_two_names(alloc, name, first, second)
 }
 
-#[tactic(auto, unfolding(jv_model::specs::script::Grammar::operation_of_two_names))]
+#[tactic(auto, unfolding(jv_model::specs::promise::script::Grammar::operation_of_two_names))]
 fn operation_of_two_names(
     alloc: Global,
     name: &[u8],
@@ -201,7 +201,7 @@ fn operation_of_two_names(
     Err(BadLine::Off)
 }
 
-#[tactic(auto, unfolding(jv_model::specs::script::Grammar::path_and_mode_of))]
+#[tactic(auto, unfolding(jv_model::specs::promise::script::Grammar::path_and_mode_of))]
 fn path_and_mode(alloc: Global, first: &[u8], second: &[u8]) -> Result<(Path, u16), BadLine>
     ensures { Reads result (path_and_mode_of first.now second.now) }
 {
@@ -211,7 +211,7 @@ fn path_and_mode(alloc: Global, first: &[u8], second: &[u8]) -> Result<(Path, u1
 }
 
 // Both are tested before memory is taken for the first: a malformed line is reported as such.
-#[tactic(auto, unfolding(jv_model::specs::script::Grammar::two_paths_of))]
+#[tactic(auto, unfolding(jv_model::specs::promise::script::Grammar::two_paths_of))]
 fn two_paths(alloc: Global, first: &[u8], second: &[u8]) -> Result<(Path, Path), BadLine>
     ensures { Reads result (two_paths_of first.now second.now) }
 {
@@ -223,7 +223,7 @@ fn two_paths(alloc: Global, first: &[u8], second: &[u8]) -> Result<(Path, Path),
     Ok((path, to))
 }
 
-#[tactic(auto, unfolding(jv_model::specs::script::Grammar::symlink_of))]
+#[tactic(auto, unfolding(jv_model::specs::promise::script::Grammar::symlink_of))]
 fn symlink(alloc: Global, first: &[u8], second: &[u8]) -> Result<Op, BadLine>
     ensures { Reads result (symlink_of first.now second.now) }
 {
@@ -235,7 +235,7 @@ fn symlink(alloc: Global, first: &[u8], second: &[u8]) -> Result<Op, BadLine>
     Ok(Op::Symlink { target, path })
 }
 
-#[tactic(auto, unfolding(jv_model::specs::script::Grammar::truncate_of))]
+#[tactic(auto, unfolding(jv_model::specs::promise::script::Grammar::truncate_of))]
 fn truncate(first: &[u8], second: &[u8]) -> Option<Op>
     ensures { result ≡ truncate_of first.now second.now }
 {
@@ -244,7 +244,7 @@ fn truncate(first: &[u8], second: &[u8]) -> Option<Op>
     Some(Op::Truncate { handle, len })
 }
 
-#[tactic(auto, unfolding(jv_model::specs::script::Grammar::utimes_of))]
+#[tactic(auto, unfolding(jv_model::specs::promise::script::Grammar::utimes_of))]
 fn utimes(alloc: Global, first: &[u8], second: &[u8]) -> Result<Op, BadLine>
     ensures { Reads result (utimes_of first.now second.now) }
 {
@@ -253,7 +253,7 @@ fn utimes(alloc: Global, first: &[u8], second: &[u8]) -> Result<Op, BadLine>
     Ok(Op::Utimes { path, mtime })
 }
 
-#[tactic(auto, unfolding(jv_model::specs::script::Grammar::compact_of))]
+#[tactic(auto, unfolding(jv_model::specs::promise::script::Grammar::compact_of))]
 fn compact(alloc: Global, first: &[u8], second: &[u8]) -> Result<Op, BadLine>
     ensures { Reads result (compact_of first.now second.now) }
 {
@@ -262,7 +262,7 @@ fn compact(alloc: Global, first: &[u8], second: &[u8]) -> Result<Op, BadLine>
     Ok(Op::Compact { path, window })
 }
 
-#[tactic(auto, unfolding(jv_model::specs::script::Grammar::operation_of_three))]
+#[tactic(auto, unfolding(jv_model::specs::promise::script::Grammar::operation_of_three))]
 fn operation_of_three(
     alloc: Global,
     name: &[u8],
@@ -287,7 +287,7 @@ fn operation_of_three(
     Err(BadLine::Off)
 }
 
-#[tactic(auto, unfolding(jv_model::specs::script::Grammar::read_of))]
+#[tactic(auto, unfolding(jv_model::specs::promise::script::Grammar::read_of))]
 fn read(first: &[u8], second: &[u8], third: &[u8]) -> Option<Op>
     ensures { result ≡ read_of first.now second.now third.now }
 {
@@ -301,7 +301,7 @@ fn read(first: &[u8], second: &[u8], third: &[u8]) -> Option<Op>
     })
 }
 
-#[tactic(auto, unfolding(jv_model::specs::script::Grammar::write_of))]
+#[tactic(auto, unfolding(jv_model::specs::promise::script::Grammar::write_of))]
 fn write(alloc: Global, first: &[u8], second: &[u8], third: &[u8]) -> Result<Op, BadLine>
     ensures { Reads result (write_of first.now second.now third.now) }
 {
@@ -315,7 +315,7 @@ fn write(alloc: Global, first: &[u8], second: &[u8], third: &[u8]) -> Result<Op,
     })
 }
 
-#[tactic(auto, unfolding(jv_model::specs::script::Grammar::chown_of))]
+#[tactic(auto, unfolding(jv_model::specs::promise::script::Grammar::chown_of))]
 fn chown(alloc: Global, first: &[u8], second: &[u8], third: &[u8]) -> Result<Op, BadLine>
     ensures { Reads result (chown_of first.now second.now third.now) }
 {
@@ -325,7 +325,7 @@ fn chown(alloc: Global, first: &[u8], second: &[u8], third: &[u8]) -> Result<Op,
     Ok(Op::Chown { path, uid, gid })
 }
 
-#[tactic(auto, unfolding(jv_model::specs::script::Grammar::rename_of))]
+#[tactic(auto, unfolding(jv_model::specs::promise::script::Grammar::rename_of))]
 fn rename(alloc: Global, first: &[u8], second: &[u8], third: &[u8]) -> Result<Op, BadLine>
     ensures { Reads result (rename_of first.now second.now third.now) }
 {
@@ -334,7 +334,7 @@ fn rename(alloc: Global, first: &[u8], second: &[u8], third: &[u8]) -> Result<Op
     Ok(Op::Rename { path, to, how })
 }
 
-#[tactic(auto, unfolding(jv_model::specs::script::Grammar::how_of))]
+#[tactic(auto, unfolding(jv_model::specs::promise::script::Grammar::how_of))]
 fn how(word: &[u8]) -> Option<How>
     ensures { result ≡ how_of word.now }
 {
@@ -347,7 +347,7 @@ fn how(word: &[u8]) -> Option<How>
     None
 }
 
-#[tactic(auto, unfolding(jv_model::specs::script::Grammar::copy_of))]
+#[tactic(auto, unfolding(jv_model::specs::promise::script::Grammar::copy_of))]
 fn copy(first: &[u8], second: &[u8], third: &[u8], fourth: &[u8], fifth: &[u8]) -> Option<Op>
     ensures { result ≡ copy_of first.now second.now third.now fourth.now fifth.now }
 {

@@ -1,7 +1,7 @@
 //! Printed answers.
 ghost use Rattle.std.specs.Prelude.{◌≡◌, true, ◌++◌, codes, IfOk, OnOk};
-ghost use Rattle.jv_model.specs.script.Printed.{data_text, ok_text};
-ghost use Rattle.jv_model.specs.script.ReplyText.{reply_text, printed_line};
+ghost use Rattle.jv_model.specs.promise.script.Printed.{data_text, ok_text};
+ghost use Rattle.jv_model.specs.promise.script.ReplyText.{reply_text, printed_line};
 ghost use Rattle.jv_script.specs.Printing.{is_counts};
 
 use crate::data_text::push_data;
@@ -29,7 +29,7 @@ pub fn print_reply(alloc: Global, setting: &Setting, reply: &Reply) -> Result<By
     Ok(Sequence::from_vec(line))
 }
 
-#[tactic(auto, unfolding(jv_model::specs::script::ReplyText::reply_text))]
+#[tactic(auto, unfolding(jv_model::specs::promise::script::ReplyText::reply_text))]
 fn push_reply(
     alloc: Global,
     text: &mut Vec<u8>,
@@ -62,7 +62,7 @@ fn push_reply(
 }
 
 // Answers that are numbers, or nothing at all.
-#[tactic(auto, unfolding(jv_model::specs::script::ReplyText::reply_text))]
+#[tactic(auto, unfolding(jv_model::specs::promise::script::ReplyText::reply_text))]
 fn push_counts(text: &mut Vec<u8>, setting: &Setting, reply: &Reply) -> Result<(), AllocError>
     requires { is_counts reply.now ≡ true }
     ensures { OnOk result (text.new.items ≡ text.old.items ++ reply_text setting.now reply.now) }

@@ -2,7 +2,7 @@
 ghost use Rattle.std.specs.Prelude.{◌≡◌, [], ◌∷◌, MatchOption};
 ghost use Rattle.std.specs.Option.{option_copied};
 ghost use Rattle.memchr.specs.Find.{is_byte, IsFirstByte};
-ghost use Rattle.jv_model.specs.Lists.{parted};
+ghost use Rattle.jv_model.specs.promise.Lists.{parted};
 ghost use Rattle.jv_script.specs.Reading.{parts_after, words_left};
 
 use memchr::memchr;

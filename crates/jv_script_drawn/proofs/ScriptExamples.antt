@@ -3,7 +3,7 @@ use Rattle.std.proofs.Common.{◌≡◌, false, [], ◌∷◌, length, replicate
 use Rattle.std.specs.Fmt.{digits}
 use Rattle.jv_model.specs.declared.op.Op.TheVariants.{Mount, Create, Read, Write, Flush}
 use Rattle.jv_model.specs.declared.op.Line.TheVariants.{Do}
-use Rattle.jv_script_drawn.specs.Script.{state, operations, script}
+use Rattle.jv_script_drawn.specs.promise.Script.{state, operations, script}
 use Rattle.jv_script_drawn.proofs.ScriptLaws.{line-access, script_length}
 
 -- with two files and four accesses

@@ -8,7 +8,7 @@ use Rattle.std.proofs.lemmas.Option.{slice_get-map, slice_get-get_or, slice_get_
 use Rattle.jv_model.specs.declared.op.Op.{Op}
 use Rattle.jv_model.specs.declared.op.Op.TheVariants.{Mount, Read, Write, Flush}
 use Rattle.jv_script_drawn.specs.declared.accesses.TheConstants.{FILES, ACCESSES, LINES, READ_EVERY, POSITIONS, MAX_LENGTH}
-use Rattle.jv_script_drawn.specs.Script.{next_state, state, create, access, operations, on_client, script}
+use Rattle.jv_script_drawn.specs.promise.Script.{next_state, state, create_line, access, operations, on_client, script}
 use Rattle.jv_script_drawn.specs.Laws.{IsAccess, IsAccessOp, AccessesFit}
 use Rattle.jv_model.proofs.ListLaws.{get_front, get_behind}
 
@@ -26,28 +26,28 @@ operation-mount : (files accesses seed : ℕ) → slice_get (operations files ac
 unfolding operations
 operation-mount files accesses seed = refl
 
-operation-create : (files accesses seed i : ℕ) → i < files → slice_get (operations files accesses seed) (suc i) ≡ Some (create i)
+operation-create : (files accesses seed i : ℕ) → i < files → slice_get (operations files accesses seed) (suc i) ≡ Some (create_line i)
 unfolding operations
 operation-create files accesses seed i h =
-    let creates = map create (range_with_len 0 files) in
+    let creates = map create_line (range_with_len 0 files) in
     let touches = map (λ k. access k (state seed k)) (range_with_len 1 accesses) in
     let flushes = map (λ handle. Flush handle) (range_with_len 1 files) in
-    let size : length creates ≡ files = length-map-range_with_len create 0 files in
+    let size : length creates ≡ files = length-map-range_with_len create_line 0 files in
     let front : suc i < length (Mount false ∷ creates) = omega (arith, size) in
     let middle : suc i < length ((Mount false ∷ creates) ++ touches) = omega (arith, front, length-append (Mount false ∷ creates) touches) in
     get_front ((Mount false ∷ creates) ++ touches) flushes (suc i) middle
     ∙ get_front (Mount false ∷ creates) touches (suc i) front
-    ∙ get_drawn create 0 files i i h (omega arith)
+    ∙ get_drawn create_line 0 files i i h (omega arith)
 
 operation-access : (files accesses seed k : ℕ) → 0 < k → k ≤ accesses
     → slice_get (operations files accesses seed) (files + k) ≡ Some (access k (state seed k))
 unfolding operations
 operation-access files accesses seed k low high =
-    let creates = map create (range_with_len 0 files) in
+    let creates = map create_line (range_with_len 0 files) in
     let touch : ℕ → Op = λ k. access k (state seed k) in
     let touches = map touch (range_with_len 1 accesses) in
     let flushes = map (λ handle. Flush handle) (range_with_len 1 files) in
-    let size : length creates ≡ files = length-map-range_with_len create 0 files in
+    let size : length creates ≡ files = length-map-range_with_len create_line 0 files in
     let front : length (Mount false ∷ creates) ≡ suc files = ap suc size in
     let touched : length touches ≡ accesses = length-map-range_with_len touch 1 accesses in
     let middle : files + k < length ((Mount false ∷ creates) ++ touches)
@@ -60,12 +60,12 @@ operation-flush : (files accesses seed handle : ℕ) → 0 < handle → handle �
     → slice_get (operations files accesses seed) (files + accesses + handle) ≡ Some (Flush handle)
 unfolding operations
 operation-flush files accesses seed handle low high =
-    let creates = map create (range_with_len 0 files) in
+    let creates = map create_line (range_with_len 0 files) in
     let touch : ℕ → Op = λ k. access k (state seed k) in
     let touches = map touch (range_with_len 1 accesses) in
     let flush : ℕ → Op = λ handle. Flush handle in
     let flushes = map flush (range_with_len 1 files) in
-    let size : length creates ≡ files = length-map-range_with_len create 0 files in
+    let size : length creates ≡ files = length-map-range_with_len create_line 0 files in
     let front : length (Mount false ∷ creates) ≡ suc files = ap suc size in
     let touched : length touches ≡ accesses = length-map-range_with_len touch 1 accesses in
     let middle : length ((Mount false ∷ creates) ++ touches) ≡ suc files + accesses
@@ -76,12 +76,12 @@ operation-flush files accesses seed handle low high =
 length-operations : (files accesses seed : ℕ) → length (operations files accesses seed) ≡ 1 + files + accesses + files
 unfolding operations
 length-operations files accesses seed =
-    let creates = map create (range_with_len 0 files) in
+    let creates = map create_line (range_with_len 0 files) in
     let touch : ℕ → Op = λ k. access k (state seed k) in
     let touches = map touch (range_with_len 1 accesses) in
     let flush : ℕ → Op = λ handle. Flush handle in
     let flushes = map flush (range_with_len 1 files) in
-    let size : length creates ≡ files = length-map-range_with_len create 0 files in
+    let size : length creates ≡ files = length-map-range_with_len create_line 0 files in
     let front : length (Mount false ∷ creates) ≡ suc files = ap suc size in
     let touched : length touches ≡ accesses = length-map-range_with_len touch 1 accesses in
     let flushed : length flushes ≡ files = length-map-range_with_len flush 1 files in
@@ -99,10 +99,10 @@ line_of seed index op h = slice_get-map on_client (operations FILES ACCESSES see
 pub line-mount : (seed : ℕ) → slice_get (script seed) 0 ≡ Some (on_client (Mount false))
 line-mount seed = line_of seed 0 (Mount false) (operation-mount FILES ACCESSES seed)
 
-pub line-create : (seed index i : ℕ) → index ≡ i + 1 → i < FILES → slice_get (script seed) index ≡ Some (on_client (create i))
+pub line-create : (seed index i : ℕ) → index ≡ i + 1 → i < FILES → slice_get (script seed) index ≡ Some (on_client (create_line i))
 line-create seed index i e h =
     let place : suc i ≡ index = omega arith in
-    line_of seed index (create i) (subst (λ (k : ℕ). slice_get (operations FILES ACCESSES seed) k ≡ Some (create i)) place (operation-create FILES ACCESSES seed i h))
+    line_of seed index (create_line i) (subst (λ (k : ℕ). slice_get (operations FILES ACCESSES seed) k ≡ Some (create_line i)) place (operation-create FILES ACCESSES seed i h))
 
 pub line-access : (seed index k x : ℕ) → index ≡ FILES + k → 0 < k → k ≤ ACCESSES → x ≡ state seed k
     → slice_get (script seed) index ≡ Some (on_client (access k x))

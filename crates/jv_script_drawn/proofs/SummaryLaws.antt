@@ -2,9 +2,9 @@
 use Rattle.std.proofs.Common.{◌≡◌, ℕ, ◌-◌, ◌^◌, ◌≤◌, Bool, true, false, not, cond, if◌then◌else◌, List, [], ◌∷◌, length, fold, sum, sum_by, refl, ap, ◌∙◌, arith, lit≤, zero-add}
 use Rattle.std.proofs.lemmas.List.Sums.{sum_by-cons}
 use Rattle.jv_model.specs.declared.op.Reply.{Reply}
-use Rattle.jv_model.specs.journal.State.{is_refused}
-use Rattle.jv_model.specs.Counts.{counted, saturated}
-use Rattle.jv_script_drawn.specs.Summary.{TotalsValue, no_totals, added, read_bytes, with_reply}
+use Rattle.jv_model.specs.promise.journal.State.{is_refused}
+use Rattle.jv_model.specs.promise.Counts.{counted, saturated}
+use Rattle.jv_script_drawn.specs.promise.Summary.{TotalsValue, no_totals, added, read_bytes, with_reply}
 use Rattle.jv_script_drawn.specs.Laws.{TotalsAreSums}
 
 -- a total to which each answer adds an amount

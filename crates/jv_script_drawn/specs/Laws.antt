@@ -3,11 +3,11 @@ use Rattle.std.specs.Prelude.{◌≡◌, ℕ, ◌^◌, ◌<◌, ◌≤◌, List,
 use Rattle.jv_model.specs.declared.op.Op.{Op}
 use Rattle.jv_model.specs.declared.op.Op.TheVariants.{Read, Write}
 use Rattle.jv_model.specs.declared.op.Reply.{Reply}
-use Rattle.jv_model.specs.journal.State.{is_refused}
-use Rattle.jv_model.specs.Counts.{saturated}
+use Rattle.jv_model.specs.promise.journal.State.{is_refused}
+use Rattle.jv_model.specs.promise.Counts.{saturated}
 use Rattle.jv_script_drawn.specs.declared.accesses.TheConstants.{FILES, LINES, MAX_LENGTH, POSITIONS}
-use Rattle.jv_script_drawn.specs.Script.{access, script}
-use Rattle.jv_script_drawn.specs.Summary.{TotalsValue, read_bytes, totals_of}
+use Rattle.jv_script_drawn.specs.promise.Script.{access, script}
+use Rattle.jv_script_drawn.specs.promise.Summary.{TotalsValue, read_bytes, totals_of}
 
 -- how many lines a script has
 abbrev pub ScriptsHaveLines : Type 0

@@ -1,4 +1,4 @@
 -- The definitions that contracts cite.
+pub mod promise
 pub mod Script
-pub mod Summary
 pub mod Laws

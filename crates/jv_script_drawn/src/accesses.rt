@@ -1,6 +1,6 @@
 //! The operations of a drawn script: what each of its lines does.
 ghost use Rattle.std.specs.Prelude.{◌≡◌, ℕ, ◌-◌, ◌<◌, Some, slice_get, IfOk};
-ghost use Rattle.jv_script_drawn.specs.Script.{next_state, state, create, access, script, on_client};
+ghost use Rattle.jv_script_drawn.specs.promise.Script.{next_state, state, create_line, access, script, on_client};
 
 use itoa::Buffer;
 use jv_model::{Bytes, Op, Path};
@@ -71,7 +71,7 @@ pub(crate) fn operation_at(alloc: Global, index: u32, x: u64) -> Result<Op, Allo
 
 /// Makes the file `/gI`.
 fn create(alloc: Global, i: u32) -> Result<Op, AllocError>
-    ensures { IfOk result (λ op. op ≡ create i) }
+    ensures { IfOk result (λ op. op ≡ create_line i) }
 {
     let mut path = Vec::from_slice(alloc, b"/g")?;
     let mut buffer = Buffer::new();

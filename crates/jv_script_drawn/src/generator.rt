@@ -1,7 +1,7 @@
 //! A script that is drawn line by line.
 ghost use Rattle.std.specs.Prelude.{◌≡◌, ◌+◌, ◌≤◌, None, slice_get, ◌↔◌, if◌then◌else◌, IfOk, OnErr};
 ghost use Rattle.std.specs.Option.{is_some};
-ghost use Rattle.jv_script_drawn.specs.Script.{script};
+ghost use Rattle.jv_script_drawn.specs.promise.Script.{script};
 
 use crate::accesses::{LINES, operation_at, state_at};
 use jv_model::{ClientId, Line};
@@ -19,7 +19,8 @@ pub struct Generator {
 
 impl Model for Generator {
     ghost use Rattle.std.specs.Prelude.{◌≡◌, ◌-◌, ◌≤◌};
-    ghost use Rattle.jv_script_drawn.specs.Script.{Drawn, state};
+    ghost use Rattle.jv_script_drawn.specs.Script.{Drawn};
+    ghost use Rattle.jv_script_drawn.specs.promise.Script.{state};
     ghost use Rattle.jv_script_drawn.specs.declared.accesses.TheConstants.{FILES, LINES};
 
     ghost Value = { Drawn };
@@ -31,7 +32,7 @@ impl Model for Generator {
 
 impl Generator {
     /// The script of a seed, from its first line on. Takes no memory.
-    #[tactic(auto, unfolding(crate::specs::Script::state))]
+    #[tactic(auto, unfolding(crate::specs::promise::Script::state))]
     pub fn new(seed: u64) -> Generator
         ensures { result ≡ record { seed = seed; given = 0 } }
     {

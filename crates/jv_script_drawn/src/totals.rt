@@ -1,7 +1,7 @@
 //! What the answers of a script's lines add up to.
 ghost use Rattle.std.specs.Prelude.{◌≡◌, ◌++◌, sum, OnOk, IfOk};
-ghost use Rattle.jv_model.specs.script.Printed.{number_word};
-ghost use Rattle.jv_script_drawn.specs.Summary.{no_totals, with_reply, read_bytes, added, summary_line};
+ghost use Rattle.jv_model.specs.promise.script.Printed.{number_word};
+ghost use Rattle.jv_script_drawn.specs.promise.Summary.{no_totals, with_reply, read_bytes, added, summary_line};
 
 use itoa::Buffer;
 use jv_model::{Bytes, Reply};
@@ -19,7 +19,7 @@ pub struct Totals {
 }
 
 impl Model for Totals {
-    ghost use Rattle.jv_script_drawn.specs.Summary.{TotalsValue};
+    ghost use Rattle.jv_script_drawn.specs.promise.Summary.{TotalsValue};
 
     ghost Value = { TotalsValue };
 

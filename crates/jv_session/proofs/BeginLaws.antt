@@ -1,8 +1,8 @@
 -- What a client in memory is to the lines: it has no decided answer between two steps.
 use Rattle.std.proofs.Common.{◌≡◌, false, Option, None, Some, refl, ap, ◌∙◌}
-use Rattle.jv_model.specs.client.ModelClient.{ModelClient, Doing}
-use Rattle.jv_model.specs.journal.Past.{ends_in_step}
-use Rattle.jv_model.specs.journal.Steps.{must_answer}
+use Rattle.jv_model.specs.promise.client.ModelClient.{ModelClient, Doing}
+use Rattle.jv_model.specs.promise.journal.Past.{ends_in_step}
+use Rattle.jv_model.specs.promise.journal.Steps.{must_answer}
 use Rattle.jv_client_handles.specs.Held.{SamePlace}
 use Rattle.jv_client.specs.declared.doing.Doing.{Doing as ClientDoing}
 use Rattle.jv_client.specs.declared.doing.Progress.{Progress}

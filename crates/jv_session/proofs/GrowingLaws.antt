@@ -6,18 +6,19 @@ use Rattle.std.proofs.lemmas.List.Elements.{All-append, All-cons, All-nil}
 use Rattle.std.proofs.lemmas.List.Elements.{Contains-append_left, Contains-append_right, Contains-push}
 use Rattle.jv_model.specs.declared.setting.Setting.{Setting}
 use Rattle.jv_model.specs.declared.slice.BlockId.{BlockId}
-use Rattle.jv_model.specs.FiniteMap.{get, text_key}
+use Rattle.jv_model.specs.promise.FiniteMap.{get, text_key}
 use Rattle.jv_model.proofs.FiniteMapLaws.{get-insert}
 use Rattle.jv_model.proofs.TestLaws.{tie_is}
-use Rattle.jv_model.specs.blocks.BlockNames.{IsBlock, name_in}
-use Rattle.jv_outside.specs.Objects.{ObjectMap, with_object}
+use Rattle.jv_model.specs.promise.blocks.BlockNames.{IsBlock, name_in}
+use Rattle.jv_outside.specs.promise.Objects.{ObjectMap}
+use Rattle.jv_outside.specs.Objects.{with_object}
 use Rattle.jv_volume_bytes.specs.Flights.{flight_block, flight_bytes}
-use Rattle.jv_yard.specs.YardValue.{YardValue}
+use Rattle.jv_yard.specs.promise.YardValue.{YardValue}
 use Rattle.jv_yard.proofs.ContentsLaws.{put-objects}
 use Rattle.jv_client.specs.declared.made.Made.{Made}
 use Rattle.jv_client.specs.ClientValue.{ClientValue}
 use Rattle.jv_client.specs.YardUse.{PutsNext, PutsNone, PutsOneAtMost, YardUse}
-use Rattle.jv_session.specs.Growing.{HasName, ObjectsStay, YardGrows}
+use Rattle.jv_session.specs.promise.Growing.{HasName, ObjectsStay, YardGrows}
 
 -- nothing was put
 objects_same : (setting : Setting) (objects : ObjectMap) (content : Option ObjectMap) → content ≡ Some objects

@@ -13,31 +13,31 @@ use Rattle.jv_model.specs.declared.op.Step.{Step}
 use Rattle.jv_model.specs.declared.op.Step.TheVariants.{More, Done, Broken}
 use Rattle.jv_model.specs.declared.row.RowKey.{RowKey}
 use Rattle.jv_model.specs.declared.setting.Setting.{Setting}
-use Rattle.jv_model.specs.client.ModelClient.{ModelClient}
-use Rattle.jv_model.specs.tree.Tree.{Tree}
-use Rattle.jv_model.specs.journal.State.{State}
-use Rattle.jv_model.specs.journal.Steps.{Start}
-use Rattle.jv_model.specs.journal.Past.{Past, Setup, Due, NoMore, OneStep, StepMade as StepTaken, is_over, ends_in_step, more_text}
-use Rattle.jv_model.specs.script.ReplyText.{printed_line}
-use Rattle.jv_model.specs.journal.Legal.{may_stop}
+use Rattle.jv_model.specs.promise.client.ModelClient.{ModelClient}
+use Rattle.jv_model.specs.promise.tree.Tree.{Tree}
+use Rattle.jv_model.specs.promise.journal.State.{State}
+use Rattle.jv_model.specs.promise.journal.Steps.{Start}
+use Rattle.jv_model.specs.promise.journal.Past.{Past, Setup, Due, NoMore, OneStep, StepMade as StepTaken, is_over, ends_in_step, more_text}
+use Rattle.jv_model.specs.promise.script.ReplyText.{printed_line}
+use Rattle.jv_model.specs.promise.journal.Legal.{may_stop}
 use Rattle.jv_model.specs.journal.Stepping.{stepped_by, entry_of}
-use Rattle.jv_model_laws.specs.OnLines.{IsNow}
+use Rattle.jv_model.specs.promise.journal.Legal.{IsNow}
 use Rattle.jv_model_laws.proofs.LineEntryLaws.{leads_none}
 use Rattle.jv_model_laws.proofs.EndedLineLaws.{is_over_at, may_be_cut_at}
 use Rattle.jv_model_laws.proofs.LineStepLaws.{RunsClient, OneStepOnly, StepsOn, step_ran, others_stepped}
-use Rattle.jv_outside.specs.Ticks.{Ticks, Passes}
-use Rattle.jv_client_shared.specs.Shared.{Known, Shared}
+use Rattle.jv_outside.specs.promise.Ticks.{Ticks, Passes}
+use Rattle.jv_client_shared.specs.promise.Shared.{Known, Shared}
 use Rattle.jv_client_requests.specs.Request.{Request}
 use Rattle.jv_client.specs.ClientValue.{ClientValue}
 use Rattle.jv_client.specs.Held.{IsClient, Holds, in_flight}
 use Rattle.jv_client.specs.Makes.{StepsTo, entries_of, kinds_of}
-use Rattle.jv_client.proofs.StepOfLaws.{leads-of}
+use Rattle.jv_client.proofs.steps.StepOfLaws.{leads-of}
 use Rattle.jv_session.specs.declared.line_end.LineEnd.{LineEnd}
 use Rattle.jv_session.specs.declared.line_end.LineEnd.TheVariants.{Broken as LineBroken}
 use Rattle.jv_session.specs.declared.line_end.Stopped.{Stopped}
 use Rattle.jv_session.specs.declared.line_end.Stopped.TheVariants as stopped
 use Rattle.jv_session.specs.Stands.{ScheduleValue, IsState, IsClientAt, ClockFor, InLine}
-use Rattle.jv_session.specs.Direct.{BlocksStay}
+use Rattle.jv_session.specs.promise.Direct.{BlocksStay}
 use Rattle.jv_session.specs.Lines.{LineState, LineUses}
 use Rattle.jv_session.specs.InLine.{Goes, Finish, Break, FromLine, LineGoes, LineSays, IsMomentOf, StopsBefore, HasStepped, MakesStep, StepsOnce, at_moment, end_of}
 use Rattle.jv_session.proofs.BeginLaws.{not_ending}

@@ -8,11 +8,11 @@ use Rattle.jv_model.specs.declared.basics.Limits.{Limits}
 use Rattle.jv_model.specs.declared.act.Told.TheVariants.{Refused as ToldRefused}
 use Rattle.jv_model.specs.declared.fault.Fault.{Fault}
 use Rattle.jv_model.specs.declared.op.Op.{Op}
-use Rattle.jv_model.specs.client.ModelClient.{ModelClient}
-use Rattle.jv_model.specs.client.Submission.{submission, submitted}
-use Rattle.jv_yard.specs.YardValue.{YardValue}
-use Rattle.jv_client_shared.specs.Shared.{Known, Shared}
-use Rattle.jv_client.specs.Built.{is_built_op}
+use Rattle.jv_model.specs.promise.client.ModelClient.{ModelClient}
+use Rattle.jv_model.specs.promise.client.Submission.{submission, submitted}
+use Rattle.jv_yard.specs.promise.YardValue.{YardValue}
+use Rattle.jv_client_shared.specs.promise.Shared.{Known, Shared}
+use Rattle.jv_client.specs.promise.Built.{is_built_op}
 use Rattle.jv_client.specs.ClientValue.{ClientValue, crashed}
 use Rattle.jv_client.specs.Held.{IsClient, in_flight, refused_with}
 use Rattle.jv_client.specs.Makes.{IsCalm}

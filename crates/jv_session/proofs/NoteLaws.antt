@@ -13,22 +13,24 @@ use Rattle.jv_model.specs.declared.fault.Device.{Device}
 use Rattle.jv_model.specs.declared.fault.Fault.{Fault}
 use Rattle.jv_model.specs.declared.op.Reply.TheVariants.{Refused}
 use Rattle.jv_model.specs.declared.setting.Setting.{Setting}
-use Rattle.jv_model.specs.script.ReplyText.{printed_line, with_feed}
-use Rattle.jv_model.specs.tree.Tree.{Tree}
-use Rattle.jv_model.specs.client.ModelClient.{Doing, ModelClient, unmounted}
-use Rattle.jv_model.specs.journal.State.{State, effect, of_doing}
-use Rattle.jv_model.specs.journal.Past.{Past, Setup, NoMore, CrashEntry, TickEntry, Refusal}
+use Rattle.jv_model.specs.promise.script.ReplyText.{printed_line, with_feed}
+use Rattle.jv_model.specs.promise.tree.Tree.{Tree}
+use Rattle.jv_model.specs.promise.client.ModelClient.{Doing, ModelClient, unmounted}
+use Rattle.jv_model.specs.promise.journal.State.{State, effect, of_doing}
+use Rattle.jv_model.specs.promise.journal.Past.{Past, Setup, NoMore, CrashEntry, TickEntry, Refusal}
 use Rattle.jv_model.specs.journal.Stepping.{entry_of}
-use Rattle.jv_model_laws.specs.OnLines.{IsNow, Leads}
+use Rattle.jv_model.specs.promise.journal.Legal.{IsNow}
+use Rattle.jv_model_laws.specs.OnLines.{Leads}
 use Rattle.jv_model_laws.proofs.JournalGrowthLaws.{advanced, begun_to-begun}
 use Rattle.jv_model_laws.proofs.EndedLineLaws.{is_over_at, may_be_cut_at}
 use Rattle.jv_model_laws.proofs.NotedLineLaws.{Notes as NotesEntry, refused_ran, crash_ran, tick_ran}
-use Rattle.jv_outside.specs.Ticks.{Ticks}
-use Rattle.jv_client_shared.specs.Shared.{Known, Shared}
+use Rattle.jv_outside.specs.promise.Ticks.{Ticks}
+use Rattle.jv_client_shared.specs.promise.Shared.{Known, Shared}
 use Rattle.jv_client.specs.ClientValue.{ClientValue, crashed, fresh_client}
 use Rattle.jv_client.specs.Held.{IsClient, Holds}
-use Rattle.jv_client.specs.Makes.{IsCalm, is_failure_entry}
-use Rattle.jv_client.proofs.HeldLaws.{holds-unmounted}
+use Rattle.jv_client.specs.Makes.{IsCalm}
+use Rattle.jv_client.specs.promise.Makes.{is_failure_entry}
+use Rattle.jv_client.proofs.held.HeldLaws.{holds-unmounted}
 use Rattle.jv_session.specs.declared.line_end.LineEnd.{LineEnd}
 use Rattle.jv_session.specs.declared.line_end.Stopped.{Stopped}
 use Rattle.jv_session.specs.Stands.{ScheduleValue, IsState, ClockFor, InLine}

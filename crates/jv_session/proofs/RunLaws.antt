@@ -10,26 +10,26 @@ use Rattle.jv_model.specs.declared.op.Step.{Step}
 use Rattle.jv_model.specs.declared.op.Step.TheVariants.{More, Done, Broken}
 use Rattle.jv_model.specs.declared.row.RowKey.{RowKey}
 use Rattle.jv_model.specs.declared.setting.Setting.{Setting}
-use Rattle.jv_model.specs.journal.Past.{Past, Setup, NoMore, ToAnswer}
+use Rattle.jv_model.specs.promise.journal.Past.{Past, Setup, NoMore, ToAnswer}
 use Rattle.jv_model.specs.journal.Stepping.{entry_of}
-use Rattle.jv_model.specs.script.ReplyText.{printed_line}
+use Rattle.jv_model.specs.promise.script.ReplyText.{printed_line}
 use Rattle.jv_model_laws.proofs.LineEntryLaws.{leads_more, same_line-then}
 use Rattle.jv_model_laws.proofs.EndedLineLaws.{is_over_at, may_be_cut_at}
 use Rattle.jv_model_laws.proofs.LineStepLaws.{ToItsEnd}
-use Rattle.jv_outside.specs.Causes.{Rose}
-use Rattle.jv_outside.specs.Ticks.{Ticks, Passes}
+use Rattle.jv_outside.specs.promise.Causes.{Rose}
+use Rattle.jv_outside.specs.promise.Ticks.{Ticks, Passes}
 use Rattle.jv_outside.proofs.TicksLaws.{Passes-trans}
 use Rattle.jv_volume_bytes.proofs.BlockLaws.{grows-then}
-use Rattle.jv_client_shared.specs.Shared.{depot_in}
+use Rattle.jv_client_shared.specs.promise.Shared.{depot_in}
 use Rattle.jv_client.specs.ClientValue.{ClientValue}
 use Rattle.jv_client.specs.UnderWay.{steps_left}
-use Rattle.jv_client.proofs.StepOfLaws.{falls-of}
+use Rattle.jv_client.proofs.steps.StepOfLaws.{falls-of}
 use Rattle.jv_session.specs.declared.line_end.LineEnd.{LineEnd}
 use Rattle.jv_session.specs.declared.line_end.LineEnd.TheVariants.{Broken as LineBroken}
 use Rattle.jv_session.specs.declared.line_end.Stopped.{Stopped}
 use Rattle.jv_session.specs.declared.line_end.Stopped.TheVariants as stopped
 use Rattle.jv_session.specs.Stands.{ScheduleValue, ClockFor, InLine, IsYardOf, busy_in, client_is_busy}
-use Rattle.jv_session.specs.Direct.{BlocksStay}
+use Rattle.jv_session.specs.promise.Direct.{BlocksStay}
 use Rattle.jv_session.specs.Lines.{LineState, LineUses}
 use Rattle.jv_session.specs.InLine.{Goes, Finish, Break, Breaks, FromLine, LineGoes, LineSays, StopsBefore, RunsToEnd, at_moment, end_of}
 use Rattle.jv_session.proofs.MemberLaws.{slice_get-set}

@@ -1,17 +1,18 @@
 -- The clients of a schedule stand for those of the model while one of them goes on.
 use Rattle.std.proofs.Common.{◌≡◌, ◌≢◌, ℕ, ◌≤◌, ◌<◌, List, slice_get, slice_set, Option, None, Some, refl, sym, ap, subst, ◌∙◌, arith}
 use Rattle.std.specs.Prelude.{IfSome}
-use Rattle.jv_model.specs.tree.Tree.{Tree}
-use Rattle.jv_model.specs.client.ModelClient.{ModelClient}
-use Rattle.jv_model.specs.journal.State.{State, set_client}
-use Rattle.jv_model.specs.journal.Steps.{Start}
+use Rattle.jv_model.specs.promise.tree.Tree.{Tree}
+use Rattle.jv_model.specs.promise.client.ModelClient.{ModelClient}
+use Rattle.jv_model.specs.promise.journal.State.{State, set_client}
+use Rattle.jv_model.specs.promise.journal.Steps.{Start}
 use Rattle.jv_model.proofs.ClientsLaws.{own_client, other_client}
 use Rattle.jv_volume.specs.Holding.{Stays}
-use Rattle.jv_volume.specs.TypedRows.{Rows}
+use Rattle.jv_volume.specs.promise.TypedRows.{Rows}
 use Rattle.jv_volume_bytes.specs.Flights.{Flight}
 use Rattle.jv_client_shared.specs.Flying.{Flies}
 use Rattle.jv_client_shared.specs.Keeping.{HoldsSame, KeepsShared}
-use Rattle.jv_client_shared.specs.Shared.{HasStore, Known, Shared, rows_in}
+use Rattle.jv_client_shared.specs.promise.Shared.{HasStore, Known, Shared}
+use Rattle.jv_client_shared.specs.Shared.{rows_in}
 use Rattle.jv_client_shared.proofs.KeepingLaws.{stays-none}
 use Rattle.jv_client_shared.proofs.SameLaws.{same-stays, same-store}
 use Rattle.jv_client_requests.specs.Request.{IsApart, IsWithin}
@@ -19,8 +20,8 @@ use Rattle.jv_client_requests.proofs.FlightLaws.{apart-new, numbered}
 use Rattle.jv_client_requests.proofs.StillLaws.{stays-same}
 use Rattle.jv_client.specs.ClientValue.{ClientValue}
 use Rattle.jv_client.specs.Held.{IsClient, Holds, IsOnWay, flight_of, in_flight, number_of}
-use Rattle.jv_client.proofs.HeldLaws.{holds-later}
-use Rattle.jv_client.proofs.KeptLaws.{client-stays}
+use Rattle.jv_client.proofs.held.HeldLaws.{holds-later}
+use Rattle.jv_client.proofs.held.OthersStepLaws.{client-stays}
 use Rattle.jv_session.specs.Stands.{IsState, IsClientAt}
 use Rattle.jv_session.specs.InLine.{at_moment}
 use Rattle.jv_session.proofs.MemberLaws.{apart_set, each-set}

@@ -13,23 +13,26 @@ use Rattle.jv_model.specs.declared.op.Step.TheVariants.{Broken}
 use Rattle.jv_model.specs.declared.row.RowKey.{RowKey}
 use Rattle.jv_model.specs.declared.setting.Setting.{Setting}
 use Rattle.jv_model.specs.journal.Stepping.{entry_of, is_answer}
-use Rattle.jv_outside.specs.Causes.{RoseIf, RoseTimes}
-use Rattle.jv_outside.specs.Ticks.{Passes}
+use Rattle.jv_outside.specs.promise.Causes.{RoseIf, RoseTimes}
+use Rattle.jv_outside.specs.promise.Ticks.{Passes}
 use Rattle.jv_outside.proofs.TicksLaws.{Passes-zero, Passes-trans}
-use Rattle.jv_rows.specs.Transactions.{IsBad}
-use Rattle.jv_volume.specs.TypedRows.{typed}
+use Rattle.jv_rows.specs.promise.Transactions.{IsBad}
+use Rattle.jv_volume.specs.promise.TypedRows.{typed}
 use Rattle.jv_client_shared.specs.Lengths.{IsLength}
-use Rattle.jv_client_shared.specs.Shared.{Shared}
+use Rattle.jv_client_shared.specs.promise.Shared.{Shared}
 use Rattle.jv_client.specs.ClientValue.{ClientValue}
 use Rattle.jv_client.specs.YardUse.{YardUse}
 use Rattle.jv_client.specs.declared.made.Made.{Made}
 use Rattle.jv_client.specs.declared.made.Made.TheVariants as made
-use Rattle.jv_client.specs.Failures.{is_failure_of, says_failure}
-use Rattle.jv_client.specs.Makes.{FailsAlone, SaysBad, UsesDevices, entries_of, faults_of, is_failure_entry, kinds_of, step_of}
+use Rattle.jv_client.specs.promise.Failures.{is_failure_of}
+use Rattle.jv_client.specs.Failures.{says_failure}
+use Rattle.jv_client.specs.Makes.{FailsAlone, SaysBad, UsesDevices, entries_of, faults_of, kinds_of, step_of}
+use Rattle.jv_client.specs.promise.Makes.{is_failure_entry}
 use Rattle.jv_session.specs.Stands.{ScheduleValue, IsYardOf}
-use Rattle.jv_session.specs.Direct.{BlocksStay}
-use Rattle.jv_session.specs.Lines.{AnswersSo, LineState, LineUses, StaysPut, AreFailures, device_failures}
-use Rattle.jv_session.specs.Growing.{YardGrows}
+use Rattle.jv_session.specs.promise.Direct.{BlocksStay}
+use Rattle.jv_session.specs.Lines.{AnswersSo, LineState, LineUses}
+use Rattle.jv_session.specs.promise.Lines.{StaysPut, AreFailures, device_failures}
+use Rattle.jv_session.specs.promise.Growing.{YardGrows}
 use Rattle.jv_session.specs.InLine.{at_moment}
 use Rattle.jv_session.proofs.GrowingLaws.{grows_none, grows_step, grows_then}
 

@@ -12,22 +12,22 @@ use Rattle.jv_model.specs.declared.op.Op.{Op}
 use Rattle.jv_model.specs.declared.op.Line.{Line}
 use Rattle.jv_model.specs.declared.op.Line.TheVariants.{Do, Begin, Step, Run, Crash, Tick}
 use Rattle.jv_model.specs.declared.row.RowKey.{RowKey}
-use Rattle.jv_model.specs.client.Submission.{submission, submitted}
-use Rattle.jv_model.specs.tree.Tree.{Tree}
-use Rattle.jv_model.specs.journal.State.{State}
-use Rattle.jv_model.specs.journal.Past.{Setup, Past, Due, NoMore, Refusal, MayLack, ToAnswer, OneStep, CrashEntry, TickEntry, begun_to, is_busy, is_over, idle_text}
-use Rattle.jv_model.specs.journal.Legal.{may_stop}
-use Rattle.jv_model.specs.script.ReplyText.{with_feed}
+use Rattle.jv_model.specs.promise.client.Submission.{submission, submitted}
+use Rattle.jv_model.specs.promise.tree.Tree.{Tree}
+use Rattle.jv_model.specs.promise.journal.State.{State}
+use Rattle.jv_model.specs.promise.journal.Past.{Setup, Past, Due, NoMore, Refusal, MayLack, ToAnswer, OneStep, CrashEntry, TickEntry, begun_to, is_busy, is_over, idle_text}
+use Rattle.jv_model.specs.promise.journal.Legal.{may_stop}
+use Rattle.jv_model.specs.promise.script.ReplyText.{with_feed}
 use Rattle.jv_model_laws.proofs.JournalGrowthLaws.{begun_frame}
 use Rattle.jv_model_laws.proofs.LineEntryLaws.{alone_at}
 use Rattle.jv_model_laws.proofs.BegunLineLaws.{IsNext, IsBegun, submitted_in, do_begun, do_refused, begin_begun, begin_refused, step_begun, run_begun, step_idle, run_idle, crash_begun, tick_begun}
 use Rattle.jv_model_laws.proofs.EndedLineLaws.{is_over_at, joins}
-use Rattle.jv_outside.specs.Ticks.{Ticks}
-use Rattle.jv_client_shared.specs.Shared.{Known, Shared}
+use Rattle.jv_outside.specs.promise.Ticks.{Ticks}
+use Rattle.jv_client_shared.specs.promise.Shared.{Known, Shared}
 use Rattle.jv_client_handles.proofs.TableLaws.{some-same}
 use Rattle.jv_client.specs.ClientValue.{ClientValue}
 use Rattle.jv_client.specs.Held.{IsClient, IsDoing}
-use Rattle.jv_client.proofs.HeldLaws.{holds-doing}
+use Rattle.jv_client.proofs.held.HeldLaws.{holds-doing}
 use Rattle.jv_session.specs.declared.line_end.LineEnd.{LineEnd}
 use Rattle.jv_session.specs.declared.line_end.LineEnd.TheVariants.{Said, Quiet, ClockFailed, Broken, Memory}
 use Rattle.jv_session.specs.Stands.{ScheduleValue, Stands, IsState, IsYardOf, IsClientAt, ClockFor, busy_in, client_is_busy, InLine}

@@ -9,19 +9,20 @@ use Rattle.jv_model.specs.declared.fault.Fault.{Fault}
 use Rattle.jv_model.specs.declared.op.Op.{Op}
 use Rattle.jv_model.specs.declared.op.Step.{Step}
 use Rattle.std.specs.declared.alloc.AllocError.{AllocError}
-use Rattle.jv_model.specs.client.ModelClient.{ModelClient}
-use Rattle.jv_model.specs.client.Submission.{submission, submitted}
-use Rattle.jv_model.specs.journal.Past.{Past, ToAnswer, OneStep, Refusal, CrashEntry, TickEntry, is_over}
-use Rattle.jv_model.specs.journal.Legal.{may_stop}
+use Rattle.jv_model.specs.promise.client.ModelClient.{ModelClient}
+use Rattle.jv_model.specs.promise.client.Submission.{submission, submitted}
+use Rattle.jv_model.specs.promise.journal.Past.{Past, ToAnswer, OneStep, Refusal, CrashEntry, TickEntry, is_over}
+use Rattle.jv_model.specs.promise.journal.Legal.{may_stop}
 use Rattle.jv_model.specs.journal.Stepping.{entry_of}
 use Rattle.jv_model_laws.specs.OnLines.{Leads, SameLine}
-use Rattle.jv_outside.specs.Causes.{Rose}
-use Rattle.jv_outside.specs.Ticks.{Ticks, HasAnswered}
+use Rattle.jv_outside.specs.promise.Causes.{Rose}
+use Rattle.jv_outside.specs.promise.Ticks.{Ticks}
+use Rattle.jv_outside.specs.Ticks.{HasAnswered}
 use Rattle.jv_client.specs.ClientValue.{ClientValue}
 use Rattle.jv_model.specs.declared.row.RowKey.{RowKey}
-use Rattle.jv_rows.specs.Transactions.{IsBad}
-use Rattle.jv_volume.specs.TypedRows.{typed}
-use Rattle.jv_client_shared.specs.Shared.{Known, Shared}
+use Rattle.jv_rows.specs.promise.Transactions.{IsBad}
+use Rattle.jv_volume.specs.promise.TypedRows.{typed}
+use Rattle.jv_client_shared.specs.promise.Shared.{Known, Shared}
 use Rattle.jv_client.specs.Held.{IsClient, in_flight}
 use Rattle.jv_client.specs.Makes.{IsCalm, Steps}
 use Rattle.jv_session.specs.declared.line_end.LineEnd.{LineEnd}
@@ -29,7 +30,7 @@ use Rattle.jv_session.specs.declared.line_end.LineEnd.TheVariants.{Said, Quiet, 
 use Rattle.jv_session.specs.declared.line_end.Stopped.{Stopped}
 use Rattle.jv_session.specs.declared.line_end.Stopped.TheVariants as stopped
 use Rattle.jv_session.specs.Stands.{ScheduleValue, InLine, ClockFor}
-use Rattle.jv_session.specs.Direct.{BlocksStay}
+use Rattle.jv_session.specs.promise.Direct.{BlocksStay}
 use Rattle.jv_session.specs.Lines.{LineState, LineUses}
 
 -- entries of the line were appended; they are allowed, and lead there

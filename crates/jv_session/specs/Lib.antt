@@ -1,6 +1,5 @@
 -- The definitions that contracts cite.
+pub mod promise
 pub mod Stands
-pub mod Growing
-pub mod Direct
 pub mod Lines
 pub mod InLine

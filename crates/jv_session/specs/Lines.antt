@@ -1,24 +1,23 @@
--- What the call for one line of a script does.
-use Rattle.std.specs.Prelude.{◌≡◌, ℕ, ◌+◌, true, ◌||◌, List, ◌∷◌, ◌++◌, length, count_by, IfSome, Option, Some}
+-- What only inner contracts cite: of `promise/Lines`.
+use Rattle.std.specs.Prelude.{◌≡◌, ℕ, ◌+◌, true, ◌||◌, List, ◌∷◌, ◌++◌, length, IfSome, Option, Some}
 use Rattle.jv_model.specs.declared.act.Act.{Act}
 use Rattle.jv_model.specs.declared.fault.Device.{Device}
 use Rattle.jv_model.specs.declared.op.Line.{Line}
-use Rattle.jv_model.specs.journal.Past.{Past, begun_to, past, is_over}
-use Rattle.jv_model.specs.journal.Legal.{AllAllowed, may_stop}
+use Rattle.jv_model.specs.promise.journal.Past.{Past, begun_to, past, is_over}
+use Rattle.jv_model.specs.promise.journal.Legal.{AllAllowed, may_stop}
 use Rattle.jv_model.specs.declared.row.RowKey.{RowKey}
-use Rattle.jv_outside.specs.Causes.{Rose, RoseTimes}
-use Rattle.jv_outside.specs.Ticks.{Ticks, Passes}
-use Rattle.jv_rows.specs.Transactions.{IsBad}
-use Rattle.jv_volume.specs.TypedRows.{typed}
-use Rattle.jv_yard.specs.YardValue.{YardValue}
-use Rattle.jv_client_shared.specs.Shared.{Shared}
-use Rattle.jv_client.specs.Direct.{KeepsShelf}
-use Rattle.jv_client.specs.Makes.{faults_of, is_failure_entry}
+use Rattle.jv_outside.specs.promise.Causes.{Rose, RoseTimes}
+use Rattle.jv_outside.specs.promise.Ticks.{Ticks, Passes}
+use Rattle.jv_rows.specs.promise.Transactions.{IsBad}
+use Rattle.jv_volume.specs.promise.TypedRows.{typed}
+use Rattle.jv_yard.specs.promise.YardValue.{YardValue}
+use Rattle.jv_client_shared.specs.promise.Shared.{Shared}
+use Rattle.jv_client.specs.Makes.{faults_of}
 use Rattle.jv_session.specs.declared.line_end.LineEnd.{LineEnd}
 use Rattle.jv_session.specs.declared.line_end.LineEnd.TheVariants.{Said, Quiet, ClockFailed, Broken, Memory}
-use Rattle.jv_session.specs.Direct.{BlocksStay}
+use Rattle.jv_session.specs.promise.Direct.{BlocksStay}
 use Rattle.jv_session.specs.Stands.{ScheduleValue, Stands, InLine, IsYardOf, ClockFor}
-use Rattle.jv_session.specs.Growing.{YardGrows}
+use Rattle.jv_session.specs.promise.Lines.{AreFailures, StaysPut}
 
 -- what the call for a line uses: the clock, the keeper and the carrier with the yard, the journal
 -- and the schedule
@@ -31,14 +30,6 @@ pub record LineState : Type 0 where
 abbrev pub line_state : Ticks → Shared → List Act → ScheduleValue → LineState
 line_state clock devices journal schedule =
     record { clock = clock; devices = devices; journal = journal; schedule = schedule }
-
--- how many entries answer that the device failed
-abbrev pub device_failures : Device → List Act → ℕ
-device_failures device = count_by (λ act. is_failure_entry device act.kind)
-
--- and how often it is answered that a device failed, by device
-abbrev pub AreFailures : List Act → (Device → ℕ) → Type 0
-AreFailures acts failed = (device : Device) → device_failures device acts ≡ failed device
 
 -- what was appended to a journal answers of each device as often as `failed` says that it failed
 pub record AnswersSo (before after : List Act) (failed : Device → ℕ) : Type 0 where
@@ -88,17 +79,6 @@ FromThere line number before after Comes = (p : Past) (more : List Line)
     → Stands p before.schedule before.devices → p.line + 1 ≡ number → p.rest ≡ line ∷ more
     → p.state.count ≡ length before.journal
     → ClockFor p.run.clock p.asked before.clock.answers after.clock.answers → Comes p more
-
--- Devices are open where they were. The yard is one of the same volume, which blocks were put into,
--- and by `direct` the shelf has the blocks that it had.
-pub record StaysPut (before after : Shared) : Type 0 where
-  pub keeper_at : after.keeper.opened ≡ before.keeper.opened
-  pub carrier_at : after.carrier.opened ≡ before.carrier.opened
-  pub depot_at : after.yard.depot.opened ≡ before.yard.depot.opened
-  pub shelf_at : after.yard.shelf.opened ≡ before.yard.shelf.opened
-  pub direct : KeepsShelf before after
-  pub setting : after.yard.setting ≡ before.yard.setting
-  pub grows : YardGrows before.yard after.yard
 
 -- What a line does to clock and devices, whatever these hold: how often the clock was asked, and
 -- how often each device failed, which as many of its entries answer. The schedule has the same

@@ -3,13 +3,14 @@ use Rattle.std.specs.Prelude.{◌≡◌, ◌≢◌, ℕ, ◌+◌, ◌≤◌, ◌
 use Rattle.jv_model.specs.declared.limits.TheConstants.{LAST_MOMENT, CLIENTS}
 use Rattle.jv_model.specs.declared.basics.Limits.{Limits}
 use Rattle.jv_model.specs.declared.setting.Setting.{Setting}
-use Rattle.jv_model.specs.journal.State.{State}
-use Rattle.jv_model.specs.journal.Steps.{Start}
-use Rattle.jv_model.specs.journal.Past.{Past, is_over}
+use Rattle.jv_model.specs.promise.journal.State.{State}
+use Rattle.jv_model.specs.promise.journal.Steps.{Start}
+use Rattle.jv_model.specs.promise.journal.Past.{Past, is_over}
 use Rattle.jv_model_laws.specs.OnLines.{IsAlone}
-use Rattle.jv_yard.specs.YardValue.{YardValue}
+use Rattle.jv_yard.specs.promise.YardValue.{YardValue}
 use Rattle.jv_client_shared.specs.Lengths.{IsLength}
-use Rattle.jv_client_shared.specs.Shared.{HasStore, Known, Shared, rows_in}
+use Rattle.jv_client_shared.specs.promise.Shared.{HasStore, Known, Shared}
+use Rattle.jv_client_shared.specs.Shared.{rows_in}
 use Rattle.jv_client_requests.specs.Request.{IsWithin}
 use Rattle.jv_client.specs.ClientValue.{ClientValue, fresh_client}
 use Rattle.jv_client.specs.Held.{IsClient, Holds, in_flight}

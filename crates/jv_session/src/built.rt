@@ -1,6 +1,6 @@
 //! Which lines a session runs today.
 ghost use Rattle.std.specs.Prelude.{◌≡◌};
-ghost use Rattle.jv_client.specs.Built.{is_built_line, is_built_op};
+ghost use Rattle.jv_client.specs.promise.Built.{is_built_line, is_built_op};
 
 use crate::schedule::Schedule;
 use jv_model::{Limits, Line, MAX_DATA, Op};

@@ -3,10 +3,10 @@ ghost use Rattle.std.specs.Prelude.{◌≡◌, ◌≢◌, ◌<◌, ◌≤◌, Is
 ghost use Rattle.jv_model.specs.declared.op.Line.TheVariants as line;
 ghost use Rattle.jv_model.specs.declared.act.ActKind.TheVariants.{Crashed};
 ghost use Rattle.jv_model.specs.declared.act.Told.TheVariants.{Refused};
-ghost use Rattle.jv_client_shared.specs.Shared.{Shared};
-ghost use Rattle.jv_client.specs.Built.{is_built_op};
+ghost use Rattle.jv_client_shared.specs.promise.Shared.{Shared};
+ghost use Rattle.jv_client.specs.promise.Built.{is_built_op};
 ghost use Rattle.jv_client.specs.Makes.{IsCalm};
-ghost use Rattle.jv_client.specs.Shared.{shared};
+ghost use Rattle.jv_client.specs.promise.Shared.{shared};
 ghost use Rattle.jv_session.specs.Stands.{IsYardOf, client_is_busy};
 ghost use Rattle.jv_session.specs.Lines.{LineRuns, line_state};
 ghost use Rattle.jv_session.specs.InLine.{Crashes, IsRefused, LineGoes, LineSays, MakesStep, Moments, Notes, Passing, RunsToEnd, StepsOnce, Submits};

@@ -2,9 +2,9 @@
 ghost use Rattle.std.specs.Prelude.{◌≡◌, ◌↔◌, ◌≤◌, IsTrue, IsSomeAnd, IfOk};
 ghost use Rattle.jv_model.specs.declared.limits.TheConstants.{MAX_DATA};
 ghost use Rattle.jv_model.specs.declared.op.Line.TheVariants.{Empty};
-ghost use Rattle.jv_model.specs.script.ReplyText.{printed_line};
-ghost use Rattle.jv_client.specs.Built.{is_built_line};
-ghost use Rattle.jv_client.specs.Shared.{shared};
+ghost use Rattle.jv_model.specs.promise.script.ReplyText.{printed_line};
+ghost use Rattle.jv_client.specs.promise.Built.{is_built_line};
+ghost use Rattle.jv_client.specs.promise.Shared.{shared};
 ghost use Rattle.jv_session.specs.Stands.{ScheduleValue, IsYardOf, fresh_schedule};
 ghost use Rattle.jv_session.specs.Lines.{AtDoor, LineRuns, line_state};
 

@@ -1,6 +1,6 @@
 //! The texts of lines that answer no operation.
 ghost use Rattle.std.specs.Prelude.{◌≡◌, ◌++◌, IfOk, codes, decimal};
-ghost use Rattle.jv_model.specs.script.ReplyText.{with_feed};
+ghost use Rattle.jv_model.specs.promise.script.ReplyText.{with_feed};
 
 use itoa::Buffer;
 use jv_model::{Bytes, Sequence};

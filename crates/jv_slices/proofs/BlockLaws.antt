@@ -5,7 +5,8 @@ use Rattle.std.proofs.lemmas.Nat.{div-add-mod', mod_below, le-div, mul-le}
 use Rattle.std.proofs.lemmas.Bool.{cases_lt}
 use Rattle.std.proofs.Math.Nat.{add-mul-div_right}
 use Rattle.jv_model.specs.declared.limits.TheConstants.{WINDOW, MIN_BLOCK, MAX_BLOCKS}
-use Rattle.jv_model.specs.blocks.Slices.{block_count, block_length, block_lengths}
+use Rattle.jv_model.specs.promise.blocks.Slices.{block_count, block_length}
+use Rattle.jv_model.specs.blocks.Slices.{block_lengths}
 
 -- the index of a place's block is below the number of blocks
 pub index_below : (size block place index : ℕ) → 0 < block → place < size → index ≤ place / block → index < block_count size block

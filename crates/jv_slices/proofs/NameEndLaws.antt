@@ -10,7 +10,7 @@ use Rattle.std.proofs.lemmas.Fmt.{digits_decimal, decimal_injective}
 use Rattle.std.proofs.lemmas.Str.Parse.{numerals_by_value, tells_by_index}
 use Rattle.std.proofs.lemmas.List.{append_cancel_right, take_at, drop_at, get_or-append-add, get_or_append_left, get_or_at, length-append}
 use Rattle.jv_model.specs.declared.slice.BlockId.{BlockId}
-use Rattle.jv_model.specs.script.Spelling.{is_decimal_digit}
+use Rattle.jv_model.specs.promise.script.Spelling.{is_decimal_digit}
 use Rattle.jv_slices.specs.NameParts.{numbers_of}
 
 pub match_none : {A : Type 0} (r : Option A) (P : Type 0) (Q : A → Type 0) → r ≡ None → P → MatchOption r P Q

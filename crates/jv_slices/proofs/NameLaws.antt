@@ -5,7 +5,7 @@ use Rattle.std.specs.Fmt.{decimal}
 use Rattle.std.proofs.lemmas.List.{append_cancel_right}
 use Rattle.jv_model.specs.declared.setting.Setting.{Setting}
 use Rattle.jv_model.specs.declared.slice.BlockId.{BlockId}
-use Rattle.jv_model.specs.blocks.BlockNames.{block_name_of, slice_folder, IsBlockName}
+use Rattle.jv_model.specs.promise.blocks.BlockNames.{block_name_of, slice_folder, IsBlockName}
 use Rattle.jv_slices.specs.NameParts.{numbers_of}
 use Rattle.jv_slices.specs.Laws.{NamesAreDistinct}
 use Rattle.jv_slices.proofs.NameEndLaws.{number_ends_once, numbers_end, numbers_mid, same_block}

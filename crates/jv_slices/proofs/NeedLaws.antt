@@ -17,7 +17,8 @@ use Rattle.jv_model.specs.declared.slice.Piece.{Piece}
 use Rattle.jv_model.specs.declared.slice.Rec.{Rec}
 use Rattle.jv_model.specs.declared.slice.Spot.{Spot}
 use Rattle.jv_model.specs.declared.slice.Spot.TheVariants.{Zero, Slice}
-use Rattle.jv_model.specs.blocks.Slices.{IsPlan, IsPart, LiesIn, is_same_block, with_block, block_at, blocks_under, blocks_of_piece, needed_blocks}
+use Rattle.jv_model.specs.blocks.Slices.{IsPlan, IsPart, LiesIn, is_same_block, with_block, blocks_under, blocks_of_piece, needed_blocks}
+use Rattle.jv_model.specs.promise.blocks.Slices.{block_at}
 use Rattle.jv_slices.proofs.ListingLaws.{same_flips, with_new, with_listed}
 use Rattle.jv_slices.proofs.NameEndLaws.{same_block}
 use Rattle.jv_slices.proofs.BlockLaws.{div_rises, div_few, index_low}

@@ -4,7 +4,8 @@ use Rattle.std.proofs.lemmas.Bool.{cases_lt}
 use Rattle.jv_model.specs.declared.slice.Rec.{Rec}
 use Rattle.jv_model.specs.declared.slice.Piece.{Piece}
 use Rattle.jv_model.specs.declared.slice.Spot.{Spot}
-use Rattle.jv_model.specs.blocks.Slices.{visible, stored_place, IsPiece, IsPlan}
+use Rattle.jv_model.specs.promise.blocks.Slices.{visible, stored_place}
+use Rattle.jv_model.specs.blocks.Slices.{IsPiece, IsPlan}
 use Rattle.jv_slices.specs.Laws.{PlansAreDetermined}
 
 -- of two pieces that begin at one place the one isn't shorter than the other

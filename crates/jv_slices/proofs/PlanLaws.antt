@@ -8,7 +8,8 @@ use Rattle.jv_model.specs.declared.limits.TheConstants.{WINDOW}
 use Rattle.jv_model.specs.declared.slice.Rec.{Rec}
 use Rattle.jv_model.specs.declared.slice.Piece.{Piece}
 use Rattle.jv_model.specs.declared.slice.Spot.TheVariants.{Zero, Slice}
-use Rattle.jv_model.specs.blocks.Slices.{IsRecord, is_part, covers, visible, place_by, stored_place, place_after, IsPiece, IsPlan, IsAsStored, IsPart, LiesIn}
+use Rattle.jv_model.specs.promise.blocks.Slices.{IsRecord, is_part, covers, visible, place_by, stored_place}
+use Rattle.jv_model.specs.blocks.Slices.{place_after, IsPiece, IsPlan, IsAsStored, IsPart, LiesIn}
 use Rattle.jv_slices.specs.declared.layout.Stretch.{Stretch}
 use Rattle.jv_slices.specs.Stretches.{Shows, Turns, Differ, piece_of}
 use Rattle.jv_slices.specs.Shown.{NamesRecord, IsOfRecord, EndsBy}

@@ -7,7 +7,7 @@ use Rattle.std.proofs.lemmas.List.Elements.{All-cons, All-tail}
 use Rattle.std.proofs.lemmas.List.Folds.{find-append}
 use Rattle.std.specs.Prelude.{filter, find, reverse, All}
 use Rattle.jv_model.specs.declared.slice.Rec.{Rec}
-use Rattle.jv_model.specs.blocks.Slices.{covers, visible}
+use Rattle.jv_model.specs.promise.blocks.Slices.{covers, visible}
 use Rattle.jv_slices.specs.declared.layout.Stretch.{Stretch}
 use Rattle.jv_slices.specs.Stretches.{IsSeen, Shows, Turns, Differ, IsLayout, touches}
 use Rattle.jv_slices.proofs.PlanLaws.{shows_rises}

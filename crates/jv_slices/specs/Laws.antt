@@ -8,8 +8,9 @@ use Rattle.jv_model.specs.declared.slice.Piece.{Piece}
 use Rattle.jv_model.specs.declared.slice.Spot.{Spot}
 use Rattle.jv_model.specs.declared.slice.Spot.TheVariants.{Zero, Slice}
 use Rattle.jv_model.specs.declared.slice.BlockId.{BlockId}
-use Rattle.jv_model.specs.blocks.BlockNames.{name_in}
-use Rattle.jv_model.specs.blocks.Slices.{IsPlan, IsPart, is_same_block, block_at, blocks_of_piece, needed_blocks}
+use Rattle.jv_model.specs.promise.blocks.BlockNames.{name_in}
+use Rattle.jv_model.specs.blocks.Slices.{IsPlan, IsPart, is_same_block, blocks_of_piece, needed_blocks}
+use Rattle.jv_model.specs.promise.blocks.Slices.{block_at}
 
 -- a list has one plan of a range
 abbrev pub PlansAreDetermined : Type 0

@@ -2,7 +2,7 @@
 use Rattle.std.specs.Prelude.{◌≡◌, ◌≢◌, ℕ, ◌+◌, ◌-◌, ◌<◌, ◌≤◌, Bool, nat_lt, ◌&&◌, List, [], ◌∷◌, Option}
 use Rattle.jv_model.specs.declared.slice.Rec.{Rec}
 use Rattle.jv_model.specs.declared.slice.Piece.{Piece}
-use Rattle.jv_model.specs.blocks.Slices.{place_by}
+use Rattle.jv_model.specs.promise.blocks.Slices.{place_by}
 use Rattle.jv_slices.specs.declared.layout.Stretch.{Stretch}
 
 -- a record begins before `to` and ends behind `from`

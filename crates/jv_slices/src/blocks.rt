@@ -2,7 +2,8 @@
 ghost use Rattle.std.specs.Prelude.{◌≡◌, ◌<◌, ◌/◌, ◌+◌, ◌-◌, ◌↔◌, [], All, IfOk, IsNone, IsTrue, OnOk, not, sum, fold};
 ghost use Rattle.std.specs.List.{list_any};
 ghost use Rattle.jv_slices.specs.Listing.{AreFew, ListsIn};
-ghost use Rattle.jv_model.specs.blocks.Slices.{IsPart, is_same_block, block_count, block_length, block_lengths, needed_blocks, with_block, blocks_of_piece};
+ghost use Rattle.jv_model.specs.blocks.Slices.{IsPart, is_same_block, block_lengths, needed_blocks, with_block, blocks_of_piece};
+ghost use Rattle.jv_model.specs.promise.blocks.Slices.{block_count, block_length};
 
 use jv_model::{BlockId, BlockKeys, Piece, Pieces, Spot};
 use std::alloc::{AllocError, Global};

@@ -1,6 +1,6 @@
 //! Numbers in decimal and bytes in hexadecimal digits, as names and answers have them.
 ghost use Rattle.std.specs.Prelude.{◌≡◌, ◌<◌, ◌++◌, decimal, OnOk};
-ghost use Rattle.jv_model.specs.blocks.BlockNames.{upper_digit, upper_pair};
+ghost use Rattle.jv_model.specs.promise.blocks.BlockNames.{upper_digit, upper_pair};
 
 use itoa::Buffer;
 use std::alloc::AllocError;

@@ -2,7 +2,7 @@
 ghost use Rattle.std.specs.Prelude.{◌≡◌, ◌≢◌, ◌↔◌, ℕ, ◌+◌, ◌-◌, ◌<◌, ◌≤◌, false, IsTrue, All, drop, filter, length, Option, OnOk, IfOk, slice_index_or};
 ghost use Rattle.std.specs.Option.{option_or};
 ghost use Rattle.jv_model.specs.declared.slice.Rec.{Rec as RecSeen};
-ghost use Rattle.jv_model.specs.blocks.Slices.{IsRecord, visible};
+ghost use Rattle.jv_model.specs.promise.blocks.Slices.{IsRecord, visible};
 ghost use Rattle.jv_slices.specs.Stretches.{IsSeen, IsAlike, Shows, IsLayout, touches};
 ghost use Rattle.jv_slices.specs.declared.layout.Stretch.{Stretch as StretchSeen};
 

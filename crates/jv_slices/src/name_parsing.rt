@@ -1,7 +1,7 @@
 ghost use Rattle.std.specs.Prelude.{◌≡◌, ◌↔◌, ℕ, ◌<◌, ◌≤◌, ◌-◌, ◌^◌, ◌++◌, [], ◌∷◌, true, false, List, length, slice_index, IfSome, IsSomeAnd, IsTrue, Some, codes, decimal};
 ghost use Rattle.jv_model.specs.declared.slice.BlockId.{BlockId as BlockSeen};
-ghost use Rattle.jv_model.specs.blocks.BlockNames.{IsBlock, IsBlockName, slice_folder, hashed_folder, plain_folder};
-ghost use Rattle.jv_model.specs.script.Spelling.{is_decimal_digit};
+ghost use Rattle.jv_model.specs.promise.blocks.BlockNames.{IsBlock, IsBlockName, slice_folder, hashed_folder, plain_folder};
+ghost use Rattle.jv_model.specs.promise.script.Spelling.{is_decimal_digit};
 ghost use Rattle.jv_slices.specs.NameParts.{Strips, numbers_of};
 
 use crate::digits::upper_pair;
@@ -9,7 +9,7 @@ use itoa::Buffer;
 use jv_model::{BlockId, MAX_BLOCKS, Setting};
 
 /// The block of a volume that a text names, or `None` where it is no name of a block of that volume. Takes no memory.
-#[tactic(auto, unfolding(jv_model::specs::blocks::BlockNames::block_name_of))]
+#[tactic(auto, unfolding(jv_model::specs::promise::blocks::BlockNames::block_name_of))]
 pub fn parse_block_name(setting: &Setting, text: &[u8]) -> Option<BlockId>
     ensures { (block : BlockSeen) → (result ≡ Some block) ↔ IsBlockName setting.now block text.now }
 {

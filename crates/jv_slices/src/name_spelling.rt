@@ -1,5 +1,5 @@
 ghost use Rattle.std.specs.Prelude.{◌≡◌, ◌++◌, IfOk, OnOk};
-ghost use Rattle.jv_model.specs.blocks.BlockNames.{block_name_of, slice_folder};
+ghost use Rattle.jv_model.specs.promise.blocks.BlockNames.{block_name_of, slice_folder};
 
 use crate::digits::{push_decimal, upper_pair};
 use jv_model::{Name, Setting};
@@ -10,7 +10,7 @@ const ROOM: usize = 32;
 
 /// The name of a block as an object: of the block at `index` of the slice `id`, which has `size` bytes. Any numbers are
 /// spelled, also those of no block. The only error is out of memory.
-#[tactic(auto, unfolding(jv_model::specs::blocks::BlockNames::block_name_of))]
+#[tactic(auto, unfolding(jv_model::specs::promise::blocks::BlockNames::block_name_of))]
 pub fn block_name(
     alloc: Global,
     setting: &Setting,

@@ -1,5 +1,6 @@
 ghost use Rattle.std.specs.Prelude.{◌≡◌, ◌<◌, ◌≤◌, true, All, IfOk, IfSome};
-ghost use Rattle.jv_model.specs.blocks.Slices.{IsRecord, IsPart, IsPlan, IsAsStored, covers, visible, place_by, stored_place};
+ghost use Rattle.jv_model.specs.promise.blocks.Slices.{IsRecord, covers, visible, place_by, stored_place};
+ghost use Rattle.jv_model.specs.blocks.Slices.{IsPart, IsPlan, IsAsStored};
 ghost use Rattle.jv_slices.specs.Stretches.{piece_of};
 ghost use Rattle.jv_slices.specs.Shown.{IsOfRecord, EndsBy};
 
@@ -8,7 +9,7 @@ use jv_model::{List, Piece, Pieces, Rec, Spot, WINDOW};
 use std::alloc::{AllocError, Global};
 
 /// Where the byte of a position of a window lies: as the last record of the list says that covers it.
-#[tactic(auto, unfolding(jv_model::specs::blocks::Slices::stored_place))]
+#[tactic(auto, unfolding(jv_model::specs::promise::blocks::Slices::stored_place))]
 pub fn byte_at(list: &List, position: u32) -> Spot
     requires { All IsRecord list.now }
     ensures { result ≡ stored_place list.now position }

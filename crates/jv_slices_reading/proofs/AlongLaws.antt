@@ -12,8 +12,10 @@ use Rattle.jv_model.specs.declared.slice.Piece.{Piece}
 use Rattle.jv_model.specs.declared.slice.Rec.{Rec}
 use Rattle.jv_model.specs.declared.slice.Spot.{Spot}
 use Rattle.jv_model.specs.declared.slice.Spot.TheVariants.{Zero, Slice}
-use Rattle.jv_model.specs.blocks.Slices.{IsAsStored, IsPlan, block_at, blocks_of_piece, blocks_under, is_same_block}
-use Rattle.jv_model.specs.blocks.Slices.{needed_blocks, place_after, stored_place, with_block}
+use Rattle.jv_model.specs.blocks.Slices.{IsAsStored, IsPlan, blocks_of_piece, blocks_under, is_same_block}
+use Rattle.jv_model.specs.promise.blocks.Slices.{block_at}
+use Rattle.jv_model.specs.blocks.Slices.{needed_blocks, place_after, with_block}
+use Rattle.jv_model.specs.promise.blocks.Slices.{stored_place}
 use Rattle.jv_slices.proofs.BlockLaws.{div_few, div_rises}
 use Rattle.jv_slices.proofs.ListingLaws.{with_listed}
 use Rattle.jv_slices.proofs.NeedLaws.{same_self, with_block_has}

@@ -6,7 +6,7 @@ use Rattle.std.proofs.lemmas.Bool.{cases_lt, and_parts, leb-true, ltb-true, fals
 use Rattle.std.proofs.lemmas.List.{get_or_append_left, get_or-append_right, get_or-take, get_or-drop, length-take-le, length-take, take_more}
 use Rattle.std.proofs.lemmas.List.Edits.{get_or-between, length-between}
 use Rattle.std.proofs.lemmas.List.Folds.{list_any-append}
-use Rattle.jv_model.specs.journal.Reading.{bytes_from}
+use Rattle.jv_model.specs.promise.journal.Reading.{bytes_from}
 use Rattle.jv_slices_reading.specs.declared.copying.Overlap.{Overlap}
 use Rattle.jv_slices_reading.specs.Overlaps.{reaches}
 use Rattle.jv_slices_reading.specs.Copies.{Fits, HasBytes, IsCopied}

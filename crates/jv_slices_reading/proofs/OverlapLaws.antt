@@ -15,7 +15,8 @@ use Rattle.jv_model.specs.declared.slice.Piece.{Piece}
 use Rattle.jv_model.specs.declared.slice.Rec.{Rec}
 use Rattle.jv_model.specs.declared.slice.Spot.{Spot}
 use Rattle.jv_model.specs.declared.slice.Spot.TheVariants.{Zero, Slice}
-use Rattle.jv_model.specs.blocks.Slices.{IsPlan, IsAsStored, block_at, block_length, is_same_block, place_after, stored_place}
+use Rattle.jv_model.specs.blocks.Slices.{IsPlan, IsAsStored, is_same_block, place_after}
+use Rattle.jv_model.specs.promise.blocks.Slices.{block_at, block_length, stored_place}
 use Rattle.jv_slices.proofs.ListingLaws.{same_at}
 use Rattle.jv_slices.proofs.NeedLaws.{equal_if_same, same_self}
 use Rattle.jv_slices.specs.Listing.{ordered_of, ordered_cmp}

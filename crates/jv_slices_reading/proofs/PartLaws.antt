@@ -12,13 +12,14 @@ use Rattle.jv_model.specs.declared.slice.Piece.{Piece}
 use Rattle.jv_model.specs.declared.slice.Rec.{Rec}
 use Rattle.jv_model.specs.declared.slice.Spot.{Spot}
 use Rattle.jv_model.specs.declared.slice.Spot.TheVariants.{Zero, Slice}
-use Rattle.jv_model.specs.blocks.Slices.{IsPlan, IsAsStored, IsPart, LiesIn, block_at, block_count, blocks_of_piece, blocks_under, is_same_block, needed_blocks, place_after, stored_place}
-use Rattle.jv_model.specs.journal.Reading.{bytes_from}
+use Rattle.jv_model.specs.blocks.Slices.{IsPlan, IsAsStored, IsPart, LiesIn, blocks_of_piece, blocks_under, is_same_block, needed_blocks, place_after}
+use Rattle.jv_model.specs.promise.blocks.Slices.{block_at, block_count, stored_place}
+use Rattle.jv_model.specs.promise.journal.Reading.{bytes_from}
 use Rattle.jv_slices.specs.Shown.{IsOfRecord, NamesRecord}
 use Rattle.jv_slices.proofs.BlockLaws.{index_below, div_rises}
 use Rattle.jv_slices.proofs.NeedLaws.{equal_if_same, same_self, same_block_laws, needs_are_those, needs_have_each_byte}
-use Rattle.jv_volume_bytes.specs.Blocks.{Blocks, known_by}
-use Rattle.jv_volume_bytes.specs.Bytes.{KnownBytes, spot_byte}
+use Rattle.jv_volume_bytes.specs.promise.Blocks.{Blocks, known_by}
+use Rattle.jv_volume_bytes.specs.promise.Bytes.{KnownBytes, spot_byte}
 use Rattle.jv_slices_reading.specs.declared.copying.Overlap.{Overlap}
 use Rattle.jv_slices_reading.specs.Copies.{Fits, HasBytes, IsCopied}
 use Rattle.jv_slices_reading.specs.Overlaps.{HasOverlaps, IsByteOf, IsListed, IsOverlap, Overlaps, reaches}

@@ -1,6 +1,6 @@
 -- What is kept of a part while it is read.
 use Rattle.std.specs.Prelude.{◌≡◌, ◌+◌, ◌-◌, length, drop, All}
-use Rattle.jv_model.specs.blocks.Slices.{stored_place}
+use Rattle.jv_model.specs.promise.blocks.Slices.{stored_place}
 use Rattle.jv_slices_reading.specs.declared.window.WindowRead.TheInside.{Inside}
 use Rattle.jv_slices_reading.specs.Overlaps.{HasOverlaps, overlaps_at}
 use Rattle.jv_slices_reading.specs.Parts.{Part, IsNamed}

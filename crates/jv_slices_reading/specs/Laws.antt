@@ -2,8 +2,8 @@
 use Rattle.std.specs.Prelude.{◌≡◌, ℕ, ◌<◌, List, slice_get, All, Some}
 use Rattle.jv_model.specs.declared.slice.BlockId.{BlockId}
 use Rattle.jv_model.specs.declared.slice.Rec.{Rec}
-use Rattle.jv_volume.specs.TypedRows.{Rows}
-use Rattle.jv_volume_bytes.specs.Blocks.{Blocks, Grows, HasBlocks, IsThere, known_by}
+use Rattle.jv_volume.specs.promise.TypedRows.{Rows}
+use Rattle.jv_volume_bytes.specs.promise.Blocks.{Blocks, Grows, HasBlocks, IsThere, known_by}
 use Rattle.jv_volume_bytes.specs.Counts.{HadSize}
 use Rattle.jv_slices_reading.specs.Parts.{FillsIn, IsNamed, IsKnownOf, Part, ReadsAs}
 

@@ -9,8 +9,9 @@ use Rattle.jv_model.specs.declared.slice.BlockId.{BlockId}
 use Rattle.jv_model.specs.declared.slice.Piece.{Piece}
 use Rattle.jv_model.specs.declared.slice.Spot.{Spot}
 use Rattle.jv_model.specs.declared.slice.Spot.TheVariants.{Zero, Slice}
-use Rattle.jv_model.specs.blocks.Slices.{block_at, is_same_block, place_after}
-use Rattle.jv_model.specs.Ranges.{in_range}
+use Rattle.jv_model.specs.promise.blocks.Slices.{block_at}
+use Rattle.jv_model.specs.blocks.Slices.{is_same_block, place_after}
+use Rattle.jv_model.specs.promise.Ranges.{in_range}
 use Rattle.jv_slices_reading.specs.declared.copying.Overlap.{Overlap}
 use Rattle.jv_slices_reading.specs.declared.copying.Shown.{Shown}
 use Rattle.jv_slices_reading.specs.declared.table.Table.{Table}

@@ -5,8 +5,9 @@ use Rattle.jv_model.specs.declared.slice.BlockId.{BlockId}
 use Rattle.jv_model.specs.declared.slice.Rec.{Rec}
 use Rattle.jv_model.specs.declared.slice.Spot.{Spot}
 use Rattle.jv_model.specs.declared.slice.Spot.TheVariants.{Zero, Slice}
-use Rattle.jv_model.specs.blocks.Slices.{block_at, block_count, stored_place, with_block}
-use Rattle.jv_volume_bytes.specs.Bytes.{KnownBytes, spot_byte}
+use Rattle.jv_model.specs.promise.blocks.Slices.{block_at, block_count, stored_place}
+use Rattle.jv_model.specs.blocks.Slices.{with_block}
+use Rattle.jv_volume_bytes.specs.promise.Bytes.{KnownBytes, spot_byte}
 
 -- the positions of a window from one to another, by its list; the length of blocks; the blocks that
 -- are left; the bytes so far

@@ -3,7 +3,8 @@ ghost use Rattle.std.specs.Prelude.{◌≡◌, ℕ, ◌+◌, ◌-◌, ◌<◌, �
 ghost use Rattle.jv_model.specs.declared.slice.Rec.{Rec as RecSeen};
 ghost use Rattle.jv_model.specs.declared.slice.BlockId.{BlockId as BlockSeen};
 ghost use Rattle.jv_model.specs.declared.slice.Spot.{Spot as SpotSeen};
-ghost use Rattle.jv_model.specs.blocks.Slices.{IsPart, IsPlan, IsAsStored, stored_place};
+ghost use Rattle.jv_model.specs.blocks.Slices.{IsPart, IsPlan, IsAsStored};
+ghost use Rattle.jv_model.specs.promise.blocks.Slices.{stored_place};
 ghost use Rattle.jv_slices.specs.Listing.{AreFew, ordered_of};
 ghost use Rattle.jv_slices.specs.Shown.{EndsBy};
 ghost use Rattle.jv_model.specs.declared.limits.TheConstants.{WINDOW};

@@ -1,8 +1,8 @@
 ghost use Rattle.std.specs.Prelude.{◌≡◌, ℕ, ◌-◌, ◌<◌, ◌≤◌, List, [], drop, length, slice_get, slice_index, All, IfOk, IfSome, IsSomeAnd, None};
 ghost use Rattle.jv_model.specs.declared.limits.TheConstants.{WINDOW};
-ghost use Rattle.jv_model.specs.blocks.Slices.{IsRecord};
-ghost use Rattle.jv_model.specs.journal.Reading.{bytes_from};
-ghost use Rattle.jv_volume_bytes.specs.Bytes.{KnownBytes};
+ghost use Rattle.jv_model.specs.promise.blocks.Slices.{IsRecord};
+ghost use Rattle.jv_model.specs.promise.journal.Reading.{bytes_from};
+ghost use Rattle.jv_volume_bytes.specs.promise.Bytes.{KnownBytes};
 ghost use Rattle.jv_slices_reading.specs.Parts.{IsPartOf, IsNamed, FillsIn, ReadsAs, blocks_between, window_byte};
 
 use crate::table::{Table, copy_shown, table_of};

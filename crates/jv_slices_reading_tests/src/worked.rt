@@ -1,6 +1,6 @@
 ghost use Rattle.std.specs.Prelude.{◌<◌, ◌≤◌, ◌^◌, All, IfOk};
 ghost use Rattle.jv_model.specs.declared.limits.TheConstants.{WINDOW};
-ghost use Rattle.jv_model.specs.blocks.Slices.{IsRecord};
+ghost use Rattle.jv_model.specs.promise.blocks.Slices.{IsRecord};
 
 use jv_model::{BlockId, Bytes, List, Rec};
 use jv_slices_reading::WindowRead;

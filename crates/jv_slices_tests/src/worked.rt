@@ -1,5 +1,5 @@
 ghost use Rattle.std.specs.Prelude.{All, IfOk};
-ghost use Rattle.jv_model.specs.blocks.Slices.{IsRecord};
+ghost use Rattle.jv_model.specs.promise.blocks.Slices.{IsRecord};
 
 use jv_model::{BlockId, List, Piece, Rec, Setting, Spot};
 use jv_slices::{block_len, block_name, blocks_of, byte_at, needs, parse_block_name, plan};

@@ -14,41 +14,43 @@ use Rattle.jv_model.specs.declared.limits.TheConstants.{TRASH_ROOT}
 use Rattle.jv_model.specs.declared.op.Reply.TheVariants.{Done}
 use Rattle.jv_model.specs.declared.row.Node.{Node as NodeRow}
 use Rattle.jv_model.specs.declared.row.Row.TheVariants.{OfNode}
-use Rattle.jv_model.specs.FiniteMap.{get, insert}
-use Rattle.jv_model.specs.rows.RowKeys.{RowMap}
-use Rattle.jv_model.specs.rows.RowPlaces.{node_key}
-use Rattle.jv_model.specs.tree.Attempt.{◌>>=◌, require, some_or}
-use Rattle.jv_model.specs.tree.Caller.{Caller, Outcome, done, session_there}
-use Rattle.jv_model.specs.tree.Changes.{status_changed, put_node}
-use Rattle.jv_model.specs.tree.Reading.{with_attributes, chmod, chown, utimes}
-use Rattle.jv_model.specs.tree.Tree.{Tree, Node, in_trash, node_at, parent_of, kind_space}
-use Rattle.jv_model.specs.tree.Walk.{inode_by, inode_of}
+use Rattle.jv_model.specs.promise.FiniteMap.{get, insert}
+use Rattle.jv_model.specs.promise.rows.RowKeys.{RowMap}
+use Rattle.jv_model.specs.promise.rows.RowPlaces.{node_key}
+use Rattle.jv_model.specs.promise.tree.Attempt.{◌>>=◌, require, some_or}
+use Rattle.jv_model.specs.promise.tree.Caller.{Caller, Outcome, done, session_there}
+use Rattle.jv_model.specs.promise.tree.Changes.{status_changed, put_node}
+use Rattle.jv_model.specs.promise.tree.Reading.{with_attributes, chmod, chown, utimes}
+use Rattle.jv_model.specs.promise.tree.Tree.{Tree, Node, in_trash, node_at, parent_of, kind_space}
+use Rattle.jv_model.specs.promise.tree.Walk.{inode_by, inode_of}
 use Rattle.jv_model.proofs.TestLaws.{of_known}
 use Rattle.jv_outside.specs.declared.batch.Change.{Change}
-use Rattle.jv_outside.specs.Rows.{applied}
-use Rattle.jv_outside.specs.Store.{Store, Commits}
-use Rattle.jv_volume.specs.TypedRows.{Rows, typed}
-use Rattle.jv_volume.specs.TreeOf.{node_of, tree_of}
-use Rattle.jv_volume.specs.Shape.{WholeShape, shape_of, form_of, is_there, is_hour}
-use Rattle.jv_volume.specs.Views.{row_in, node_in, node_row_at}
-use Rattle.jv_volume.specs.Whole.{Whole, Quiet, no_bytes}
-use Rattle.jv_volume.proofs.EnteredShapeLaws.{not_hour_below}
-use Rattle.jv_volume.proofs.FileStepLaws.{files-same_length}
-use Rattle.jv_volume.proofs.NodeRowLaws.{IsNodeRow}
-use Rattle.jv_volume.proofs.QuietLaws.{quiet-none, quiet-put_node, quiet-slices}
-use Rattle.jv_volume.proofs.SameShapeLaws.{whole-attributes}
-use Rattle.jv_volume.proofs.SeenLaws.{row-put, rows-alter}
-use Rattle.jv_volume.proofs.StoredLaws.{HasNode, found_node, whole-stored, whole-shape}
-use Rattle.jv_volume.proofs.StoredStepLaws.{stored-change_node}
-use Rattle.jv_volume.proofs.TreeOfLaws.{tree_of-put_node}
-use Rattle.jv_volume.proofs.WalkShapeLaws.{IsReached, Directory, Entry, path_reached}
-use Rattle.jv_volume.proofs.WholeLaws.{no_hour-row}
+use Rattle.jv_outside.specs.promise.Rows.{applied}
+use Rattle.jv_outside.specs.promise.Store.{Store}
+use Rattle.jv_outside.specs.Store.{Commits}
+use Rattle.jv_volume.specs.promise.TypedRows.{Rows, typed}
+use Rattle.jv_volume.specs.promise.TreeOf.{node_of_row, tree_of}
+use Rattle.jv_volume.specs.promise.Shape.{WholeShape, shape_of, form_of, is_there, is_hour}
+use Rattle.jv_volume.specs.promise.Views.{row_in, node_in, node_row_at}
+use Rattle.jv_volume.specs.promise.Whole.{Whole, no_bytes}
+use Rattle.jv_volume.specs.Whole.{Quiet}
+use Rattle.jv_volume.proofs.shapes.EnteredShapeLaws.{not_hour_below}
+use Rattle.jv_volume.proofs.stored.FileStepLaws.{files-same_length}
+use Rattle.jv_volume.proofs.stored.NodeRowLaws.{IsNodeRow}
+use Rattle.jv_volume.proofs.stored.QuietLaws.{quiet-none, quiet-put_node, quiet-slices}
+use Rattle.jv_volume.proofs.shapes.SameShapeLaws.{whole-attributes}
+use Rattle.jv_volume.proofs.maps.SeenLaws.{row-put, rows-alter}
+use Rattle.jv_volume.proofs.stored.StoredLaws.{HasNode, found_node, whole-stored, whole-shape}
+use Rattle.jv_volume.proofs.stored.StoredStepLaws.{stored-change_node}
+use Rattle.jv_volume.proofs.stored.TreeOfLaws.{tree_of-put_node}
+use Rattle.jv_volume.proofs.shapes.WalkShapeLaws.{IsReached, Directory, Entry, path_reached}
+use Rattle.jv_volume.proofs.whole.WholeLaws.{no_hour-row}
 use Rattle.jv_rows.specs.Drafts.{Drafts, drafted}
 use Rattle.jv_rows.specs.Transactions.{IsFor, Transacts, Always, Landed}
 use Rattle.jv_rows.specs.Walks.{Comes}
 use Rattle.jv_rows.specs.declared.walking.Place.{Place}
-use Rattle.jv_rows.proofs.TransactionLaws.{Past, FailsBy, past-start, past-as, past-fails, transacts-refused, transacts-exit}
-use Rattle.jv_rows.proofs.ArrivalLaws.{past-place, stops-place}
+use Rattle.jv_rows.proofs.transactions.TransactionLaws.{Past, FailsBy, past-start, past-as, past-fails, transacts-refused, transacts-exit}
+use Rattle.jv_rows.proofs.walks.ArrivalLaws.{past-place, stops-place}
 use Rattle.jv_tree.specs.Attributes.{changeable_inode, HasPut, PutsNode, IsNotBad}
 
 -- ---- a row that was put
@@ -144,8 +146,8 @@ pub record IsChanged (now : ℕ) (change : Node → Node) (row new : NodeRow) : 
   pub kind : new.kind ≡ row.kind
   pub length : new.length ≡ row.length
   pub row_is : (links : ℕ) (byte : ℕ → ℕ) → IsNodeRow links byte row → IsNodeRow links byte new
-  pub node : (byte : ℕ → ℕ) → node_of byte new ≡ status_changed now (change (node_of byte row))
-  pub kind_is : (byte : ℕ → ℕ) → (node_of byte new).kind ≡ (node_of byte row).kind
+  pub node : (byte : ℕ → ℕ) → node_of_row byte new ≡ status_changed now (change (node_of_row byte row))
+  pub kind_is : (byte : ℕ → ℕ) → (node_of_row byte new).kind ≡ (node_of_row byte row).kind
 
 module _ (rows : Rows) (whole : Whole rows) (inode : ℕ) (row new : NodeRow) (there : node_row_at rows inode ≡ Some row) (now : ℕ) (change : Node → Node)
     (is : IsChanged now change row new) (none : is_hour inode ≡ false) where
@@ -166,7 +168,7 @@ module _ (rows : Rows) (whole : Whole rows) (inode : ℕ) (row new : NodeRow) (t
         (is.row_is row.nlink (no_bytes inode) (subst (λ l. IsNodeRow l (no_bytes inode) row) (sym has.links) has.row_is)) is.kind
         (ap kind_space (is.kind_is (no_bytes inode)));
     tree = subst (λ (t : Tree). WholeShape (shape_of t)) (sym (tree_of-put_node no_bytes rows inode new))
-        (whole-attributes (tree_of no_bytes rows) inode (node_of (no_bytes inode) row) (node_of (no_bytes inode) new) has.there
+        (whole-attributes (tree_of no_bytes rows) inode (node_of_row (no_bytes inode) row) (node_of_row (no_bytes inode) new) has.there
         (is.kind_is (no_bytes inode)) whole.tree);
     slices = quiet-slices rows changed_rows changed-quiet whole.slices;
     files = files-same_length rows inode row new whole.files there is.kind is.length;

@@ -6,12 +6,12 @@ use Rattle.jv_model.specs.declared.tables.TheConstants.{TABLE_OF_EDGES}
 use Rattle.jv_model.specs.declared.row.Row.{Row}
 use Rattle.jv_model.specs.declared.row.Row.TheVariants.{OfSetting, OfCounters, OfNode, OfEdge, OfList, OfSlice, OfSession, OfSustained, OfDropped, OfDead}
 use Rattle.jv_model.specs.declared.row.RowKey.{RowKey}
-use Rattle.jv_model.specs.rows.RowKeys.{RowMap}
-use Rattle.jv_model.specs.rows.RowGrammar.{edge_of}
-use Rattle.jv_model.specs.rows.RowPlaces.{edge_key}
+use Rattle.jv_model.specs.promise.rows.RowKeys.{RowMap}
+use Rattle.jv_model.specs.promise.rows.RowGrammar.{edge_of}
+use Rattle.jv_model.specs.promise.rows.RowPlaces.{edge_key}
 use Rattle.jv_model.specs.declared.row.Edge.{Edge}
 use Rattle.jv_outside.specs.Rows.{is_after}
-use Rattle.jv_outside.specs.Store.{Store}
+use Rattle.jv_outside.specs.promise.Store.{Store}
 use Rattle.std.specs.Prelude.{filter}
 use Rattle.jv_tree.specs.Directories.{is_entry, entry_then, entries_within, all_within}
 

@@ -11,7 +11,7 @@ use Rattle.std.proofs.lemmas.Map.Keys.{le_from_is_le}
 use Rattle.std.proofs.lemmas.Bool.{and_parts}
 use Rattle.jv_model.specs.declared.tables.TheConstants.{TABLE_OF_EDGES}
 use Rattle.jv_model.specs.declared.row.RowKey.{RowKey}
-use Rattle.jv_model.specs.rows.RowKeys.{row_cmp, row_cmp_total}
+use Rattle.jv_model.specs.promise.rows.RowKeys.{row_cmp, row_cmp_total}
 use Rattle.jv_model.proofs.TestLaws.{first_of_both, second_of_both, less_is, lt_is}
 use Rattle.jv_outside.specs.Rows.{is_after}
 

@@ -12,25 +12,28 @@ use Rattle.jv_model.specs.declared.row.Node.{Node as NodeRow}
 use Rattle.jv_model.specs.declared.row.RowKey.{RowKey}
 use Rattle.jv_model.specs.declared.row.Row.TheVariants.{OfSetting, OfCounters, OfNode, OfEdge}
 use Rattle.jv_model.specs.declared.setting.Setting.{Setting}
-use Rattle.jv_model.specs.FiniteMap.{get, alter}
-use Rattle.jv_model.specs.rows.RowGrammar.{is_setting, is_counters, is_node}
-use Rattle.jv_model.specs.rows.RowKeys.{RowMap}
-use Rattle.jv_model.specs.rows.RowPlaces.{setting_key, counters_key, node_key, edge_key}
-use Rattle.jv_model.specs.tree.Caller.{Outcome}
-use Rattle.jv_model.specs.tree.Tree.{Tree, Kind}
+use Rattle.jv_model.specs.promise.FiniteMap.{get}
+use Rattle.jv_model.specs.FiniteMap.{alter}
+use Rattle.jv_model.specs.promise.rows.RowGrammar.{is_setting, is_counters, is_node}
+use Rattle.jv_model.specs.promise.rows.RowKeys.{RowMap}
+use Rattle.jv_model.specs.promise.rows.RowPlaces.{setting_key, counters_key, node_key, edge_key}
+use Rattle.jv_model.specs.promise.tree.Caller.{Outcome}
+use Rattle.jv_model.specs.promise.tree.Tree.{Tree, Kind}
 use Rattle.jv_outside.specs.declared.batch.Change.{Change}
-use Rattle.jv_outside.specs.Store.{Store, Commits}
+use Rattle.jv_outside.specs.promise.Store.{Store}
+use Rattle.jv_outside.specs.Store.{Commits}
 use Rattle.jv_rows.specs.declared.walking.EntryPlace.{EntryPlace}
 use Rattle.jv_rows.specs.Drafts.{drafted, cell, Drafts, Needs}
 use Rattle.jv_rows.specs.Transactions.{BadFault, Transacts}
 use Rattle.jv_rows.specs.Walks.{HasNodeRow}
-use Rattle.jv_rows.proofs.NeedingLaws.{SettingNeeded, CountersNeeded, fails-needed, stands-needs}
-use Rattle.jv_rows.proofs.TransactionLaws.{Past, Fails, past-start, past-calm, past-fails, fails-looks, transacts-refused, transacts-commits, drafted-none, none_kept}
-use Rattle.jv_volume.specs.TypedRows.{Cell, Rows, typed}
-use Rattle.jv_volume.specs.Views.{row_in, setting_in, setting_at, counters_in, counters_at, node_in, node_row_at}
-use Rattle.jv_volume.specs.TreeOf.{tree_of}
-use Rattle.jv_volume.specs.Whole.{Whole, Quiet}
-use Rattle.jv_volume.proofs.MadeRowsLaws.{made_rows}
+use Rattle.jv_rows.proofs.transactions.NeedingLaws.{SettingNeeded, CountersNeeded, fails-needed, stands-needs}
+use Rattle.jv_rows.proofs.transactions.TransactionLaws.{Past, Fails, past-start, past-calm, past-fails, fails-looks, transacts-refused, transacts-commits, drafted-none, none_kept}
+use Rattle.jv_volume.specs.promise.TypedRows.{Cell, Rows, typed}
+use Rattle.jv_volume.specs.promise.Views.{row_in, setting_in, setting_at, counters_in, counters_at, node_in, node_row_at}
+use Rattle.jv_volume.specs.promise.TreeOf.{tree_of}
+use Rattle.jv_volume.specs.promise.Whole.{Whole}
+use Rattle.jv_volume.specs.Whole.{Quiet}
+use Rattle.jv_volume.proofs.whole.MadeRowsLaws.{made_rows}
 use Rattle.jv_tree.specs.Entering.{IsFreePlace, IsNewKind, place_of, new_row, enter, has_room, one_more}
 use Rattle.jv_tree.proofs.EnteringLaws.{enter-full, enter-linked_full, enter-done, whole-entered, quiet-entered}
 use Rattle.jv_volume.specs.Stored.{links_by, directory_touched}

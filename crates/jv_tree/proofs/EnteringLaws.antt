@@ -9,33 +9,35 @@ use Rattle.jv_model.specs.declared.op.Reply.{Reply}
 use Rattle.jv_model.specs.declared.row.Counters.{Counters}
 use Rattle.jv_model.specs.declared.row.Node.{Node as NodeRow}
 use Rattle.jv_model.specs.declared.setting.Setting.{Setting}
-use Rattle.jv_model.specs.rows.RowGrammar.{is_node, is_target, is_symlink}
-use Rattle.jv_model.specs.tree.Attempt.{◌>>=◌, require}
-use Rattle.jv_model.specs.tree.Caller.{answered}
-use Rattle.jv_model.specs.tree.Making.{with_next, entered}
-use Rattle.jv_model.specs.tree.Tree.{Tree, Node, Kind, File, Directory, Symlink, EntryKey, new_node, node_at, kind_space, link_count, space_limit, inode_limit, links_fit}
-use Rattle.jv_volume.specs.TypedRows.{Rows}
-use Rattle.jv_volume.specs.Views.{counters_at, node_row_at, setting_at}
-use Rattle.jv_volume.specs.TreeOf.{node_of, tree_of}
-use Rattle.jv_volume.specs.Shape.{Dir, WholeShape, form_of, is_dir, shape_of}
-use Rattle.jv_volume.specs.Stored.{Stored, links_by}
-use Rattle.jv_volume.specs.Whole.{Whole, Quiet}
-use Rattle.jv_volume.proofs.LinkLaws.{free_inode, next_absent, link_count-beside_dir, standing_here}
-use Rattle.jv_volume.proofs.MadeRowsLaws.{made_rows, IsMade}
-use Rattle.jv_volume.proofs.MadeWholeLaws.{MayBeMade, tree-made, quiet-made, whole-made}
-use Rattle.jv_volume.proofs.NodeRowLaws.{IsNodeRow, node_of-empty_file}
-use Rattle.jv_volume.proofs.RoomLaws.{entered-by}
-use Rattle.jv_volume.proofs.StoredLaws.{HasCounters, HasNode, found_counters, found_node, found_setting, whole-shape, whole-stored}
+use Rattle.jv_model.specs.promise.rows.RowGrammar.{is_node, is_target, is_symlink}
+use Rattle.jv_model.specs.promise.tree.Attempt.{◌>>=◌, require}
+use Rattle.jv_model.specs.promise.tree.Caller.{answered}
+use Rattle.jv_model.specs.promise.tree.Making.{with_next, entered}
+use Rattle.jv_model.specs.promise.tree.Tree.{Tree, Node, Kind, File, Directory, Symlink, EntryKey, new_node, node_at, kind_space, link_count, space_limit, inode_limit, links_fit}
+use Rattle.jv_volume.specs.promise.TypedRows.{Rows}
+use Rattle.jv_volume.specs.promise.Views.{counters_at, node_row_at, setting_at}
+use Rattle.jv_volume.specs.promise.TreeOf.{node_of_row, tree_of}
+use Rattle.jv_volume.specs.promise.Shape.{Dir, WholeShape, form_of, is_dir, shape_of}
+use Rattle.jv_volume.specs.promise.Stored.{Stored}
+use Rattle.jv_volume.specs.Stored.{links_by}
+use Rattle.jv_volume.specs.promise.Whole.{Whole}
+use Rattle.jv_volume.specs.Whole.{Quiet}
+use Rattle.jv_volume.proofs.sums.LinkLaws.{free_inode, next_absent, link_count-beside_dir, standing_here}
+use Rattle.jv_volume.proofs.whole.MadeRowsLaws.{made_rows, IsMade}
+use Rattle.jv_volume.proofs.whole.MadeWholeLaws.{MayBeMade, tree-made, quiet-made, whole-made}
+use Rattle.jv_volume.proofs.stored.NodeRowLaws.{IsNodeRow, node_of-empty_file}
+use Rattle.jv_volume.proofs.sums.RoomLaws.{entered-by}
+use Rattle.jv_volume.proofs.stored.StoredLaws.{HasCounters, HasNode, found_counters, found_node, found_setting, whole-shape, whole-stored}
 use Rattle.jv_tree.specs.Entering.{IsFreePlace, IsNewKind, EmptyFile, DirectoryIn, LinkTo, is_new_directory, new_row, enter, has_room}
 
 -- What the row of a new node is.
 record IsNewNode (byte : ℕ → ℕ) (dir : ℕ) (kind : Kind) (mode now : ℕ) : Type 0 where
-  node_is : node_of byte (new_row kind mode now) ≡ new_node kind mode now
-  row_is : IsNodeRow (if is_dir (form_of (Some (node_of byte (new_row kind mode now)))) then 2 else 1) byte (new_row kind mode now)
-  adds : links_by (new_row kind mode now).kind ≡ (if is_dir (form_of (Some (node_of byte (new_row kind mode now)))) then 1 else 0)
-  space : SPACE_UNIT ≡ kind_space (node_of byte (new_row kind mode now)).kind
+  node_is : node_of_row byte (new_row kind mode now) ≡ new_node kind mode now
+  row_is : IsNodeRow (if is_dir (form_of (Some (node_of_row byte (new_row kind mode now)))) then 2 else 1) byte (new_row kind mode now)
+  adds : links_by (new_row kind mode now).kind ≡ (if is_dir (form_of (Some (node_of_row byte (new_row kind mode now)))) then 1 else 0)
+  space : SPACE_UNIT ≡ kind_space (node_of_row byte (new_row kind mode now)).kind
   small : (new_row kind mode now).length ≤ FILE_END
-  parent : (parent : ℕ) → form_of (Some (node_of byte (new_row kind mode now))) ≡ Dir parent → parent ≡ dir
+  parent : (parent : ℕ) → form_of (Some (node_of_row byte (new_row kind mode now))) ≡ Dir parent → parent ≡ dir
   is_directory : is_dir (form_of (Some (new_node kind mode now))) ≡ is_new_directory kind
   number : ((new_row kind mode now).kind == 2) ≡ is_new_directory kind
   unit : kind_space kind ≡ SPACE_UNIT
@@ -156,7 +158,7 @@ module _ (bytes : ℕ → ℕ → ℕ) (rows : Rows) (now mode : ℕ) (place : E
     enter_is = ap (λ r. r >>= (λ u. require (if is_new_directory kind then links_fit u place.dir else true) NoSpace >>= (λ _. answered u (reply t.next_inode)))) entered_is
 
     dir_apart : place.dir ≡ t.next_inode → ⊥
-    dir_apart same = (let both : Some (node_of (bytes place.dir) dir) ≡ None = sym dir_is.there ∙ ap (node_at t) same ∙ next_absent t shape in absurd (cc))
+    dir_apart same = (let both : Some (node_of_row (bytes place.dir) dir) ≡ None = sym dir_is.there ∙ ap (node_at t) same ∙ next_absent t shape in absurd (cc))
 
     links_after : is_new_directory kind ≡ true → link_count after place.dir ≡ dir.nlink + 1
     links_after is =

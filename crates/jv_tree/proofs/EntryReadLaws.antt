@@ -18,27 +18,27 @@ use Rattle.jv_model.specs.declared.row.Edge.{Edge}
 use Rattle.jv_model.specs.declared.row.Row.{Row}
 use Rattle.jv_model.specs.declared.row.Row.TheVariants.{OfEdge}
 use Rattle.jv_model.specs.declared.row.RowKey.{RowKey}
-use Rattle.jv_model.specs.FiniteMap.{KeyOrder, get, insert, map_of}
-use Rattle.jv_model.specs.rows.RowGrammar.{row_of, edge_of}
-use Rattle.jv_model.specs.rows.RowKeys.{RowMap, row_key, row_cmp}
-use Rattle.jv_model.specs.rows.RowPlaces.{edge_key}
-use Rattle.jv_model.specs.tree.Reading.{entries_of}
-use Rattle.jv_model.specs.tree.Tree.{Tree, EntryKey}
+use Rattle.jv_model.specs.promise.FiniteMap.{KeyOrder, get, insert, map_of}
+use Rattle.jv_model.specs.promise.rows.RowGrammar.{row_of, edge_of}
+use Rattle.jv_model.specs.promise.rows.RowKeys.{RowMap, row_key, row_cmp}
+use Rattle.jv_model.specs.promise.rows.RowPlaces.{edge_key}
+use Rattle.jv_model.specs.promise.tree.Reading.{entries_of}
+use Rattle.jv_model.specs.promise.tree.Tree.{Tree, EntryKey}
 use Rattle.jv_model.proofs.TestLaws.{first_of_both, second_of_both}
 use Rattle.jv_model.proofs.FiniteMapLaws.{put_first}
-use Rattle.jv_outside.specs.Store.{Store}
-use Rattle.jv_volume.specs.TypedRows.{Cell, cell_of, typed_entries, typed, is_key}
-use Rattle.jv_volume.specs.TreeOf.{entry_selected, entries_selected, entry_of_key, tree_of}
-use Rattle.jv_volume.specs.Views.{edge_in}
-use Rattle.jv_volume.specs.Whole.{Whole}
-use Rattle.jv_volume.proofs.MapLaws.{is_sorted-changed}
-use Rattle.jv_volume.proofs.ReadLaws.{entries_of-rows}
-use Rattle.jv_volume.proofs.TypedLaws.{get-typed}
+use Rattle.jv_outside.specs.promise.Store.{Store}
+use Rattle.jv_volume.specs.promise.TypedRows.{Cell, cell_of, typed_entries, typed, is_key}
+use Rattle.jv_volume.specs.promise.TreeOf.{entry_selected, entries_selected, entry_of_key, tree_of}
+use Rattle.jv_volume.specs.promise.Views.{edge_in}
+use Rattle.jv_volume.specs.promise.Whole.{Whole}
+use Rattle.jv_volume.proofs.maps.MapLaws.{is_sorted-changed}
+use Rattle.jv_volume.proofs.operations.ReadLaws.{entries_of-rows}
+use Rattle.jv_volume.proofs.maps.TypedLaws.{get-typed}
 use Rattle.jv_rows.specs.Scans.{ScansRows}
 use Rattle.jv_rows.specs.Tables.{edge_row}
 use Rattle.jv_rows.specs.Transactions.{Looks}
-use Rattle.jv_rows.proofs.ScannedLaws.{all-stored, fails-scan, IsStored}
-use Rattle.jv_rows.proofs.TransactionLaws.{Past, past-fails, looks-exit}
+use Rattle.jv_rows.proofs.scans.ScannedLaws.{all-stored, fails-scan, IsStored}
+use Rattle.jv_rows.proofs.transactions.TransactionLaws.{Past, past-fails, looks-exit}
 use Rattle.jv_tree.specs.Directories.{entries_within}
 use Rattle.jv_tree.proofs.DirectoryLaws.{edge_then, entries_from, edges_after, IsReadTo}
 use Rattle.jv_tree.proofs.EdgeOrderLaws.{behind}

@@ -9,24 +9,25 @@ use Rattle.jv_model.specs.declared.fault.TxFault.{TxFault}
 use Rattle.jv_model.specs.declared.fault.TxFault.TheVariants.{Refused, Moved, Rows as OfRows}
 use Rattle.jv_model.specs.declared.op.Reply.{Reply}
 use Rattle.jv_model.specs.declared.op.Reply.TheVariants.{Found, FileOpened}
-use Rattle.jv_model.specs.rows.RowKeys.{RowMap}
-use Rattle.jv_model.specs.tree.Attempt.{◌>>=◌, require}
-use Rattle.jv_model.specs.tree.Caller.{Caller, Outcome, in_session}
-use Rattle.jv_model.specs.tree.Changes.{empty_content}
-use Rattle.jv_model.specs.tree.Making.{new_place, mkdir, create, symlink}
-use Rattle.jv_model.specs.tree.Tree.{Tree, Kind, File, Directory, Symlink, EntryKey}
-use Rattle.jv_outside.specs.Store.{Store}
+use Rattle.jv_model.specs.promise.rows.RowKeys.{RowMap}
+use Rattle.jv_model.specs.promise.tree.Attempt.{◌>>=◌, require}
+use Rattle.jv_model.specs.promise.tree.Caller.{Caller, Outcome, in_session}
+use Rattle.jv_model.specs.promise.tree.Changes.{empty_content}
+use Rattle.jv_model.specs.promise.tree.Making.{new_place, mkdir, create, symlink}
+use Rattle.jv_model.specs.promise.tree.Tree.{Tree, Kind, File, Directory, Symlink, EntryKey}
+use Rattle.jv_outside.specs.promise.Store.{Store}
 use Rattle.jv_rows.specs.declared.walking.EntryPlace.{EntryPlace}
 use Rattle.jv_rows.specs.Transactions.{BadFault, Looks, Lands, TransactionCounts, Transacts, Always}
 use Rattle.jv_rows.specs.Walks.{pair_in, ComesToEntry}
-use Rattle.jv_rows.proofs.TransactionLaws.{Past, Fails, past-start, past-as, past-looks, past-stops, past-fails, past-refuses, transacts-refused}
-use Rattle.jv_volume.specs.TypedRows.{typed}
-use Rattle.jv_volume.specs.TreeOf.{tree_of}
-use Rattle.jv_volume.specs.Whole.{Whole}
-use Rattle.jv_volume.proofs.EntryNameLaws.{new_place-name}
-use Rattle.jv_volume.proofs.WalkShapeLaws.{is_new_place}
-use Rattle.jv_tree.specs.Entering.{has_no_zero, new_pair, place_of, IsFreePlace, enter}
-use Rattle.jv_rows.proofs.NeedingLaws.{session_is}
+use Rattle.jv_rows.proofs.transactions.TransactionLaws.{Past, Fails, past-start, past-as, past-looks, past-stops, past-fails, past-refuses, transacts-refused}
+use Rattle.jv_volume.specs.promise.TypedRows.{typed}
+use Rattle.jv_volume.specs.promise.TreeOf.{tree_of}
+use Rattle.jv_volume.specs.promise.Whole.{Whole}
+use Rattle.jv_volume.proofs.names.EntryNameLaws.{new_place-name}
+use Rattle.jv_volume.proofs.shapes.WalkShapeLaws.{is_new_place}
+use Rattle.jv_model.specs.promise.Lists.{has_no_zero}
+use Rattle.jv_tree.specs.Entering.{new_pair, place_of, IsFreePlace, enter}
+use Rattle.jv_rows.proofs.transactions.NeedingLaws.{session_is}
 
 -- ---- a transaction after readings
 

@@ -8,26 +8,26 @@ use Rattle.jv_model.specs.declared.fault.TxFault.{TxFault}
 use Rattle.jv_model.specs.declared.fault.TxFault.TheVariants.{Refused, Rows as OfRows}
 use Rattle.jv_model.specs.declared.row.Edge.{Edge}
 use Rattle.jv_model.specs.declared.row.Row.TheVariants.{OfEdge}
-use Rattle.jv_model.specs.FiniteMap.{get}
-use Rattle.jv_model.specs.rows.RowGrammar.{is_edge, edge_bytes, edge_of}
-use Rattle.jv_model.specs.rows.RowKeys.{RowMap}
-use Rattle.jv_model.specs.rows.RowPlaces.{edge_key}
-use Rattle.jv_model.specs.tree.Attempt.{◌>>=◌, require}
-use Rattle.jv_model.specs.tree.Making.{may_be_new}
-use Rattle.jv_model.specs.tree.Tree.{Tree, EntryKey}
-use Rattle.jv_model.specs.tree.Walk.{entry_of}
-use Rattle.jv_outside.specs.Store.{Store}
+use Rattle.jv_model.specs.promise.FiniteMap.{get}
+use Rattle.jv_model.specs.promise.rows.RowGrammar.{is_edge, edge_bytes, edge_of}
+use Rattle.jv_model.specs.promise.rows.RowKeys.{RowMap}
+use Rattle.jv_model.specs.promise.rows.RowPlaces.{edge_key}
+use Rattle.jv_model.specs.promise.tree.Attempt.{◌>>=◌, require}
+use Rattle.jv_model.specs.promise.tree.Making.{may_be_new}
+use Rattle.jv_model.specs.promise.tree.Tree.{Tree, EntryKey}
+use Rattle.jv_model.specs.promise.tree.Walk.{entry_of}
+use Rattle.jv_outside.specs.promise.Store.{Store}
 use Rattle.jv_rows.specs.declared.walking.EntryPlace.{EntryPlace}
 use Rattle.jv_rows.specs.Drafts.{Sees}
 use Rattle.jv_rows.specs.Readings.{ReadsRow}
 use Rattle.jv_rows.specs.Tables.{edge_row}
 use Rattle.jv_rows.specs.Walks.{HasNodeRow, pair_in, entry_pair, ComesToEntry}
-use Rattle.jv_rows.proofs.DraftLaws.{sees_stored}
-use Rattle.jv_rows.proofs.TransactionLaws.{Past, past-start, past-as, past-calm, past-looks, past-stops, past-fails, past-gives, past-refuses, fails-sees, stands-sees, as_stored}
-use Rattle.jv_volume.specs.TypedRows.{typed}
-use Rattle.jv_volume.specs.Views.{row_in, edge_in}
-use Rattle.jv_volume.specs.TreeOf.{tree_of}
-use Rattle.jv_volume.proofs.TreeOfLaws.{get-entries}
+use Rattle.jv_rows.proofs.transactions.DraftLaws.{sees_stored}
+use Rattle.jv_rows.proofs.transactions.TransactionLaws.{Past, past-start, past-as, past-calm, past-looks, past-stops, past-fails, past-gives, past-refuses, fails-sees, stands-sees, as_stored}
+use Rattle.jv_volume.specs.promise.TypedRows.{typed}
+use Rattle.jv_volume.specs.promise.Views.{row_in, edge_in}
+use Rattle.jv_volume.specs.promise.TreeOf.{tree_of}
+use Rattle.jv_volume.proofs.stored.TreeOfLaws.{get-entries}
 use Rattle.jv_tree.specs.Entering.{new_pair, place_of}
 
 -- the tests of a place, as a pair

@@ -9,18 +9,18 @@ use Rattle.jv_model.specs.declared.row.Edge.{Edge}
 use Rattle.jv_model.specs.declared.row.Row.{Row}
 use Rattle.jv_model.specs.declared.row.Row.TheVariants.{OfSetting, OfCounters, OfNode, OfEdge, OfList, OfSlice, OfSession, OfSustained, OfDropped, OfDead}
 use Rattle.jv_model.specs.declared.row.RowKey.{RowKey}
-use Rattle.jv_model.specs.rows.RowGrammar.{row_of, edge_of}
-use Rattle.jv_model.specs.rows.RowKeys.{RowMap}
-use Rattle.jv_model.specs.rows.RowPlaces.{edge_key}
+use Rattle.jv_model.specs.promise.rows.RowGrammar.{row_of, edge_of}
+use Rattle.jv_model.specs.promise.rows.RowKeys.{RowMap}
+use Rattle.jv_model.specs.promise.rows.RowPlaces.{edge_key}
 use Rattle.jv_model.proofs.TestLaws.{if_some-by, of_known, same_Ok}
 use Rattle.jv_outside.specs.Rows.{rows_after}
-use Rattle.jv_outside.specs.Store.{Store}
+use Rattle.jv_outside.specs.promise.Store.{Store}
 use Rattle.jv_rows.specs.Scans.{row_then, rows_read, ScansRows}
 use Rattle.jv_rows.specs.Tables.{edge_row}
 use Rattle.jv_tree.specs.Directories.{last_of, is_entry, entry_then, entries_within, all_within}
 use Rattle.jv_tree.proofs.DirectoryLaws.{edge_then, entries_from, edges_after, IsReadSoFar, IsReadTo}
 use Rattle.jv_tree.proofs.EdgeOrderLaws.{behind, Chain, last_or, IsAtMost, chain-behind, last-above, chain-table, suffix, behind-again}
-use Rattle.jv_rows.proofs.ScannedLaws.{number-rises}
+use Rattle.jv_rows.proofs.scans.ScannedLaws.{number-rises}
 use Rattle.std.proofs.lemmas.Option.{same_Some}
 
 -- ---- the last row of a list

@@ -17,29 +17,29 @@ use Rattle.jv_model.specs.declared.setting.Attr.{Attr}
 use Rattle.jv_model.specs.declared.setting.FileKind.{FileKind}
 use Rattle.jv_model.specs.declared.setting.Setting.{Setting}
 use Rattle.jv_model.specs.declared.setting.Space.{Space}
-use Rattle.jv_model.specs.rows.RowGrammar.{is_setting, is_counters, is_node}
-use Rattle.jv_model.specs.rows.RowPlaces.{setting_key, counters_key, node_key}
-use Rattle.jv_model.specs.rows.RowKeys.{RowMap}
-use Rattle.jv_model.specs.tree.Attempt.{◌>>=◌, require, some_or}
-use Rattle.jv_model.specs.tree.Caller.{Caller, Outcome, answered, in_session}
-use Rattle.jv_model.specs.tree.Reading.{lookup, readdir, entries_of, stat, lstat, fstat, open_file, readlink, statfs, described, attr_of, usage_of, file_kind}
-use Rattle.jv_model.specs.tree.Tree.{Tree, File, Directory, Symlink, node_at, is_directory, target_at}
-use Rattle.jv_model.specs.tree.Walk.{inode_by}
-use Rattle.jv_model.specs.tree.Changes.{content_of}
-use Rattle.jv_outside.specs.Store.{Store}
-use Rattle.jv_volume.specs.TypedRows.{typed}
-use Rattle.jv_volume.specs.TreeOf.{node_of, tree_of}
-use Rattle.jv_volume.specs.Whole.{Whole}
-use Rattle.jv_volume.specs.Views.{row_in, setting_in, setting_at, counters_in, counters_at, node_in, node_row_at}
-use Rattle.jv_volume.proofs.StoredLaws.{HasNode, found_node, no_node, found_counters, found_setting, whole-stored}
-use Rattle.jv_volume.proofs.ReadLaws.{attr_of-row, usage_of-rows}
+use Rattle.jv_model.specs.promise.rows.RowGrammar.{is_setting, is_counters, is_node}
+use Rattle.jv_model.specs.promise.rows.RowPlaces.{setting_key, counters_key, node_key}
+use Rattle.jv_model.specs.promise.rows.RowKeys.{RowMap}
+use Rattle.jv_model.specs.promise.tree.Attempt.{◌>>=◌, require, some_or}
+use Rattle.jv_model.specs.promise.tree.Caller.{Caller, Outcome, answered, in_session}
+use Rattle.jv_model.specs.promise.tree.Reading.{lookup, readdir, entries_of, stat, lstat, fstat, open_file, readlink, statfs, described, attr_of, usage_of, file_kind}
+use Rattle.jv_model.specs.promise.tree.Tree.{Tree, File, Directory, Symlink, node_at, is_directory, target_at}
+use Rattle.jv_model.specs.promise.tree.Walk.{inode_by}
+use Rattle.jv_model.specs.promise.tree.Changes.{content_of}
+use Rattle.jv_outside.specs.promise.Store.{Store}
+use Rattle.jv_volume.specs.promise.TypedRows.{typed}
+use Rattle.jv_volume.specs.promise.TreeOf.{node_of_row, tree_of}
+use Rattle.jv_volume.specs.promise.Whole.{Whole}
+use Rattle.jv_volume.specs.promise.Views.{row_in, setting_in, setting_at, counters_in, counters_at, node_in, node_row_at}
+use Rattle.jv_volume.proofs.stored.StoredLaws.{HasNode, found_node, no_node, found_counters, found_setting, whole-stored}
+use Rattle.jv_volume.proofs.operations.ReadLaws.{attr_of-row, usage_of-rows}
 use Rattle.jv_rows.specs.Drafts.{Sees, Needs, cell}
 use Rattle.jv_rows.specs.Transactions.{IsFor, Looks, Transacts, Always}
 use Rattle.jv_rows.specs.Walks.{Comes}
 use Rattle.jv_rows.specs.declared.walking.Place.{Place}
-use Rattle.jv_rows.proofs.NeedingLaws.{session_is, SettingNeeded, CountersNeeded, stands-needs, fails-needed}
-use Rattle.jv_rows.proofs.TransactionLaws.{Past, past-as, past-calm, past-looks, past-stops, past-fails, past-refuses, transacts-refused, transacts-exit, transacts-answers, fails-sees, as_stored, node-seen}
-use Rattle.jv_rows.proofs.ArrivalLaws.{has-node, arrives, past-session, stops-session}
+use Rattle.jv_rows.proofs.transactions.NeedingLaws.{session_is, SettingNeeded, CountersNeeded, stands-needs, fails-needed}
+use Rattle.jv_rows.proofs.transactions.TransactionLaws.{Past, past-as, past-calm, past-looks, past-stops, past-fails, past-refuses, transacts-refused, transacts-exit, transacts-answers, fails-sees, as_stored, node-seen}
+use Rattle.jv_rows.proofs.walks.ArrivalLaws.{has-node, arrives, past-session, stops-session}
 use Rattle.jv_tree.specs.Attributes.{kind_in, attr_in}
 
 -- ---- how they begin
@@ -104,7 +104,7 @@ begins-readdir caller path t = refl
 
 -- ---- attributes
 
-pub file_kind-row : (byte : ℕ → ℕ) (row : NodeRow) → file_kind (node_of byte row).kind ≡ kind_in row.kind
+pub file_kind-row : (byte : ℕ → ℕ) (row : NodeRow) → file_kind (node_of_row byte row).kind ≡ kind_in row.kind
 file_kind-row byte row = by_tests (row.kind == 1) (row.kind == 2)
   where
     by_tests : (file dir : Bool) → file_kind (if file then File (content_of row.length byte) else if dir then Directory row.parent else Symlink row.target)
@@ -114,7 +114,7 @@ file_kind-row byte row = by_tests (row.kind == 1) (row.kind == 2)
     by_tests false false = refl
 
 module _ (t : Tree) (inode : ℕ) (row : NodeRow) (byte : ℕ → ℕ) (has : HasNode t inode row byte) where
-  pub attr-row : attr_of t inode (node_of byte row) ≡ attr_in inode row
+  pub attr-row : attr_of t inode (node_of_row byte row) ≡ attr_in inode row
   attr-row = attr_of-row t inode row byte has ∙ ap (λ k. record (attr_in inode row) { kind = k }) (file_kind-row byte row)
 
   pub described-row : described t inode ≡ answered t (Described (attr_in inode row))

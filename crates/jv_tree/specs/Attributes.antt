@@ -10,16 +10,16 @@ use Rattle.jv_model.specs.declared.row.Row.TheVariants.{OfNode}
 use Rattle.jv_model.specs.declared.setting.Attr.{Attr}
 use Rattle.jv_model.specs.declared.setting.FileKind.{FileKind}
 use Rattle.jv_model.specs.declared.setting.FileKind.TheVariants as kind
-use Rattle.jv_model.specs.FiniteMap.{insert}
-use Rattle.jv_model.specs.rows.RowKeys.{RowMap}
-use Rattle.jv_model.specs.rows.RowPlaces.{node_key}
-use Rattle.jv_model.specs.tree.Attempt.{◌>>=◌, require}
-use Rattle.jv_model.specs.tree.Tree.{Tree, in_trash}
-use Rattle.jv_model.specs.tree.Walk.{inode_of}
-use Rattle.jv_model.specs.tree.Caller.{session_there}
-use Rattle.jv_outside.specs.Store.{Store}
+use Rattle.jv_model.specs.promise.FiniteMap.{insert}
+use Rattle.jv_model.specs.promise.rows.RowKeys.{RowMap}
+use Rattle.jv_model.specs.promise.rows.RowPlaces.{node_key}
+use Rattle.jv_model.specs.promise.tree.Attempt.{◌>>=◌, require}
+use Rattle.jv_model.specs.promise.tree.Tree.{Tree, in_trash}
+use Rattle.jv_model.specs.promise.tree.Walk.{inode_of}
+use Rattle.jv_model.specs.promise.tree.Caller.{session_there}
+use Rattle.jv_outside.specs.promise.Store.{Store}
 use Rattle.jv_rows.specs.Transactions.{TransactionCounts}
-use Rattle.jv_volume.specs.TypedRows.{typed}
+use Rattle.jv_volume.specs.promise.TypedRows.{typed}
 
 -- the kind of a number that rows have
 abbrev pub kind_in : ℕ → FileKind

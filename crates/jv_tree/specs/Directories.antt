@@ -3,7 +3,7 @@ use Rattle.std.specs.Prelude.{ℕ, ◌==◌, ◌&&◌, Bool, true, false, if◌t
 use Rattle.jv_model.specs.declared.row.Row.{Row}
 use Rattle.jv_model.specs.declared.row.Row.TheVariants.{OfEdge}
 use Rattle.jv_model.specs.declared.row.RowKey.{RowKey}
-use Rattle.jv_model.specs.Lists.{last_item}
+use Rattle.jv_model.specs.promise.Lists.{last_item}
 
 -- the key of the last row
 abbrev pub last_of : List (RowKey × Row) → Option RowKey

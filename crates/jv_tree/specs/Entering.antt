@@ -8,17 +8,18 @@ use Rattle.jv_model.specs.declared.op.Reply.{Reply}
 use Rattle.jv_model.specs.declared.row.Counters.{Counters}
 use Rattle.jv_model.specs.declared.row.Node.{Node as NodeRow}
 use Rattle.jv_model.specs.declared.setting.Setting.{Setting}
-use Rattle.jv_model.specs.FiniteMap.{get}
-use Rattle.jv_model.specs.tree.Attempt.{◌>>=◌, require}
-use Rattle.jv_model.specs.tree.Tree.{Tree, Kind, File, Directory, Symlink, EntryKey, new_node, is_directory, space_limit, inode_limit, links_fit}
-use Rattle.jv_model.specs.tree.Changes.{empty_content}
-use Rattle.jv_model.specs.tree.Caller.{Outcome, answered}
-use Rattle.jv_model.specs.tree.Making.{may_be_new, new_place, entered}
+use Rattle.jv_model.specs.promise.FiniteMap.{get}
+use Rattle.jv_model.specs.promise.tree.Attempt.{◌>>=◌, require}
+use Rattle.jv_model.specs.promise.tree.Tree.{Tree, Kind, File, Directory, Symlink, EntryKey, new_node, is_directory, space_limit, inode_limit, links_fit}
+use Rattle.jv_model.specs.promise.tree.Changes.{empty_content}
+use Rattle.jv_model.specs.promise.tree.Caller.{Outcome, answered}
+use Rattle.jv_model.specs.promise.tree.Making.{may_be_new, new_place, entered}
 use Rattle.jv_rows.specs.Walks.{pair_in}
 use Rattle.jv_rows.specs.declared.walking.EntryPlace.{EntryPlace}
-use Rattle.jv_volume.specs.TypedRows.{is_entry_name}
-use Rattle.jv_volume.specs.Stored.{node_row, links_by, directory_touched}
-pub use Rattle.jv_model.specs.Lists.{has_no_zero}
+use Rattle.jv_volume.specs.promise.TypedRows.{is_entry_name}
+use Rattle.jv_volume.specs.promise.Stored.{node_row}
+use Rattle.jv_volume.specs.Stored.{links_by, directory_touched}
+pub use Rattle.jv_model.specs.promise.Lists.{has_no_zero}
 
 -- the place of a new entry, as a pair
 abbrev pub new_pair : Tree → List ℕ → Result (ℕ × List ℕ) Fault

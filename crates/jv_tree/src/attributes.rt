@@ -2,9 +2,9 @@
 ghost use Rattle.std.specs.Prelude.{◌≤◌, IsTrue};
 ghost use Rattle.jv_model.specs.declared.limits.TheConstants.{MAX_MODE};
 ghost use Rattle.jv_model.specs.declared.op.Reply.TheVariants as reply;
-ghost use Rattle.jv_model.specs.tree.Caller.{Caller};
-ghost use Rattle.jv_model.specs.tree.Reading as model;
-ghost use Rattle.jv_model.specs.rows.RowGrammar.{is_node};
+ghost use Rattle.jv_model.specs.promise.tree.Caller.{Caller};
+ghost use Rattle.jv_model.specs.promise.tree.Reading as model;
+ghost use Rattle.jv_model.specs.promise.rows.RowGrammar.{is_node};
 ghost use Rattle.jv_rows.specs.Walks.{Comes};
 ghost use Rattle.jv_tree.specs.Attributes.{PutsNode, changeable_inode};
 ghost use Rattle.jv_rows.specs.Transactions.{IsFor, Transacts, Always};

@@ -2,14 +2,15 @@
 ghost use Rattle.std.specs.Prelude.{◌≡◌, ◌≤◌, ◌<◌, ℕ, [], length, IsTrue};
 ghost use Rattle.jv_model.specs.declared.limits.TheConstants.{MAX_MODE};
 ghost use Rattle.jv_model.specs.declared.op.Reply.TheVariants.{Found, FileOpened};
-ghost use Rattle.jv_model.specs.tree.Caller.{Caller};
+ghost use Rattle.jv_model.specs.promise.tree.Caller.{Caller};
 ghost use Rattle.jv_model.specs.declared.op.Reply.{Reply};
-ghost use Rattle.jv_model.specs.rows.RowGrammar.{is_setting, is_node};
-ghost use Rattle.jv_model.specs.tree.Making as model;
-ghost use Rattle.jv_model.specs.tree.Tree.{Kind};
+ghost use Rattle.jv_model.specs.promise.rows.RowGrammar.{is_setting, is_node};
+ghost use Rattle.jv_model.specs.promise.tree.Making as model;
+ghost use Rattle.jv_model.specs.promise.tree.Tree.{Kind};
 ghost use Rattle.jv_rows.specs.Transactions.{IsFor, Transacts, Always};
 ghost use Rattle.jv_rows.specs.Walks.{ComesToEntry, HasNodeRow};
-ghost use Rattle.jv_tree.specs.Entering.{has_no_zero, new_pair, place_of, IsFreePlace, IsNewKind, new_row, enter, Grows, GetsEntry};
+ghost use Rattle.jv_model.specs.promise.Lists.{has_no_zero};
+ghost use Rattle.jv_tree.specs.Entering.{new_pair, place_of, IsFreePlace, IsNewKind, new_row, enter, Grows, GetsEntry};
 
 use jv_model::{
     Bytes, Counters, DIRECTORY_LENGTH, Edge, FULL_COUNT, FULL_MODE, Fault, MAX_PATH, Moment, Node,

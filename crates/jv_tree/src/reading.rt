@@ -1,8 +1,8 @@
 //! Look-ups and attributes, by POSIX.1-2017's "fstatat", "readdir", "readlink" and "fstatvfs".
 ghost use Rattle.std.specs.Prelude.{◌≡◌, ◌++◌, false, Ok, IfOk, IsTrue};
 ghost use Rattle.jv_model.specs.declared.op.Reply.TheVariants.{Found, Described, Entries, Usage, Target, FileOpened};
-ghost use Rattle.jv_model.specs.tree.Caller.{Caller};
-ghost use Rattle.jv_model.specs.tree.Reading as model;
+ghost use Rattle.jv_model.specs.promise.tree.Caller.{Caller};
+ghost use Rattle.jv_model.specs.promise.tree.Reading as model;
 ghost use Rattle.jv_tree.specs.Attributes.{kind_in, attr_in};
 ghost use Rattle.jv_tree.specs.Directories.{last_of, entries_within, all_within};
 ghost use Rattle.jv_rows.specs.Transactions.{IsFor, Looks, Transacts, Always};

@@ -1,8 +1,8 @@
 -- What a client that has files open relies on while a tree changes.
 use Rattle.std.specs.Prelude.{◌≡◌, ℕ, ◌≤◌, ◌<◌, Some, IsTrue}
-use Rattle.jv_model.specs.tree.Tree.{Tree, Content, content_at}
-use Rattle.jv_model.specs.tree.Changes.{empty_content}
-use Rattle.jv_volume.specs.Shape.{Regular, is_there, shape_of}
+use Rattle.jv_model.specs.promise.tree.Tree.{Tree, Content, content_at}
+use Rattle.jv_model.specs.promise.tree.Changes.{empty_content}
+use Rattle.jv_volume.specs.promise.Shape.{Regular, is_there, shape_of}
 
 -- An inode that was given to a file: the file is there or gone, and no other node comes in its
 -- place.

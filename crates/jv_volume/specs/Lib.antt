@@ -1,10 +1,6 @@
 -- What a volume's rows stand for, and when a volume is whole.
-pub mod TypedRows
+pub mod promise
 pub mod Views
-pub mod TreeOf
-pub mod Shape
 pub mod Stored
-pub mod Slices
 pub mod Whole
 pub mod Holding
-pub mod Fresh

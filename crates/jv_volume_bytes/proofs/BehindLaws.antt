@@ -3,8 +3,8 @@ use Rattle.std.proofs.Common.{◌≡◌, ℕ, ◌+◌, ◌<◌, List, [], ◌++�
 use Rattle.std.specs.Prelude.{◌==◌}
 use Rattle.std.proofs.lemmas.List.Sums.{sum_by-append}
 use Rattle.jv_model.specs.declared.slice.Rec.{Rec}
-use Rattle.jv_volume.specs.TypedRows.{Rows}
-use Rattle.jv_volume.specs.Slices.{named_by, records_naming, slice_count, WholeSlices}
+use Rattle.jv_volume.specs.promise.TypedRows.{Rows}
+use Rattle.jv_volume.specs.promise.Slices.{named_by, records_naming, slice_count, WholeSlices}
 use Rattle.jv_volume_bytes.specs.Counts.{Behind}
 
 pub naming-append : (id : ℕ) (l rs : List Rec) → records_naming id (l ++ rs) ≡ records_naming id l + records_naming id rs

@@ -13,21 +13,22 @@ use Rattle.jv_model.specs.declared.slice.Rec.{Rec}
 use Rattle.jv_model.specs.declared.slice.Spot.{Spot}
 use Rattle.jv_model.specs.declared.slice.Spot.TheVariants.{Zero, Slice}
 use Rattle.jv_model.specs.declared.slice.BlockId.{BlockId}
-use Rattle.jv_model.specs.FiniteMap.{get, remove, sum_over}
-use Rattle.jv_model.specs.rows.RowPlaces.{list_key}
-use Rattle.jv_model.specs.blocks.Slices.{IsRecord, covers, visible, place_by, stored_place, block_at}
+use Rattle.jv_model.specs.promise.FiniteMap.{get, remove, sum_over}
+use Rattle.jv_model.specs.promise.rows.RowPlaces.{list_key}
+use Rattle.jv_model.specs.promise.blocks.Slices.{IsRecord, covers, visible, place_by, stored_place, block_at}
 use Rattle.jv_model.proofs.FiniteMapLaws.{share, sum-remove}
 use Rattle.jv_slices.proofs.BlockLaws.{index_below}
 use Rattle.jv_slices.proofs.PlanLaws.{found_All, All-reverse, visible_covers, visible_is_record}
-use Rattle.jv_volume.specs.TypedRows.{Cell, Rows}
-use Rattle.jv_volume.specs.Views.{row_in, records_in, lists_of, slice_row_at}
-use Rattle.jv_volume.specs.TreeOf.{tree_of}
-use Rattle.jv_volume.specs.Slices.{listed, records_naming, named_by, count_in, slice_count, next_slice, place_in, WholeSlices}
-use Rattle.jv_volume_bytes.specs.Bytes.{spot_byte, bytes_of, tree_with}
-use Rattle.jv_volume_bytes.specs.Blocks.{Blocks, Grows, IsThere, EachOfSlice, EachBlock, Carries, HasBlocks, AreBelow, known_by}
+use Rattle.jv_volume.specs.promise.TypedRows.{Cell, Rows}
+use Rattle.jv_volume.specs.promise.Views.{row_in, records_in, lists_of, slice_row_at}
+use Rattle.jv_volume.specs.promise.TreeOf.{tree_of}
+use Rattle.jv_volume.specs.promise.Slices.{listed, records_naming, named_by, count_in, slice_count, next_slice, place_in, WholeSlices}
+use Rattle.jv_volume_bytes.specs.promise.Bytes.{spot_byte, bytes_of, tree_with}
+use Rattle.jv_volume_bytes.specs.promise.Blocks.{Blocks, Grows, IsThere, EachOfSlice, EachBlock, HasBlocks, AreBelow, known_by}
+use Rattle.jv_volume_bytes.specs.Blocks.{Carries}
 use Rattle.jv_volume_bytes.specs.Counts.{HadSize, KeepsOthers}
 use Rattle.jv_volume_bytes.proofs.PlaceLaws.{record_inside}
-use Rattle.jv_volume.proofs.FilesLaws.{nothing_shows}
+use Rattle.jv_volume.proofs.stored.FilesLaws.{nothing_shows}
 
 -- ---- blocks that grow
 

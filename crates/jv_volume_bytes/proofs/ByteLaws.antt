@@ -5,11 +5,11 @@ use Rattle.std.proofs.lemmas.Bool.{and_parts, and_right, leb-true, ltb-true, cas
 use Rattle.jv_model.specs.declared.slice.Rec.{Rec}
 use Rattle.jv_model.specs.declared.slice.Spot.{Spot}
 use Rattle.jv_model.specs.declared.slice.Spot.TheVariants.{Zero, Slice}
-use Rattle.jv_model.specs.tree.Tree.{Content}
-use Rattle.jv_model.specs.tree.Changes.{byte_within, resized, patched, overwritten, copied_over, content_of}
-use Rattle.jv_model.specs.blocks.Slices.{shown}
+use Rattle.jv_model.specs.promise.tree.Tree.{Content}
+use Rattle.jv_model.specs.promise.tree.Changes.{byte_within, resized, patched, overwritten, copied_over, content_of}
+use Rattle.jv_model.specs.promise.blocks.Slices.{shown}
 use Rattle.jv_volume_bytes.specs.Places.{put_over, cut_at}
-use Rattle.jv_volume_bytes.specs.Bytes.{KnownBytes, spot_byte}
+use Rattle.jv_volume_bytes.specs.promise.Bytes.{KnownBytes, spot_byte}
 
 -- what a record of a slice shows
 pub shown-slice : (r : Rec) (k : ℕ) → r.id ≢ 0 → shown r k ≡ Slice r.id r.size (r.off + k)

@@ -5,8 +5,9 @@ use Rattle.jv_model.specs.declared.limits.TheConstants.{WINDOW}
 use Rattle.jv_model.specs.declared.slice.Rec.{Rec}
 use Rattle.jv_model.specs.declared.slice.Spot.{Spot}
 use Rattle.jv_model.specs.declared.slice.Piece.{Piece}
-use Rattle.jv_model.specs.blocks.Slices.{IsPart, IsPlan, IsAsStored, stored_place}
-use Rattle.jv_volume.specs.Slices.{place_in}
+use Rattle.jv_model.specs.blocks.Slices.{IsPart, IsPlan, IsAsStored}
+use Rattle.jv_model.specs.promise.blocks.Slices.{stored_place}
+use Rattle.jv_volume.specs.promise.Slices.{place_in}
 use Rattle.jv_volume_bytes.specs.Places.{Lists, with_list, put_over}
 use Rattle.jv_volume_bytes.specs.Fills.{Fills, records_of_plan}
 use Rattle.jv_volume_bytes.proofs.PlaceLaws.{place_in-window}

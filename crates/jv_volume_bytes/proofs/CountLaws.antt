@@ -15,24 +15,26 @@ use Rattle.jv_model.specs.declared.row.Row.TheVariants.{OfSlice, OfDead}
 use Rattle.jv_model.specs.declared.row.SliceRow.{SliceRow}
 use Rattle.jv_model.specs.declared.row.Dead.{Dead}
 use Rattle.jv_model.specs.declared.slice.Rec.{Rec}
-use Rattle.jv_model.specs.FiniteMap.{get, alter, retain_keys, sum_over, total_over}
-use Rattle.jv_model.specs.rows.RowKeys.{row_key, row_cmp}
-use Rattle.jv_model.specs.rows.RowPlaces.{counters_key, slice_key, dead_key}
-use Rattle.jv_model.specs.blocks.Slices.{IsRecord}
+use Rattle.jv_model.specs.promise.FiniteMap.{get, retain_keys, sum_over, total_over}
+use Rattle.jv_model.specs.FiniteMap.{alter}
+use Rattle.jv_model.specs.promise.rows.RowKeys.{row_key, row_cmp}
+use Rattle.jv_model.specs.promise.rows.RowPlaces.{counters_key, slice_key, dead_key}
+use Rattle.jv_model.specs.promise.blocks.Slices.{IsRecord}
 use Rattle.jv_model.proofs.FiniteMapLaws.{share, get-alter, get-retain_keys, same_maps, sum-insert, sum-remove}
-use Rattle.jv_model.specs.Lists.{is_nil}
-use Rattle.jv_volume.specs.TypedRows.{Cell, Rows}
-use Rattle.jv_volume.specs.Views.{row_in, records_in, counters_in, slice_in, slice_row_at, dead_in, dead_at}
-use Rattle.jv_volume.specs.TreeOf.{or_no_counters}
-use Rattle.jv_volume.specs.Slices.{listed, records_naming, named_by, count_in, slice_count, ListsHave, next_slice, WholeSlices}
-use Rattle.jv_volume.proofs.MapLaws.{get-alter-apart}
-use Rattle.jv_volume.proofs.ShapeMapLaws.{tied_same}
+use Rattle.jv_model.specs.promise.Lists.{is_nil}
+use Rattle.jv_volume.specs.promise.TypedRows.{Cell, Rows}
+use Rattle.jv_volume.specs.promise.Views.{row_in, records_in, counters_in, slice_in, slice_row_at, dead_in, dead_at}
+use Rattle.jv_volume.specs.promise.TreeOf.{or_no_counters}
+use Rattle.jv_volume.specs.promise.Slices.{listed, records_naming, named_by, count_in, slice_count, ListsHave, next_slice, WholeSlices}
+use Rattle.jv_volume.proofs.maps.MapLaws.{get-alter-apart}
+use Rattle.jv_volume.proofs.shapes.ShapeMapLaws.{tied_same}
 use Rattle.jv_rows.specs.Counts.{is_named, recounted, Recounted, Adjusted, IsFull}
-use Rattle.jv_volume_bytes.specs.Counts.{record_count, Behind, HadSize, HasDied}
+use Rattle.jv_volume_bytes.specs.promise.Counts.{record_count}
+use Rattle.jv_volume_bytes.specs.Counts.{Behind, HadSize, HasDied}
 use Rattle.jv_volume_bytes.proofs.BehindLaws.{behind-none, behind-more}
 use Rattle.jv_volume_bytes.proofs.BlockLaws.{named_has_row}
 use Rattle.jv_volume_bytes.proofs.WholeLaws.{SlicesGo}
-use Rattle.jv_volume.proofs.ListSumLaws.{is_list_key, sum-list, sum-lists, named-lists, listed-lists}
+use Rattle.jv_volume.proofs.sums.ListSumLaws.{is_list_key, sum-list, sum-lists, named-lists, listed-lists}
 
 -- ---- rows with the same lists
 

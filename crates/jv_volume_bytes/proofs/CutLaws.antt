@@ -7,8 +7,8 @@ use Rattle.std.proofs.lemmas.List.{length-append}
 use Rattle.std.proofs.lemmas.List.Sums.{sum_by_push}
 use Rattle.jv_model.specs.declared.limits.TheConstants.{WINDOW}
 use Rattle.jv_model.specs.declared.slice.Rec.{Rec}
-use Rattle.jv_model.specs.blocks.Slices.{IsRecord}
-use Rattle.jv_volume.specs.Slices.{records_naming}
+use Rattle.jv_model.specs.promise.blocks.Slices.{IsRecord}
+use Rattle.jv_volume.specs.promise.Slices.{records_naming}
 use Rattle.jv_volume_bytes.specs.Places.{zero_record, cut_list}
 use Rattle.jv_volume_bytes.proofs.PlaceLaws.{cut_list-below, cut_list-past}
 

@@ -11,8 +11,9 @@ use Rattle.jv_model.specs.declared.slice.Rec.{Rec}
 use Rattle.jv_model.specs.declared.slice.Spot.{Spot}
 use Rattle.jv_model.specs.declared.slice.Spot.TheVariants.{Zero, Slice}
 use Rattle.jv_model.specs.declared.slice.Piece.{Piece}
-use Rattle.jv_model.specs.blocks.Slices.{IsRecord, visible, place_by, stored_place, place_after, LiesIn, IsPart, IsPlan, IsAsStored, shown}
-use Rattle.jv_volume.specs.Slices.{place_in}
+use Rattle.jv_model.specs.promise.blocks.Slices.{IsRecord, visible, place_by, stored_place, shown}
+use Rattle.jv_model.specs.blocks.Slices.{place_after, LiesIn, IsPart, IsPlan, IsAsStored}
+use Rattle.jv_volume.specs.promise.Slices.{place_in}
 use Rattle.jv_volume_bytes.specs.Places.{Lists, with_list, put_over}
 use Rattle.jv_volume_bytes.specs.Fills.{Fills, record_at_spot, records_of_plan}
 use Rattle.jv_volume_bytes.proofs.PlaceLaws.{record_ends, record_some, stored_place-push, place_in-over}

@@ -6,13 +6,14 @@ use Rattle.std.proofs.lemmas.Bool.{cases_eq, cases_lt}
 use Rattle.std.proofs.lemmas.Nat.{div-add-mod', mod_below}
 use Rattle.jv_model.specs.declared.slice.Rec.{Rec}
 use Rattle.jv_model.specs.declared.slice.BlockId.{BlockId}
-use Rattle.jv_model.specs.blocks.Slices.{shown}
+use Rattle.jv_model.specs.promise.blocks.Slices.{shown}
 use Rattle.jv_slices.proofs.BlockLaws.{index_below}
-use Rattle.jv_volume.specs.TypedRows.{Rows}
-use Rattle.jv_volume.specs.Slices.{IsUnknown, next_slice}
-use Rattle.jv_volume_bytes.specs.Bytes.{spot_byte}
+use Rattle.jv_volume.specs.promise.TypedRows.{Rows}
+use Rattle.jv_volume.specs.promise.Slices.{IsUnknown, next_slice}
+use Rattle.jv_volume_bytes.specs.promise.Bytes.{spot_byte}
 use Rattle.jv_volume_bytes.specs.Counts.{KeepsOthers}
-use Rattle.jv_volume_bytes.specs.Blocks.{Blocks, Grows, EachOfSlice, IsPut, AreBelow, known_by}
+use Rattle.jv_volume_bytes.specs.promise.Blocks.{Blocks, Grows, EachOfSlice, AreBelow, known_by}
+use Rattle.jv_volume_bytes.specs.Blocks.{IsPut}
 use Rattle.jv_volume_bytes.specs.Flights.{Flight, EachPut, InFlight, IsComplete, flight_block, flight_bytes}
 use Rattle.jv_volume_bytes.proofs.ByteLaws.{shown-slice}
 

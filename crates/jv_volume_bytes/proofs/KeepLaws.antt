@@ -5,17 +5,18 @@ use Rattle.jv_model.specs.declared.tables.TheConstants.{TABLE_OF_LISTS, TABLE_OF
 use Rattle.jv_model.specs.declared.row.RowKey.{RowKey}
 use Rattle.jv_model.specs.declared.row.SliceRow.{SliceRow}
 use Rattle.jv_model.specs.declared.slice.BlockId.{BlockId}
-use Rattle.jv_model.specs.FiniteMap.{get}
-use Rattle.jv_model.specs.rows.RowPlaces.{counters_key}
-use Rattle.jv_volume.specs.TypedRows.{Rows}
-use Rattle.jv_volume.specs.Views.{lists_of, slice_row_at}
-use Rattle.jv_volume.specs.Slices.{IsUnknown, next_slice}
+use Rattle.jv_model.specs.promise.FiniteMap.{get}
+use Rattle.jv_model.specs.promise.rows.RowPlaces.{counters_key}
+use Rattle.jv_volume.specs.promise.TypedRows.{Rows}
+use Rattle.jv_volume.specs.promise.Views.{lists_of, slice_row_at}
+use Rattle.jv_volume.specs.promise.Slices.{IsUnknown, next_slice}
 use Rattle.jv_volume.specs.Whole.{is_of_slices, Quiet, SlicesStay}
-use Rattle.jv_volume.proofs.QuietLaws.{sum-stay, named_by-stay, slice_row-stay, dead-stay, lists_of-stay}
-use Rattle.jv_volume_bytes.specs.Bytes.{KnownBytes, spot_byte, bytes_of}
-use Rattle.jv_volume_bytes.specs.Blocks.{Blocks, Grows, AreBelow}
+use Rattle.jv_volume.proofs.stored.QuietLaws.{sum-stay, named_by-stay, slice_row-stay, dead-stay, lists_of-stay}
+use Rattle.jv_volume_bytes.specs.promise.Bytes.{KnownBytes, spot_byte, bytes_of}
+use Rattle.jv_volume_bytes.specs.promise.Blocks.{Blocks, Grows, AreBelow}
 use Rattle.jv_volume_bytes.specs.Flights.{Flight, InFlight}
-use Rattle.jv_volume_bytes.specs.Counts.{HasDied, KeepsOthers, record_count}
+use Rattle.jv_volume_bytes.specs.Counts.{HasDied, KeepsOthers}
+use Rattle.jv_volume_bytes.specs.promise.Counts.{record_count}
 use Rattle.jv_volume_bytes.proofs.PlaceLaws.{place_in-same}
 use Rattle.jv_volume_bytes.proofs.FlightLaws.{flies-still}
 use Rattle.jv_volume_bytes.proofs.BlockLaws.{below-rows}

@@ -6,12 +6,12 @@ use Rattle.jv_model.specs.declared.limits.TheConstants.{WINDOW}
 use Rattle.jv_model.specs.declared.slice.Rec.{Rec}
 use Rattle.jv_model.specs.declared.slice.Spot.TheVariants.{Zero, Slice}
 use Rattle.jv_model.specs.declared.slice.Piece.{Piece}
-use Rattle.jv_model.specs.blocks.Slices.{stored_place, shown}
-use Rattle.jv_volume.specs.Slices.{place_in}
+use Rattle.jv_model.specs.promise.blocks.Slices.{stored_place, shown}
+use Rattle.jv_volume.specs.promise.Slices.{place_in}
 use Rattle.jv_volume_bytes.specs.Places.{Lists, with_list, put_over, zero_record, cut_list}
 use Rattle.jv_volume_bytes.specs.Fills.{records_of_plan}
-use Rattle.jv_volume_bytes.specs.Bytes.{spot_byte}
-use Rattle.jv_volume_bytes.specs.Blocks.{Blocks, known_by}
+use Rattle.jv_volume_bytes.specs.promise.Bytes.{spot_byte}
+use Rattle.jv_volume_bytes.specs.promise.Blocks.{Blocks, known_by}
 
 -- on an `unfolding` line: computes the places of what is written out
 unfoldable pub places_on_literals : ⊤

@@ -8,10 +8,10 @@ use Rattle.jv_model.specs.declared.limits.TheConstants.{WINDOW}
 use Rattle.jv_model.specs.declared.slice.Rec.{Rec}
 use Rattle.jv_model.specs.declared.slice.Spot.{Spot}
 use Rattle.jv_model.specs.declared.slice.Spot.TheVariants.{Zero}
-use Rattle.jv_model.specs.blocks.Slices.{IsRecord, is_part, covers, visible, place_by, stored_place, shown}
-use Rattle.jv_volume.specs.Slices.{place_in}
+use Rattle.jv_model.specs.promise.blocks.Slices.{IsRecord, is_part, covers, visible, place_by, stored_place, shown}
+use Rattle.jv_volume.specs.promise.Slices.{place_in}
 use Rattle.jv_volume_bytes.specs.Places.{Lists, with_list, put_over, cut_at, zero_record, cut_list}
-use Rattle.jv_volume.proofs.FilesLaws.{nothing_shows}
+use Rattle.jv_volume.proofs.stored.FilesLaws.{nothing_shows}
 
 -- a record has a position
 pub record_some : (r : Rec) → IsRecord r → 1 ≤ r.len

@@ -11,13 +11,14 @@ use Rattle.jv_model.specs.declared.row.SliceRow.{SliceRow}
 use Rattle.jv_model.specs.declared.row.Dead.{Dead}
 use Rattle.jv_model.specs.declared.slice.Rec.{Rec}
 use Rattle.jv_model.specs.declared.slice.Spot.TheVariants.{Zero}
-use Rattle.jv_model.specs.FiniteMap.{get}
-use Rattle.jv_model.specs.blocks.Slices.{IsRecord}
-use Rattle.jv_volume.specs.TypedRows.{Rows}
-use Rattle.jv_volume.specs.Views.{lists_of, node_row_at, slice_row_at, dropped_at, dead_at}
-use Rattle.jv_volume.specs.TreeOf.{counters_of}
-use Rattle.jv_volume.specs.Slices.{listed, named_by, count_in, slice_count, ListsHave, IsUnknown, next_slice, WholeSlices, place_in, HasLists, OfFile, OfDropped, WholeFiles}
-use Rattle.jv_volume_bytes.specs.Counts.{HadSize, HasDied, KeepsOthers, record_count}
+use Rattle.jv_model.specs.promise.FiniteMap.{get}
+use Rattle.jv_model.specs.promise.blocks.Slices.{IsRecord}
+use Rattle.jv_volume.specs.promise.TypedRows.{Rows}
+use Rattle.jv_volume.specs.promise.Views.{lists_of, node_row_at, slice_row_at, dropped_at, dead_at}
+use Rattle.jv_volume.specs.promise.TreeOf.{counters_of_rows}
+use Rattle.jv_volume.specs.promise.Slices.{listed, named_by, count_in, slice_count, ListsHave, IsUnknown, next_slice, WholeSlices, place_in, HasLists, OfFile, OfDropped, WholeFiles}
+use Rattle.jv_volume_bytes.specs.Counts.{HadSize, HasDied, KeepsOthers}
+use Rattle.jv_volume_bytes.specs.promise.Counts.{record_count}
 
 -- what all records of a list have, if they had another thing
 pub all-mapped : (P Q : Rec → Type 0) → ((r : Rec) → P r → Q r) → (l : List Rec) → AllByRecursion P l → AllByRecursion Q l
@@ -118,7 +119,7 @@ pub record FileGoes (inode : ℕ) (rows after : Rows) : Type 0 where
   pub places : (i : ℕ) → i ≢ inode → (p : ℕ) → place_in (lists_of after i) p ≡ place_in (lists_of rows i) p
   pub lists : (key : RowKey) → key.tab ≡ TABLE_OF_LISTS → get after key ≢ None → (get rows key ≢ None) ⊎ (key.a ≡ inode)
   pub dropped : (i : ℕ) → dropped_at after i ≡ dropped_at rows i
-  pub next : (counters_of after).inode ≡ (counters_of rows).inode
+  pub next : (counters_of_rows after).inode ≡ (counters_of_rows rows).inode
 
 pub files-go : (inode : ℕ) (rows after : Rows) → FileGoes inode rows after → WholeFiles rows → WholeFiles after
 files-go inode rows after go w = record {

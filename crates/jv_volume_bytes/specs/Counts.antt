@@ -1,17 +1,12 @@
--- How many records there are, and what a transaction on lists leaves of the slices that it doesn't
--- make.
-use Rattle.std.specs.Prelude.{◌≡◌, ◌≢◌, ℕ, ◌+◌, ◌≤◌, ◌<◌, List, length, Some, None}
+-- What only inner contracts cite: of `promise/Counts`.
+use Rattle.std.specs.Prelude.{◌≡◌, ◌≢◌, ℕ, ◌+◌, ◌≤◌, ◌<◌, List, Some, None}
 use Rattle.jv_model.specs.declared.row.SliceRow.{SliceRow}
 use Rattle.jv_model.specs.declared.row.Dead.{Dead}
 use Rattle.jv_model.specs.declared.slice.Rec.{Rec}
-use Rattle.jv_model.specs.FiniteMap.{sum_over}
-use Rattle.jv_volume.specs.TypedRows.{Rows}
-use Rattle.jv_volume.specs.Views.{slice_row_at, dead_at}
-use Rattle.jv_volume.specs.Slices.{IsUnknown, listed, named_by, next_slice, records_naming, slice_count}
-
--- how many records all lists have together
-unfoldable pub record_count : Rows → ℕ
-record_count rows = sum_over (λ key cell. length (listed key (Some cell))) rows
+use Rattle.jv_volume.specs.promise.TypedRows.{Rows}
+use Rattle.jv_volume.specs.promise.Views.{slice_row_at, dead_at}
+use Rattle.jv_volume.specs.promise.Slices.{IsUnknown, named_by, next_slice, records_naming, slice_count}
+use Rattle.jv_volume_bytes.specs.promise.Counts.{record_count}
 
 -- Lists have changed and counts not yet: to each slice's count the records that came are still to
 -- be added, and those that went to be taken off.

@@ -4,7 +4,7 @@ use Rattle.jv_model.specs.declared.slice.Rec.{Rec}
 use Rattle.jv_model.specs.declared.slice.Spot.{Spot}
 use Rattle.jv_model.specs.declared.slice.Spot.TheVariants.{Zero, Slice}
 use Rattle.jv_model.specs.declared.slice.Piece.{Piece}
-use Rattle.jv_model.specs.blocks.Slices.{IsRecord, shown}
+use Rattle.jv_model.specs.promise.blocks.Slices.{IsRecord, shown}
 
 -- Records that follow one another from a position of a window to another, and show these places
 -- there.

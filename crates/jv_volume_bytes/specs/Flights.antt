@@ -2,10 +2,10 @@
 -- it commits them.
 use Rattle.std.specs.Prelude.{◌≡◌, ℕ, ◌*◌, ◌<◌, List, length, take, drop, Some}
 use Rattle.jv_model.specs.declared.slice.BlockId.{BlockId}
-use Rattle.jv_model.specs.blocks.Slices.{block_at, block_count}
-use Rattle.jv_volume.specs.TypedRows.{Rows}
-use Rattle.jv_volume.specs.Slices.{IsUnknown, next_slice}
-use Rattle.jv_volume_bytes.specs.Blocks.{Blocks}
+use Rattle.jv_model.specs.promise.blocks.Slices.{block_at, block_count}
+use Rattle.jv_volume.specs.promise.TypedRows.{Rows}
+use Rattle.jv_volume.specs.promise.Slices.{IsUnknown, next_slice}
+use Rattle.jv_volume_bytes.specs.promise.Blocks.{Blocks}
 
 -- a slice's number, its bytes, and how many of its blocks were put
 pub record Flight : Type 0 where

@@ -6,7 +6,7 @@ use Rattle.jv_model.specs.declared.limits.TheConstants.{WINDOW}
 use Rattle.jv_model.specs.declared.slice.Rec.{Rec}
 use Rattle.jv_model.specs.declared.slice.Spot.{Spot}
 use Rattle.jv_model.specs.declared.slice.Spot.TheVariants.{Zero}
-use Rattle.jv_model.specs.Ranges.{in_range}
+use Rattle.jv_model.specs.promise.Ranges.{in_range}
 
 -- the lists of a file, by window
 abbrev pub Lists : Type 0

@@ -3,30 +3,30 @@ use Rattle.std.proofs.Common.{◌≡◌, ◌↔◌, ℕ, ◌≤◌, List, length
 use Rattle.jv_model.specs.declared.limits.TheConstants.{LAST_CLIENT}
 use Rattle.jv_model.specs.declared.setting.Setting.{Setting}
 use Rattle.jv_model.specs.declared.slice.BlockId.{BlockId}
-use Rattle.jv_model.specs.blocks.BlockNames.{IsBlock, name_in}
+use Rattle.jv_model.specs.promise.blocks.BlockNames.{IsBlock, name_in}
 use Rattle.jv_outside.specs.declared.parcel.Parcel.{Parcel}
-use Rattle.jv_outside.specs.Holding.{Holding}
-use Rattle.jv_outside.specs.Objects.{ObjectMap, bytes_at}
-use Rattle.jv_outside.specs.Blocks.{StagedMap, staged_at}
+use Rattle.jv_outside.specs.promise.Holding.{Holding}
+use Rattle.jv_outside.specs.promise.Objects.{ObjectMap, bytes_at}
+use Rattle.jv_outside.specs.promise.Blocks.{StagedMap, staged_at}
 use Rattle.jv_outside.specs.Parcels.{StandsFor}
 use Rattle.jv_yard.specs.BlockCalls.{IsBlockOf, IsBlockBy, IsBlockParcel, IsPut}
-use Rattle.jv_yard.specs.Staging.{staged_since}
-use Rattle.jv_yard.specs.Starting.{IsStarted}
-use Rattle.jv_yard.specs.YardValue.{YardValue, IsKept, NamesBlock}
+use Rattle.jv_yard.specs.promise.Staging.{staged_since}
+use Rattle.jv_yard.specs.promise.Starting.{IsStarted}
+use Rattle.jv_yard.specs.promise.YardValue.{YardValue, KeepsStaged, NamesBlock}
 use Rattle.jv_model.proofs.TestLaws.{of_known}
 
 -- a yard that was started
-pub IsKept-started : (setting : Setting) (depot : Holding ObjectMap) (shelf : Holding StagedMap) (yard : YardValue) → IsStarted setting depot shelf yard → IsKept yard
-IsKept-started setting depot shelf yard h = record {
+pub KeepsStaged-started : (setting : Setting) (depot : Holding ObjectMap) (shelf : Holding StagedMap) (yard : YardValue) → IsStarted setting depot shelf yard → KeepsStaged yard
+KeepsStaged-started setting depot shelf yard h = record {
   names = λ client name low staged. subst (λ (s : Setting). NamesBlock s name) (sym h.setting_is) ((h.staged_are client low).names name staged);
   there = λ blocks known client name low staged.
       of_known _ shelf.content blocks (sym (ap (λ (s : Holding StagedMap). s.content) h.shelf_same) ∙ known) (h.staged_are client low).only name staged;
 }
 
 -- a yard with the same setting, shelf and staged blocks
-pub IsKept-same : (before after : YardValue) → after.setting ≡ before.setting → after.shelf.content ≡ before.shelf.content → after.staged ≡ before.staged
-    → IsKept before → IsKept after
-IsKept-same before after setting shelf staged h = record {
+pub KeepsStaged-same : (before after : YardValue) → after.setting ≡ before.setting → after.shelf.content ≡ before.shelf.content → after.staged ≡ before.staged
+    → KeepsStaged before → KeepsStaged after
+KeepsStaged-same before after setting shelf staged h = record {
   names = λ client name low is.
       subst (λ (s : Setting). NamesBlock s name) (sym setting)
       (h.names client name low (ap (λ all. is_some (staged_since client name all)) (sym staged) ∙ is));
@@ -35,9 +35,9 @@ IsKept-same before after setting shelf staged h = record {
 }
 
 -- a block that was put
-pub IsKept-put : (client : ℕ) (parcel : Parcel) (before after : YardValue) → IsPut client parcel before after → IsKept before → IsKept after
-IsKept-put client parcel before after put h =
-    IsKept-same before after (ap (λ (y : YardValue). y.setting) put.others) (ap (λ (y : YardValue). y.shelf.content) put.others)
+pub KeepsStaged-put : (client : ℕ) (parcel : Parcel) (before after : YardValue) → IsPut client parcel before after → KeepsStaged before → KeepsStaged after
+KeepsStaged-put client parcel before after put h =
+    KeepsStaged-same before after (ap (λ (y : YardValue). y.setting) put.others) (ap (λ (y : YardValue). y.shelf.content) put.others)
     (ap (λ (y : YardValue). y.staged) put.others) h
 
 module _ (yard : YardValue) (objects : ObjectMap) (blocks : StagedMap) (client : ℕ) (name : List ℕ) (value : Option (List ℕ))
@@ -53,7 +53,7 @@ module _ (yard : YardValue) (objects : ObjectMap) (blocks : StagedMap) (client :
       ((λ none. let gone : is_some (staged_at client name blocks) ≡ false = ap is_some (sym found ∙ none) in absurd (cc)), (λ both. absurd (let h = both.0 in cc)))
 
   -- nothing is read if and only if the block is in neither place
-  pub none_in_neither : IsKept yard → client ≤ LAST_CLIENT → IsBlockOf yard client name value → (value ≡ None) ↔ ((staged_since client name yard.staged ≡ None) × (bytes_at name objects ≡ None))
+  pub none_in_neither : KeepsStaged yard → client ≤ LAST_CLIENT → IsBlockOf yard client name value → (value ≡ None) ↔ ((staged_since client name yard.staged ≡ None) × (bytes_at name objects ≡ None))
   none_in_neither kept low read = none_by _ refl (λ is. kept.there blocks shelf client name low is) read
 
 -- a parcel that stands for a block and its bytes may be put

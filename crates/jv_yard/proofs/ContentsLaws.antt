@@ -7,22 +7,24 @@ use Rattle.std.specs.Option.{option_map}
 use Rattle.jv_model.specs.declared.limits.TheConstants.{MAX_BLOCKS}
 use Rattle.jv_model.specs.declared.setting.Setting.{Setting}
 use Rattle.jv_model.specs.declared.slice.BlockId.{BlockId}
-use Rattle.jv_model.specs.blocks.BlockNames.{IsBlock, name_in}
+use Rattle.jv_model.specs.promise.blocks.BlockNames.{IsBlock, name_in}
 use Rattle.jv_model.specs.blocks.Slices.{is_same_block}
-use Rattle.jv_model.specs.FiniteMap.{text_key, get}
+use Rattle.jv_model.specs.promise.FiniteMap.{text_key, get}
 use Rattle.jv_model.proofs.FiniteMapLaws.{get-insert}
 use Rattle.jv_model.proofs.TestLaws.{tie_is, of_known}
 use Rattle.jv_outside.specs.declared.parcel.Parcel.{Parcel}
-use Rattle.jv_outside.specs.Objects.{ObjectMap, bytes_at, with_object}
+use Rattle.jv_outside.specs.promise.Objects.{ObjectMap, bytes_at}
+use Rattle.jv_outside.specs.Objects.{with_object}
 use Rattle.jv_outside.specs.Parcels.{StandsFor}
-use Rattle.jv_volume_bytes.specs.Blocks.{Grows}
+use Rattle.jv_volume_bytes.specs.promise.Blocks.{Grows}
 use Rattle.jv_slices.specs.Laws.{HasWidths}
 use Rattle.jv_slices.proofs.NameLaws.{names_are_distinct}
 use Rattle.jv_slices.proofs.NeedLaws.{equal_if_same, same_self}
 use Rattle.jv_yard.specs.BlockCalls.{IsBlockOf, IsBlockBy, IsPut}
-use Rattle.jv_yard.specs.Contents.{is_block, blocks_in}
-use Rattle.jv_yard.specs.Staging.{staged_since}
-use Rattle.jv_yard.specs.YardValue.{YardValue}
+use Rattle.jv_model.specs.promise.blocks.BlockNames.{is_block}
+use Rattle.jv_yard.specs.promise.Contents.{blocks_in}
+use Rattle.jv_yard.specs.promise.Staging.{staged_since}
+use Rattle.jv_yard.specs.promise.YardValue.{YardValue}
 
 -- the test passes exactly for blocks
 pub is_block-passes : (size : ℕ) (b : BlockId) → IsBlock size b → is_block size b ≡ true

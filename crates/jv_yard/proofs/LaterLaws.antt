@@ -4,13 +4,13 @@ use Rattle.std.specs.Option.{option_map}
 use Rattle.std.proofs.lemmas.List.Elements.{All-nil, All-append, Contains-append_left, Contains-append_right}
 use Rattle.jv_model.specs.declared.limits.TheConstants.{LAST_CLIENT}
 use Rattle.jv_model.specs.declared.setting.Setting.{Setting}
-use Rattle.jv_model.specs.FiniteMap.{get}
+use Rattle.jv_model.specs.promise.FiniteMap.{get}
 use Rattle.jv_model.proofs.TestLaws.{some_of}
-use Rattle.jv_outside.specs.Objects.{ObjectMap, bytes_at}
-use Rattle.jv_outside.specs.Blocks.{StagedMap, staged_at}
+use Rattle.jv_outside.specs.promise.Objects.{ObjectMap, bytes_at}
+use Rattle.jv_outside.specs.promise.Blocks.{StagedMap, staged_at}
 use Rattle.jv_yard.specs.declared.note.Note.{Note}
-use Rattle.jv_yard.specs.Staging.{staged_since}
-use Rattle.jv_yard.specs.YardValue.{YardValue, IsKept, NamesBlock}
+use Rattle.jv_yard.specs.promise.Staging.{staged_since}
+use Rattle.jv_yard.specs.promise.YardValue.{YardValue, KeepsStaged, NamesBlock}
 use Rattle.jv_yard.specs.Later.{HasPublish, Contents, contents_of, WasStaged, IsCopy, AreAlike, IsPublishedFrom, ContentsLater, Later}
 use Rattle.std.proofs.lemmas.Option.{same_Some}
 
@@ -206,7 +206,7 @@ module _ (before after : YardValue) (objects : ObjectMap) (blocks : StagedMap) (
   staged_before : (client : ℕ) (name : List ℕ) → IsSome (staged_since client name after.staged) → IsSome (staged_since client name before.staged)
   staged_before client name is = let since = some_of _ is in ap is_some (later.staged client name since.0 since.1)
 
-  there_later : ContentsLater (contents_of objects blocks before) after → IsKept before → (now : StagedMap) → after.shelf.content ≡ Some now
+  there_later : ContentsLater (contents_of objects blocks before) after → KeepsStaged before → (now : StagedMap) → after.shelf.content ≡ Some now
       → (client : ℕ) (name : List ℕ) → client ≤ LAST_CLIENT → IsSome (staged_since client name after.staged) → IsSome (staged_at client name now)
   there_later contents kept now known client name low is =
       let same = same_Some contents.blocks now (sym contents.blocks_are ∙ known) in
@@ -214,8 +214,8 @@ module _ (before after : YardValue) (objects : ObjectMap) (blocks : StagedMap) (
       ∙ ap is_some (contents.published.staged client name is)
       ∙ kept.there blocks known_blocks client name low (staged_before client name is)
 
-  pub IsKept-later : IsKept before → IsKept after
-  IsKept-later kept = record {
+  pub KeepsStaged-later : KeepsStaged before → KeepsStaged after
+  KeepsStaged-later kept = record {
     names = λ client name low is.
         subst (λ (s : Setting). NamesBlock s name) (sym later.setting) (kept.names client name low (staged_before client name is));
     there = there_later (later.contents objects blocks known_objects known_blocks alike) kept;

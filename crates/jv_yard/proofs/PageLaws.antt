@@ -10,17 +10,19 @@ use Rattle.std.specs.Cmp.{eq_by_cmp_equiv, nat_cmp_is}
 use Rattle.std.specs.FinMap.Entries.{find, below_all, is_sorted}
 use Rattle.std.specs.Cmp.Lexicographic.{slice_cmp}
 use Rattle.jv_model.specs.declared.setting.Setting.{Setting}
-use Rattle.jv_model.specs.FiniteMap.{text_key, empty_map, get, insert}
+use Rattle.jv_model.specs.promise.FiniteMap.{text_key, empty_map, get, insert}
 use Rattle.jv_model.proofs.FiniteMapLaws.{get-empty_map, get-insert}
 use Rattle.jv_model.proofs.TestLaws.{tie_is, less_is, first_of_both, second_of_both, some_of, if_some-by, of_known}
-use Rattle.jv_outside.specs.Holding.{Holding}
-use Rattle.jv_outside.specs.Blocks.{StagedMap, staged_cmp, staged_key, staged_at, names_after}
+use Rattle.jv_outside.specs.promise.Holding.{Holding}
+use Rattle.jv_outside.specs.promise.Blocks.{StagedMap, staged_cmp, staged_key, staged_at}
+use Rattle.jv_outside.specs.Blocks.{names_after}
 use Rattle.jv_outside.specs.Objects.{is_later}
 use Rattle.jv_yard.specs.declared.finding.TheConstants.{PAGE}
 use Rattle.jv_yard.specs.Pages.{AddsNames, next_after}
-use Rattle.jv_yard.specs.Starting.{IsFound}
-use Rattle.jv_yard.specs.Staging.{ClientStaging, by_client}
-use Rattle.jv_yard.specs.YardValue.{NamesBlock}
+use Rattle.jv_yard.specs.promise.Starting.{IsFound}
+use Rattle.jv_yard.specs.promise.Staging.{ClientStaging}
+use Rattle.jv_yard.specs.Staging.{by_client}
+use Rattle.jv_yard.specs.promise.YardValue.{NamesBlock}
 use Rattle.jv_model.proofs.ListLaws.{get_front, get_end}
 
 -- ---- what a page adds

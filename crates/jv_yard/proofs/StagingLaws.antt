@@ -5,13 +5,14 @@ use Rattle.std.specs.Map.{keys_of, lookup}
 use Rattle.std.specs.BTreeMap.{is_at}
 use Rattle.jv_model.specs.declared.setting.Setting.{Setting}
 use Rattle.jv_model.specs.declared.slice.BlockId.{BlockId}
-use Rattle.jv_model.specs.blocks.BlockNames.{IsBlockName}
-use Rattle.jv_model.specs.FiniteMap.{text_key, empty_map, get, key_count, map_of}
+use Rattle.jv_model.specs.promise.blocks.BlockNames.{IsBlockName}
+use Rattle.jv_model.specs.promise.FiniteMap.{text_key, empty_map, get, key_count, map_of}
 use Rattle.jv_model.proofs.FiniteMapLaws.{get-empty_map}
 use Rattle.jv_outside.proofs.StoredLaws.{get-lookup}
 use Rattle.jv_outside.proofs.ScanLaws.{list-map_of}
-use Rattle.jv_yard.specs.Staging.{ClientStaging, by_client, staged_since}
-use Rattle.jv_yard.specs.YardValue.{NamesBlock}
+use Rattle.jv_yard.specs.promise.Staging.{ClientStaging, staged_since}
+use Rattle.jv_yard.specs.Staging.{by_client}
+use Rattle.jv_yard.specs.promise.YardValue.{NamesBlock}
 
 -- a tree has as many entries as the map
 pub count-entries : (es : List (List ℕ × ℕ)) → IsStrictlySortedBy text_key.cmp (keys_of es) → length es ≡ key_count (map_of {order = text_key} es)

@@ -2,10 +2,11 @@
 use Rattle.std.specs.Prelude.{◌≡◌, ◌≢◌, ℕ, List, [], ◌∷◌, ◌++◌, length, Option, None, Some, IfSome, Result, Ok, Err}
 use Rattle.jv_model.specs.declared.setting.Setting.{Setting}
 use Rattle.jv_model.specs.declared.slice.BlockId.{BlockId}
-use Rattle.jv_model.specs.blocks.BlockNames.{IsBlockName}
+use Rattle.jv_model.specs.promise.blocks.BlockNames.{IsBlockName}
 use Rattle.jv_outside.specs.declared.parcel.Parcel.{Parcel}
-use Rattle.jv_outside.specs.Objects.{IsPublished, bytes_at}
-use Rattle.jv_outside.specs.Blocks.{staged_at}
+use Rattle.jv_outside.specs.Objects.{IsPublished}
+use Rattle.jv_outside.specs.promise.Objects.{bytes_at}
+use Rattle.jv_outside.specs.promise.Blocks.{staged_at}
 use Rattle.jv_outside.specs.Parcels.{Carries}
 use Rattle.jv_yard.specs.declared.note.TheConstants.{MAIN}
 use Rattle.jv_yard.specs.declared.note.Note.{Note}
@@ -13,8 +14,8 @@ use Rattle.jv_yard.specs.declared.note.What.{What}
 use Rattle.jv_yard.specs.declared.note.What.TheVariants.{Put}
 use Rattle.jv_yard.specs.declared.faults.YardFault.{YardFault}
 use Rattle.jv_yard.specs.declared.faults.YardFault.TheVariants.{Shelf}
-use Rattle.jv_yard.specs.Staging.{staged_since}
-use Rattle.jv_yard.specs.YardValue.{YardValue}
+use Rattle.jv_yard.specs.promise.Staging.{staged_since}
+use Rattle.jv_yard.specs.promise.YardValue.{YardValue}
 use Rattle.jv_yard.specs.Refusals.{Refuses}
 
 -- a client's block as its shelf has it, where it is staged there since a moment, and else as the

@@ -1,6 +1,6 @@
 -- What a door of a yard does.
 use Rattle.std.specs.Prelude.{Option, IfSome}
-use Rattle.jv_yard.specs.YardValue.{YardValue}
+use Rattle.jv_yard.specs.promise.YardValue.{YardValue}
 use Rattle.jv_yard.specs.Later.{Later}
 
 -- the yard that is taken is later than the one given last

@@ -1,14 +1,14 @@
 -- What workers can have made of a yard while main didn't have it.
 use Rattle.std.specs.Prelude.{◌≡◌, ◌⊎◌, ℕ, ◌<◌, ◌≤◌, List, ◌++◌, None, Some, IsSome, All, Contains}
 use Rattle.jv_model.specs.declared.setting.Setting.{Setting}
-use Rattle.jv_model.specs.blocks.BlockNames.{IsBlockName}
-use Rattle.jv_model.specs.FiniteMap.{get}
-use Rattle.jv_outside.specs.Objects.{ObjectMap, bytes_at}
-use Rattle.jv_outside.specs.Blocks.{StagedMap, staged_at}
+use Rattle.jv_model.specs.promise.blocks.BlockNames.{IsBlockName}
+use Rattle.jv_model.specs.promise.FiniteMap.{get}
+use Rattle.jv_outside.specs.promise.Objects.{ObjectMap, bytes_at}
+use Rattle.jv_outside.specs.promise.Blocks.{StagedMap, staged_at}
 use Rattle.jv_yard.specs.declared.note.Note.{Note}
 use Rattle.jv_yard.specs.declared.note.What.TheVariants.{Publish}
-use Rattle.jv_yard.specs.Staging.{Staging, staged_since}
-use Rattle.jv_yard.specs.YardValue.{YardValue}
+use Rattle.jv_yard.specs.promise.Staging.{Staging, staged_since}
+use Rattle.jv_yard.specs.promise.YardValue.{YardValue}
 
 -- the notes have one that this block of a client was published
 pub record HasPublish (setting : Setting) (notes : List Note) (client : ℕ)

@@ -2,12 +2,13 @@
 use Rattle.std.specs.Prelude.{◌≡◌, ◌^◌, ℕ, ◌<◌, List, None, Some}
 use Rattle.jv_model.specs.declared.setting.Setting.{Setting}
 use Rattle.jv_model.specs.declared.slice.BlockId.{BlockId}
-use Rattle.jv_model.specs.blocks.BlockNames.{IsBlock, name_in}
-use Rattle.jv_outside.specs.Objects.{ObjectMap, with_object}
-use Rattle.jv_volume_bytes.specs.Blocks.{Grows}
-use Rattle.jv_yard.specs.Contents.{blocks_in}
+use Rattle.jv_model.specs.promise.blocks.BlockNames.{IsBlock, name_in}
+use Rattle.jv_outside.specs.promise.Objects.{ObjectMap}
+use Rattle.jv_outside.specs.Objects.{with_object}
+use Rattle.jv_volume_bytes.specs.promise.Blocks.{Grows}
+use Rattle.jv_yard.specs.promise.Contents.{blocks_in}
 use Rattle.jv_yard.specs.Later.{Later}
-use Rattle.jv_yard.specs.YardValue.{YardValue}
+use Rattle.jv_yard.specs.promise.YardValue.{YardValue}
 
 -- a yard is later than itself
 abbrev pub LaterIsReflexive : Type 0

@@ -1,14 +1,15 @@
 -- Listing a client's blocks on a shelf, page by page.
 use Rattle.std.specs.Prelude.{◌≡◌, ◌⊎◌, ℕ, ◌-◌, nat_lt, if◌then◌else◌, List, length, slice_get, Option, None, Some, IfSome, Contains, Result, Ok, Err}
 use Rattle.jv_model.specs.declared.setting.Setting.{Setting}
-use Rattle.jv_model.specs.FiniteMap.{get}
-use Rattle.jv_outside.specs.Holding.{Holding}
-use Rattle.jv_outside.specs.Blocks.{StagedMap, names_after}
+use Rattle.jv_model.specs.promise.FiniteMap.{get}
+use Rattle.jv_outside.specs.promise.Holding.{Holding}
+use Rattle.jv_outside.specs.promise.Blocks.{StagedMap}
+use Rattle.jv_outside.specs.Blocks.{names_after}
 use Rattle.jv_yard.specs.declared.faults.YardFault.{YardFault}
 use Rattle.jv_yard.specs.declared.finding.TheConstants.{PAGE}
-use Rattle.jv_yard.specs.Staging.{ClientStaging}
-use Rattle.jv_yard.specs.Starting.{ShelfRefuses}
-use Rattle.jv_yard.specs.YardValue.{NamesBlock}
+use Rattle.jv_yard.specs.promise.Staging.{ClientStaging}
+use Rattle.jv_yard.specs.promise.Starting.{ShelfRefuses}
+use Rattle.jv_yard.specs.promise.YardValue.{NamesBlock}
 
 -- listing a page, by the result
 abbrev pub ListsPage : Holding StagedMap → Holding StagedMap → ℕ → Option (List ℕ)

@@ -6,10 +6,10 @@ use Rattle.jv_model.specs.declared.fault.Down.TheVariants.{Failed, Memory}
 use Rattle.jv_model.specs.declared.fault.Fault.{Fault}
 use Rattle.jv_model.specs.declared.fault.Fault.TheVariants as fault
 use Rattle.jv_model.specs.declared.fault.Fault.TheVariants.{DeviceFailed}
-use Rattle.jv_outside.specs.Holding.{FailsToHold}
+use Rattle.jv_outside.specs.promise.Holding.{FailsToHold}
 use Rattle.jv_yard.specs.declared.faults.YardFault.{YardFault}
 use Rattle.jv_yard.specs.declared.faults.YardFault.TheVariants.{Depot, Shelf, Memory as NoMemory}
-use Rattle.jv_yard.specs.YardValue.{YardValue}
+use Rattle.jv_yard.specs.promise.YardValue.{YardValue}
 
 -- what an error of a device is to the yard, by what it is where the device failed
 abbrev pub fault_by : YardFault → Down → YardFault

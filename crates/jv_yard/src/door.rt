@@ -10,7 +10,7 @@ use std::mem::replace;
 /// Has the yard while main doesn't, and lends it. Workers may have it meanwhile.
 pub trait YardDoor<D: Depot, H: Shelf> {
     ghost use Rattle.std.specs.Prelude.{Option};
-    ghost use Rattle.jv_yard.specs.YardValue.{YardValue};
+    ghost use Rattle.jv_yard.specs.promise.YardValue.{YardValue};
 
     // What main gave back last, or before any step what the door was made of; None while main has it.
     ghost given: { Self → Option YardValue };

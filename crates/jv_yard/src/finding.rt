@@ -3,7 +3,7 @@ ghost use Rattle.std.specs.Prelude.{◌≡◌, ◌↔◌, IfOk, OnOk, IsTrue};
 ghost use Rattle.std.specs.Option.{option_copied};
 ghost use Rattle.jv_yard.specs.Pages.{AddsNames, ListsPage, next_after};
 ghost use Rattle.jv_yard.specs.Starting.{FindsStaged, FindsAll};
-ghost use Rattle.jv_yard.specs.YardValue.{NamesBlock};
+ghost use Rattle.jv_yard.specs.promise.YardValue.{NamesBlock};
 
 use crate::faults::{YardFault, fault_by};
 use crate::staging::ClientBlocks;

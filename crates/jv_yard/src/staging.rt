@@ -1,6 +1,6 @@
 //! The blocks that a client has staged.
 ghost use Rattle.std.specs.Prelude.{◌≡◌, OnOk, OnErr, is_some};
-ghost use Rattle.jv_model.specs.FiniteMap.{empty_map, get, insert, key_count};
+ghost use Rattle.jv_model.specs.promise.FiniteMap.{empty_map, get, insert, key_count};
 
 use jv_model::{Moment, Name};
 use std::alloc::{AllocError, Global};
@@ -14,8 +14,9 @@ pub(crate) struct ClientBlocks {
 }
 
 impl Model for ClientBlocks {
-    ghost use Rattle.jv_model.specs.FiniteMap.{map_of};
-    ghost use Rattle.jv_yard.specs.Staging.{ClientStaging, client_staging_code};
+    ghost use Rattle.jv_model.specs.promise.FiniteMap.{map_of};
+    ghost use Rattle.jv_yard.specs.promise.Staging.{ClientStaging};
+    ghost use Rattle.jv_yard.specs.Staging.{client_staging_code};
 
     ghost Value = { ClientStaging };
 

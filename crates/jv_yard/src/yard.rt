@@ -1,10 +1,10 @@
 //! The yard: the blocks of a volume, wherever they are.
 ghost use Rattle.std.specs.Prelude.{◌≡◌, ◌≤◌, IfOk, IfErr, is_some, slice_get};
 ghost use Rattle.std.specs.Option.{option_copied};
-ghost use Rattle.jv_model.specs.FiniteMap.{key_count};
+ghost use Rattle.jv_model.specs.promise.FiniteMap.{key_count};
 ghost use Rattle.jv_yard.specs.BlockCalls.{GetsBlock, IsBlockParcel, PutsBlock};
-ghost use Rattle.jv_yard.specs.Starting.{IsStarted, ShelfRefuses};
-ghost use Rattle.jv_yard.specs.Staging.{staged_since};
+ghost use Rattle.jv_yard.specs.promise.Starting.{IsStarted, ShelfRefuses};
+ghost use Rattle.jv_yard.specs.promise.Staging.{staged_since};
 
 use crate::faults::{YardFault, fault_by};
 use crate::finding::find_staged;
@@ -29,7 +29,7 @@ pub struct Yard<D, H> {
 
 /// What contracts see of a yard.
 pub trait ObservedYard {
-    ghost use Rattle.jv_yard.specs.YardValue.{YardValue};
+    ghost use Rattle.jv_yard.specs.promise.YardValue.{YardValue};
 
     ghost seen: { Self → YardValue };
 }

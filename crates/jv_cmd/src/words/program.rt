@@ -2,13 +2,14 @@
 ghost use Rattle.std.specs.Prelude.{◌≡◌, IfOk, codes, false};
 ghost use Rattle.clap.specs.Words.{app_of, rule_of, shape_of, with_rule, with_subcommand};
 ghost use Rattle.clap.specs.declared.builder.command.Command.TheViews.{out-Command};
-ghost use Rattle.jv_cmd.specs.Program.{IsApp, IsRule, bare_app, flag, format_app, free_option, option, positional, program_app, required_option, session_app, with_limits, with_objects, with_sizes, with_staging};
+ghost use Rattle.jv_cmd.specs.Program.{IsApp, IsRule};
+ghost use Rattle.jv_cmd.specs.promise.Program.{bare_app, flag, format_app, free_option, option, positional, program_app, required_option, session_app, with_limits, with_objects, with_sizes, with_staging};
 
 use clap::{Arg, ArgAction, Command};
 use std::alloc::{AllocError, Global};
 
 /// The program, as `clap` reads its words. They begin with the command, and not with the program's name.
-#[tactic(auto, unfolding(crate::specs::Program::program_app))]
+#[tactic(auto, unfolding(crate::specs::promise::Program::program_app))]
 pub(crate) fn program<'a>(alloc: Global) -> Result<Command<'a>, AllocError>
     ensures { IfOk result (IsApp program_app) }
 {

@@ -2,8 +2,9 @@ ghost use Rattle.std.specs.Prelude.{◌≡◌, ◌≤◌, IfOk, IfErr, map, stri
 ghost use Rattle.std.specs.Option.{option_copied};
 ghost use Rattle.clap.specs.Words.{first_of, found_of, rows_of, subcommand_rows_of};
 ghost use Rattle.jv_cmd.specs.declared.words.read.BadValue.TheVariants as bad;
-ghost use Rattle.jv_cmd.specs.Values.{block_size_of, number_within, place_of};
-ghost use Rattle.jv_cmd.specs.Words.{Answers, Parses, Reads, Refuses, asked, command_at, format_in, has_text, options_in, seed_of, session_in, setting_in, setting_fields_in, stored_setting_in, value_in, where_allowed};
+ghost use Rattle.jv_cmd.specs.promise.Values.{block_size_of, number_within, place_of};
+ghost use Rattle.jv_cmd.specs.Words.{Answers, Parses, Reads, Refuses};
+ghost use Rattle.jv_cmd.specs.promise.Words.{asked, command_at, format_in, has_text, options_in, seed_of, session_asked, setting_asked, setting_fields_in, stored_setting_in, value_in, where_allowed};
 
 use super::program::program;
 use super::refusal::{refused, refused_by_clap};
@@ -76,7 +77,7 @@ fn command(alloc: Global, matches: &ArgMatches<'_>) -> Result<Command, BadValue>
     Err(BadValue::OutOfRange)
 }
 
-#[tactic(auto, unfolding(crate::specs::Words::format_in))]
+#[tactic(auto, unfolding(crate::specs::promise::Words::format_in))]
 fn format(alloc: Global, values: &ArgMatches<'_>) -> Result<Command, BadValue>
     ensures { Reads result (format_in (rows_of (found_of values.now))) }
 {
@@ -85,9 +86,9 @@ fn format(alloc: Global, values: &ArgMatches<'_>) -> Result<Command, BadValue>
     Ok(Command::Format { place, setting })
 }
 
-#[tactic(auto, unfolding(crate::specs::Words::session_in))]
+#[tactic(auto, unfolding(crate::specs::promise::Words::session_asked))]
 fn session(alloc: Global, values: &ArgMatches<'_>) -> Result<Command, BadValue>
-    ensures { Reads result (session_in (rows_of (found_of values.now))) }
+    ensures { Reads result (session_asked (rows_of (found_of values.now))) }
 {
     let place = place_in(alloc, values)?;
     let options = options(alloc, values)?;
@@ -95,7 +96,7 @@ fn session(alloc: Global, values: &ArgMatches<'_>) -> Result<Command, BadValue>
 }
 
 fn setting(alloc: Global, values: &ArgMatches<'_>) -> Result<Setting, BadValue>
-    ensures { Reads result (setting_in (rows_of (found_of values.now))) }
+    ensures { Reads result (setting_asked (rows_of (found_of values.now))) }
 {
     if has_text(values, "storage", "file") && has_text(values, "compress", "none") {
         stored_setting(alloc, values)
@@ -104,14 +105,14 @@ fn setting(alloc: Global, values: &ArgMatches<'_>) -> Result<Setting, BadValue>
     }
 }
 
-#[tactic(auto, unfolding(crate::specs::Words::stored_setting_in))]
+#[tactic(auto, unfolding(crate::specs::promise::Words::stored_setting_in))]
 fn stored_setting(alloc: Global, values: &ArgMatches<'_>) -> Result<Setting, BadValue>
     ensures { Reads result (stored_setting_in (rows_of (found_of values.now))) }
 {
     where_allowed(setting_fields(alloc, values)?)
 }
 
-#[tactic(auto, unfolding(crate::specs::Words::setting_fields_in))]
+#[tactic(auto, unfolding(crate::specs::promise::Words::setting_fields_in))]
 fn setting_fields(alloc: Global, values: &ArgMatches<'_>) -> Result<Setting, BadValue>
     ensures { Reads result (setting_fields_in (rows_of (found_of values.now))) }
 {
@@ -144,7 +145,7 @@ fn where_allowed(setting: Setting) -> Result<Setting, BadValue>
     }
 }
 
-#[tactic(auto, unfolding(crate::specs::Words::options_in))]
+#[tactic(auto, unfolding(crate::specs::promise::Words::options_in))]
 fn options(alloc: Global, values: &ArgMatches<'_>) -> Result<SessionOptions, BadValue>
     ensures { Reads result (options_in (rows_of (found_of values.now))) }
 {

@@ -2,8 +2,9 @@ ghost use Rattle.std.specs.Prelude.{◌≡◌, IfOk, string_bytes};
 ghost use Rattle.clap.specs.Words.{kind_of};
 ghost use Rattle.clap.specs.declared.error.kind.ErrorKind.TheVariants.{OutOfMemory};
 ghost use Rattle.jv_cmd.specs.declared.command.TheConstants.{WORDS_REFUSED};
-ghost use Rattle.jv_cmd.specs.Saying.{EndsInFeed, Says};
-ghost use Rattle.jv_cmd.specs.Words.{HasFeed, SaysRefused, refused_text};
+ghost use Rattle.jv_cmd.specs.promise.Saying.{EndsInFeed, Says};
+ghost use Rattle.jv_cmd.specs.Words.{HasFeed, SaysRefused};
+ghost use Rattle.jv_cmd.specs.promise.Words.{refused_text};
 
 use super::request::WordsFault;
 use crate::command::WORDS_REFUSED;

@@ -1,7 +1,7 @@
 ghost use Rattle.std.specs.Prelude.{◌≤◌, IfSome, ◌≡◌, ◌||◌, ◌-◌, length, option_map};
-ghost use Rattle.jv_model.specs.script.Spelling.{is_numeral};
-ghost use Rattle.jv_model.specs.rows.RowGrammar.{is_block_length};
-ghost use Rattle.jv_cmd.specs.Values.{number_of_digits, number_within, digits_of, unit_of, block_size_of, place_of};
+ghost use Rattle.jv_model.specs.promise.script.Spelling.{is_numeral};
+ghost use Rattle.jv_model.specs.promise.rows.RowGrammar.{is_block_length};
+ghost use Rattle.jv_cmd.specs.promise.Values.{number_of_digits, number_within, digits_of, unit_of, block_size_of, place_of};
 
 use jv_model::options::MAX_DIGITS;
 use jv_model::{KIB, MAX_BLOCK, MIB};
@@ -12,7 +12,7 @@ use jv_script::is_numeral;
 const SCHEME: &[u8] = b"sqlite3://";
 
 /// The number of a text of at most [`MAX_DIGITS`] decimal digits without a leading zero.
-#[tactic(auto, unfolding(crate::specs::Values::number_of_digits))]
+#[tactic(auto, unfolding(crate::specs::promise::Values::number_of_digits))]
 pub(crate) fn number(text: &[u8]) -> Option<u64>
     ensures { result ≡ number_of_digits text.now }
 {
@@ -27,7 +27,7 @@ pub(crate) fn number(text: &[u8]) -> Option<u64>
 }
 
 /// A number from `least` to `most`.
-#[tactic(auto, unfolding(crate::specs::Values::number_within))]
+#[tactic(auto, unfolding(crate::specs::promise::Values::number_within))]
 pub(crate) fn number_within(least: u64, most: u64, text: &[u8]) -> Option<u64>
     ensures value { result ≡ number_within least most text.now }
     ensures range { IfSome result (λ n. n ≤ most) }
@@ -40,7 +40,7 @@ pub(crate) fn number_within(least: u64, most: u64, text: &[u8]) -> Option<u64>
 }
 
 /// The length of a block in bytes, whose text counts KiB, or with a suffix K or M.
-#[tactic(auto, unfolding(crate::specs::Values::block_size_of))]
+#[tactic(auto, unfolding(crate::specs::promise::Values::block_size_of))]
 pub(crate) fn block_size(text: &[u8]) -> Option<u32>
     ensures { result ≡ block_size_of text.now }
 {
@@ -51,7 +51,7 @@ pub(crate) fn block_size(text: &[u8]) -> Option<u32>
     Some(bytes as u32)
 }
 
-#[tactic(auto, unfolding(crate::specs::Values::digits_of))]
+#[tactic(auto, unfolding(crate::specs::promise::Values::digits_of))]
 fn digits(text: &[u8]) -> &[u8]
     ensures { result.now ≡ digits_of text.now }
 {
@@ -61,7 +61,7 @@ fn digits(text: &[u8]) -> &[u8]
     }
 }
 
-#[tactic(auto, unfolding(crate::specs::Values::unit_of))]
+#[tactic(auto, unfolding(crate::specs::promise::Values::unit_of))]
 fn unit(text: &[u8]) -> u64
     ensures { result ≡ unit_of text.now }
 {
@@ -79,7 +79,7 @@ fn is_block_size(bytes: u64) -> bool
 }
 
 /// The place of a volume's rows, from its URL.
-#[tactic(auto, unfolding(crate::specs::Values::place_of))]
+#[tactic(auto, unfolding(crate::specs::promise::Values::place_of))]
 pub(crate) fn place(url: &[u8]) -> Option<&[u8]>
     ensures { option_map (λ place. place.now) result ≡ place_of url.now }
 {

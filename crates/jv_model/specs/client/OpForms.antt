@@ -1,12 +1,8 @@
--- What is known of an operation by its form alone, as contracts and laws cite it.
+-- What only inner contracts cite: of `promise/client/OpForms`.
 use Rattle.std.specs.Prelude.{ℕ, Bool, true, false, ◌&&◌, Option, None, Some}
 use Rattle.jv_model.specs.declared.op.Op.{Op}
 use Rattle.jv_model.specs.declared.op.Op.TheVariants as op
-use Rattle.jv_model.specs.script.Spelled.{is_spelled}
-
-abbrev pub is_read : Op → Bool
-is_read (op.Read handle offset len) = true
-is_read _ = false
+use Rattle.jv_model.specs.promise.script.Spelled.{is_spelled}
 
 abbrev pub is_write : Op → Bool
 is_write (op.Write handle offset bytes) = true

@@ -3,7 +3,7 @@ use Rattle.std.specs.Prelude.{◌≡◌, ℕ, ◌<◌, Bool, false, ◌==◌, Is
 use Rattle.jv_model.specs.declared.act.Act.{Act}
 use Rattle.jv_model.specs.declared.act.ActKind.{ActKind}
 use Rattle.jv_model.specs.declared.act.ActKind.TheVariants.{Look, Commit, Truncated, Copied}
-use Rattle.jv_model.specs.client.ModelClient.{OpenFile}
+use Rattle.jv_model.specs.promise.client.ModelClient.{OpenFile}
 use Rattle.jv_model.specs.Lists.{numbered}
 
 -- the entry with a number, the first one being 1

@@ -8,10 +8,10 @@ use Rattle.jv_model.specs.declared.act.Told.{Told}
 use Rattle.jv_model.specs.declared.op.Reply.{Reply}
 use Rattle.jv_model.specs.declared.op.Step.{Step}
 use Rattle.jv_model.specs.declared.op.Step.TheVariants.{More, Done}
-use Rattle.jv_model.specs.client.ModelClient.{ModelClient}
-use Rattle.jv_model.specs.journal.State.{State, effect}
-use Rattle.jv_model.specs.journal.Steps.{Start, IsEntry}
-use Rattle.jv_model.specs.journal.Past.{ends_in_step, reply_of}
+use Rattle.jv_model.specs.promise.client.ModelClient.{ModelClient}
+use Rattle.jv_model.specs.promise.journal.State.{State, effect}
+use Rattle.jv_model.specs.promise.journal.Steps.{Start, IsEntry}
+use Rattle.jv_model.specs.promise.journal.Past.{ends_in_step, reply_of}
 
 -- an entry of a client, on any line
 abbrev pub entry_of : ℕ → ℕ → ℕ → ActKind → Act

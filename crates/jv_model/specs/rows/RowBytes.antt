@@ -1,17 +1,10 @@
--- The bytes of a row, however they are held.
-use Rattle.std.specs.Prelude.{ℕ, ◌*◌, List, ◌++◌, min, take, vec_items}
+-- What only inner contracts cite: of `promise/rows/RowBytes`.
+use Rattle.std.specs.Prelude.{◌++◌, vec_items}
 use Rattle.std.specs.Option.{IsSome}
 use Rattle.std.specs.Arc.{arc_value}
-use Rattle.jv_model.specs.declared.tables.TheConstants.{RECORD_LENGTH}
 use Rattle.jv_model.specs.declared.row_bytes.Held.{Held}
 use Rattle.jv_model.specs.declared.row_bytes.Held.TheVariants as held
-use Rattle.jv_model.specs.rows.RowGrammar.{list_of}
-
--- those of a short row are the first of an array, at most as many as two records have
-abbrev pub held_bytes : Held → List ℕ
-held_bytes (held.Short count short) = take (min (2 * RECORD_LENGTH) count) short
-held_bytes (held.Shared shared) = shared
-held_bytes (held.List front back) = front ++ vec_items (arc_value back)
+use Rattle.jv_model.specs.promise.rows.RowGrammar.{list_of}
 
 -- bytes that are held as a list of records spell one
 abbrev pub KnowsLists : Held → Type 0

@@ -1,5 +1,5 @@
 use Rattle.std.specs.Prelude.{All}
-use Rattle.jv_model.specs.blocks.Slices.{IsRecord}
+use Rattle.jv_model.specs.promise.blocks.Slices.{IsRecord}
 use Rattle.measure.proofs.plans.records.Given as goal
 
 abbrev pub invariant-loop-number : goal.invariant-loop-number

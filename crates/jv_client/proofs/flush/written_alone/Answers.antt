@@ -1,5 +1,5 @@
 -- The bytes of the write are all that is pending.
-use Rattle.jv_client.proofs.WaitingLaws.{alone-of}
+use Rattle.jv_client.proofs.writes.WaitingLaws.{alone-of}
 use Rattle.jv_client.proofs.flush.written_alone.Goals as goal
 
 pub returns-in-Ok : goal.returns-in-Ok

@@ -2,8 +2,8 @@
 use Rattle.std.proofs.Common.{subst}
 use Rattle.jv_client_reads.specs.Ahead.{blocks_ahead}
 use Rattle.jv_client_reads.specs.Calls.{Asks}
-use Rattle.jv_client.proofs.ReadingLaws.{asks-all, asks-lacks, reads-all}
-use Rattle.jv_client.proofs.LooksLaws.{err-looks, none-ahead}
+use Rattle.jv_client.proofs.reads.ReadingLaws.{asks-all, asks-lacks, reads-all}
+use Rattle.jv_client.proofs.reads.LookedUpLaws.{err-looks, none-ahead}
 use Rattle.jv_client.proofs.reading.read_ahead.Goals as goal
 
 pub returns-in_ok-first-in-Nothing-clause-comes : goal.returns-in_ok-first-in-Nothing-clause-comes

@@ -1,8 +1,8 @@
 use Rattle.std.proofs.Common.{refl, ap, ◌∙◌}
 use Rattle.jv_yard.specs.declared.faults.YardFault.TheVariants.{Memory}
-use Rattle.jv_client.proofs.GettingLaws.{reads-refused, reads-value}
+use Rattle.jv_client.proofs.reads.YardReadLaws.{reads-refused, reads-value}
 use Rattle.jv_client.proofs.reading.read_block.Goals as goal
-use Rattle.jv_model.specs.blocks.BlockNames.{name_in}
+use Rattle.jv_model.specs.promise.blocks.BlockNames.{name_in}
 
 pub returns-in_default-clause-read : goal.returns-in_default-clause-read
 returns-in_default-clause-read g c = record { why = Memory; gets = refl; is = refl }

@@ -1,10 +1,10 @@
 -- A transaction is tried in the client's name.
 use Rattle.std.proofs.Common.{refl, sym, ap, ◌∙◌}
 use Rattle.std.specs.Prelude.{unwrap_or}
-use Rattle.jv_model.specs.client.ModelClient.{free_handle}
-use Rattle.jv_model.specs.client.Profile.{handle_of}
+use Rattle.jv_model.specs.promise.client.ModelClient.{free_handle}
+use Rattle.jv_model.specs.promise.client.Profile.{handle_of}
 use Rattle.jv_client_handles.specs.Handles.{held_here, inode_here}
-use Rattle.jv_client.proofs.TriedLaws.{tried_metadata, tried_mount}
+use Rattle.jv_client.proofs.steps.TransactionCallLaws.{tried_metadata, tried_mount}
 use Rattle.jv_client.proofs.transactions.attempt.Goals as goal
 
 pub returns-in-Mount : goal.returns-in-Mount

@@ -1,5 +1,5 @@
 use Rattle.std.proofs.Common.{◌≡◌, ◌+◌, drop}
-use Rattle.jv_model.specs.client.ModelClient.{free_from}
+use Rattle.jv_model.specs.promise.client.ModelClient.{free_from}
 use Rattle.jv_client_handles.proofs.table.free_handle.Given as goal
 
 abbrev pub invariant-loop-open : goal.invariant-loop-open

@@ -1,7 +1,7 @@
 use Rattle.std.proofs.Common.{refl, sym, ap}
 use Rattle.jv_model.specs.declared.op.Reply.TheVariants.{Done, Found, Described, FileOpened, Entries, Usage, Target}
 use Rattle.jv_links.specs.Removals.{HoldsFiles}
-use Rattle.jv_client_metadata.specs.Attempts.{attempt}
+use Rattle.jv_model.specs.promise.tree.TreeAct.{attempt}
 use Rattle.jv_client_metadata.proofs.AttemptLaws.{answers-mapped, transacts-mapped, transacts-always, says-unlinked, says-renamed}
 use Rattle.jv_client_metadata.proofs.transactions.transact.Goals as goal
 

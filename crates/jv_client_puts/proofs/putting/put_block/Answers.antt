@@ -1,6 +1,6 @@
 use Rattle.std.proofs.Common.{◌<◌, length, sym, subst, arith}
 use Rattle.jv_model.specs.declared.setting.Setting.{Setting}
-use Rattle.jv_model.specs.blocks.Slices.{block_count}
+use Rattle.jv_model.specs.promise.blocks.Slices.{block_count}
 use Rattle.jv_client_shared.specs.Lengths.{IsLength}
 use Rattle.jv_yard.specs.BlockCalls.{IsBlockParcel}
 use Rattle.jv_client_puts.proofs.PartLaws.{part-parcel}

@@ -1,5 +1,5 @@
 use Rattle.std.proofs.Common.{refl}
-use Rattle.jv_cmd.specs.Attaching.{NoDepot, NoCarrier, NoShelf}
+use Rattle.jv_cmd.specs.promise.Attaching.{NoDepot, NoCarrier, NoShelf}
 use Rattle.jv_cmd.proofs.blocks.attach_all.Goals as goal
 
 pub returns-in-Err : goal.returns-in-Err

@@ -1,12 +1,13 @@
 use Rattle.std.proofs.Common.{◌≡◌, ℕ, List, [], ap, sym, subst, string_bytes, map, Err}
 use Rattle.jv_model.specs.declared.act.Act.{Act}
 use Rattle.jv_cmd.specs.declared.words.request.WordsFault.{WordsFault}
-use Rattle.jv_cmd.specs.Commands.{RunsAsked}
-use Rattle.jv_cmd.specs.Saying.{Says}
-use Rattle.jv_cmd.specs.Words.{Answers, Refuses, asked}
-use Rattle.jv_cmd.specs.Worlds.{WorldValue, block_devices, world_value}
-use Rattle.jv_cmd.proofs.AskedLaws.{asked_allowed}
-use Rattle.jv_cmd.proofs.CommandLaws.{RunsAsked-ran, RunsAsked-refused, RunsAsked-unread}
+use Rattle.jv_cmd.specs.promise.Commands.{RunsAsked}
+use Rattle.jv_cmd.specs.promise.Saying.{Says}
+use Rattle.jv_cmd.specs.Words.{Answers, Refuses}
+use Rattle.jv_cmd.specs.promise.Words.{asked}
+use Rattle.jv_cmd.specs.promise.Worlds.{WorldValue, block_devices, world_value}
+use Rattle.jv_cmd.proofs.asked.AskedLaws.{asked_allowed}
+use Rattle.jv_cmd.proofs.runs.CommandLaws.{RunsAsked-ran, RunsAsked-refused, RunsAsked-unread}
 use Rattle.jv_cmd.proofs.command.run.Goals as goal
 
 pub run_command-ended-requires-clause-allowed : goal.run_command-ended-requires-clause-allowed

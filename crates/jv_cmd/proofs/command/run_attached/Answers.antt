@@ -1,4 +1,4 @@
-use Rattle.jv_cmd.proofs.CommandLaws.{RunsAttached-ran}
+use Rattle.jv_cmd.proofs.runs.CommandLaws.{RunsAttached-ran}
 use Rattle.jv_cmd.proofs.command.run_attached.Goals as goal
 
 pub returns-in-Ok-clause-runs : goal.returns-in-Ok-clause-runs

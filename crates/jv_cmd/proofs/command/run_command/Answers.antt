@@ -1,4 +1,4 @@
-use Rattle.jv_cmd.proofs.CommandLaws.{RunsCommand-format, RunsCommand-session}
+use Rattle.jv_cmd.proofs.runs.CommandLaws.{RunsCommand-format, RunsCommand-session}
 use Rattle.jv_cmd.proofs.command.run_command.Goals as goal
 
 pub returns-in-Format-clause-runs : goal.returns-in-Format-clause-runs

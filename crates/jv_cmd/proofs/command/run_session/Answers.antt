@@ -1,7 +1,7 @@
 use Rattle.std.proofs.Common.{refl}
-use Rattle.jv_cmd.specs.Commands.{NotOpened}
+use Rattle.jv_cmd.specs.promise.Commands.{NotOpened}
 use Rattle.jv_session.proofs.UsesLaws.{no_failures}
-use Rattle.jv_cmd.proofs.CommandLaws.{CountsFaults-volume, RunsSession-volume}
+use Rattle.jv_cmd.proofs.runs.CommandLaws.{CountsFaults-volume, RunsSession-volume}
 use Rattle.jv_cmd.proofs.command.run_session.Goals as goal
 use Rattle.jv_client_shared.proofs.SettingLaws.{allowed_length}
 

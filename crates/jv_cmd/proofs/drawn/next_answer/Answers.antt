@@ -1,5 +1,5 @@
 use Rattle.std.proofs.Common.{sym, arith}
-use Rattle.jv_cmd.proofs.DrawnLaws.{first_rest, only_answer}
+use Rattle.jv_cmd.proofs.drawn_scripts.DrawnLaws.{first_rest, only_answer}
 use Rattle.jv_cmd.proofs.drawn.next_answer.Goals as goal
 
 pub returns-in-Some : goal.returns-in-Some

@@ -1,6 +1,6 @@
 use Rattle.std.proofs.Common.{Some, ap, ◌∙◌, refl}
-use Rattle.jv_cmd.proofs.ScriptEndLaws.{EndsScript-kept, EndsScript-textless}
-use Rattle.jv_cmd.proofs.StageLaws.{First-setting, given_some}
+use Rattle.jv_cmd.proofs.runs.ScriptEndLaws.{EndsScript-kept, EndsScript-textless}
+use Rattle.jv_cmd.proofs.runs.StageLaws.{First-setting, given_some}
 use Rattle.jv_cmd.proofs.drawn.run_drawn.Goals as goal
 
 pub returns-in_default-clause-runs : goal.returns-in_default-clause-runs

@@ -1,7 +1,7 @@
 use Rattle.std.proofs.Common.{◌∙◌}
 use Rattle.jv_model.proofs.TestLaws.{none_unless}
-use Rattle.jv_script_drawn.specs.Script.{script}
-use Rattle.jv_cmd.proofs.DrawnLaws.{next_line, text_more, text_whole}
+use Rattle.jv_script_drawn.specs.promise.Script.{script}
+use Rattle.jv_cmd.proofs.drawn_scripts.DrawnLaws.{next_line, text_more, text_whole}
 use Rattle.jv_cmd.proofs.drawn.script_text.Goals as goal
 
 pub lines-preserved : goal.lines-preserved

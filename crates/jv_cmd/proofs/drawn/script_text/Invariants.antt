@@ -1,8 +1,8 @@
 use Rattle.std.proofs.Common.{◌≡◌, ◌≤◌, ◌-◌, take}
 use Rattle.std.specs.List.{flat_map}
 use Rattle.jv_script_drawn.specs.declared.accesses.TheConstants.{LINES}
-use Rattle.jv_script_drawn.specs.Script.{script}
-use Rattle.jv_cmd.specs.Generating.{line_text}
+use Rattle.jv_script_drawn.specs.promise.Script.{script}
+use Rattle.jv_cmd.specs.promise.Generating.{line_text}
 use Rattle.jv_cmd.proofs.drawn.script_text.Given as goal
 
 -- the lines returned so far are there as text

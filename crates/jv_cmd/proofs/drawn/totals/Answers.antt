@@ -1,7 +1,7 @@
 use Rattle.std.proofs.Common.{◌∙◌, ap, sym}
 use Rattle.jv_model.proofs.TestLaws.{none_unless}
-use Rattle.jv_script_drawn.specs.Summary.{TotalsValue}
-use Rattle.jv_cmd.proofs.DrawnLaws.{next_line, totals_answered, totals_from, totals_more, totals_whole}
+use Rattle.jv_script_drawn.specs.promise.Summary.{TotalsValue}
+use Rattle.jv_cmd.proofs.drawn_scripts.DrawnLaws.{next_line, totals_answered, totals_from, totals_more, totals_whole}
 use Rattle.jv_cmd.proofs.drawn.totals.Goals as goal
 
 pub lines-preserved : goal.lines-preserved

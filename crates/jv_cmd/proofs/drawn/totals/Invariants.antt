@@ -1,10 +1,10 @@
 use Rattle.std.proofs.Common.{◌≡◌, ◌≤◌, ◌-◌}
 use Rattle.jv_script_drawn.specs.declared.accesses.TheConstants.{LINES}
-use Rattle.jv_script_drawn.specs.Script.{script}
-use Rattle.jv_script_drawn.specs.Summary.{totals_of}
-use Rattle.jv_cmd.specs.Generating.{replies_said}
-use Rattle.jv_cmd.specs.Texts.{texts_of}
-use Rattle.jv_cmd.proofs.DrawnLaws.{totals_from}
+use Rattle.jv_script_drawn.specs.promise.Script.{script}
+use Rattle.jv_script_drawn.specs.promise.Summary.{totals_of}
+use Rattle.jv_cmd.specs.promise.Generating.{replies_said}
+use Rattle.jv_cmd.specs.promise.Texts.{texts_of}
+use Rattle.jv_cmd.proofs.drawn_scripts.DrawnLaws.{totals_from}
 use Rattle.jv_cmd.proofs.drawn.totals.Given as goal
 
 -- the answers left add to the totals what is missing

@@ -1,4 +1,4 @@
-use Rattle.jv_cmd.proofs.SayingLaws.{Says-ended}
+use Rattle.jv_cmd.proofs.streams.SayingLaws.{Says-ended}
 use Rattle.jv_cmd.proofs.ended.report.Goals as goal
 
 pub returns-in-LineNotRun : goal.returns-in-LineNotRun

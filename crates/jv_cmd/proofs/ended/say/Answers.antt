@@ -1,4 +1,4 @@
-use Rattle.jv_cmd.proofs.SayingLaws.{Says-written}
+use Rattle.jv_cmd.proofs.streams.SayingLaws.{Says-written}
 use Rattle.jv_cmd.proofs.ended.say.Goals as goal
 
 pub returns : goal.returns

@@ -1,8 +1,9 @@
 use Rattle.std.proofs.Common.{rules, ◌≡◌, ◌++◌, codes, decimal, List, ℕ, Result, IsErrAnd, sym, subst}
 use Rattle.jv_model.specs.declared.fault.Down.{Down}
-use Rattle.jv_outside.specs.Stream.{Stream, HasAll, FailsToWriteAll, WritesAll}
-use Rattle.jv_cmd.specs.Ends.{digits_or_dash}
-use Rattle.jv_cmd.proofs.SayingLaws.{HasAll-after, Fails-after, Fails-more, WritesAll-after, WritesAll-failed, key_parts}
+use Rattle.jv_outside.specs.promise.Stream.{Stream, HasAll}
+use Rattle.jv_outside.specs.Stream.{FailsToWriteAll, WritesAll}
+use Rattle.jv_cmd.specs.promise.Ends.{digits_or_dash}
+use Rattle.jv_cmd.proofs.streams.SayingLaws.{HasAll-after, Fails-after, Fails-more, WritesAll-after, WritesAll-failed, key_parts}
 use Rattle.jv_cmd.proofs.ended.write_key.Goals as goal
 
 -- the text from its first part on

@@ -1,6 +1,7 @@
 use Rattle.std.proofs.Common.{rules, ◌≡◌, ◌++◌, decimal, subst}
-use Rattle.jv_outside.specs.Stream.{HasAll, FailsToWriteAll}
-use Rattle.jv_cmd.proofs.SayingLaws.{HasAll-after, Fails-after, Fails-more, WritesAll-after, WritesAll-failed}
+use Rattle.jv_outside.specs.promise.Stream.{HasAll}
+use Rattle.jv_outside.specs.Stream.{FailsToWriteAll}
+use Rattle.jv_cmd.proofs.streams.SayingLaws.{HasAll-after, Fails-after, Fails-more, WritesAll-after, WritesAll-failed}
 use Rattle.jv_cmd.proofs.ended.write_number.Goals as goal
 
 pub returns-in_err-write_whole : goal.returns-in_err-write_whole

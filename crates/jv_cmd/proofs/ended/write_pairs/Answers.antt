@@ -1,8 +1,8 @@
 use Rattle.std.proofs.Common.{List, ℕ, suc, ◌<◌, length, get_or, take, drop, subst, arith}
 use Rattle.std.specs.List.{flat_map}
-use Rattle.jv_model.specs.script.Printed.{hex_pair}
+use Rattle.jv_model.specs.promise.script.Printed.{hex_pair}
 use Rattle.jv_outside.specs.Stream.{FailsToWriteAll, WritesAll}
-use Rattle.jv_cmd.proofs.SayingLaws.{WritesAll-stopped, pairs_apart}
+use Rattle.jv_cmd.proofs.streams.SayingLaws.{WritesAll-stopped, pairs_apart}
 use Rattle.jv_cmd.proofs.ended.write_pairs.Goals as goal
 
 pub returns-in_err-write_whole : goal.returns-in_err-write_whole

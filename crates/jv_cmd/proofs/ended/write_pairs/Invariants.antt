@@ -1,7 +1,7 @@
 use Rattle.std.proofs.Common.{take}
 use Rattle.std.specs.List.{flat_map}
-use Rattle.jv_model.specs.script.Printed.{hex_pair}
-use Rattle.jv_outside.specs.Stream.{HasAll}
+use Rattle.jv_model.specs.promise.script.Printed.{hex_pair}
+use Rattle.jv_outside.specs.promise.Stream.{HasAll}
 use Rattle.jv_cmd.proofs.ended.write_pairs.Given as goal
 
 -- the pairs of the bytes so far are written

@@ -1,5 +1,5 @@
 use Rattle.std.proofs.Common.{refl}
-use Rattle.jv_outside.specs.Holding.{AsBefore}
+use Rattle.jv_outside.specs.promise.Holding.{AsBefore}
 use Rattle.jv_cmd.proofs.format.run_format.Goals as goal
 
 pub returns-in_default-clause-formats : goal.returns-in_default-clause-formats

@@ -1,5 +1,5 @@
 use Rattle.std.proofs.Common.{ap}
-use Rattle.jv_cmd.proofs.StageLaws.{LineRuns-stage}
+use Rattle.jv_cmd.proofs.runs.StageLaws.{LineRuns-stage}
 use Rattle.jv_cmd.proofs.lines.make_line.Goals as goal
 
 pub returns-clause-runs : goal.returns-clause-runs

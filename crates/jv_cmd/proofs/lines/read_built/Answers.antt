@@ -1,5 +1,5 @@
 use Rattle.std.proofs.Common.{refl, sym, ◌∙◌}
-use Rattle.jv_cmd.specs.Run.{LineUnbuilt}
+use Rattle.jv_cmd.specs.promise.Run.{LineUnbuilt}
 use Rattle.jv_cmd.proofs.lines.read_built.Goals as goal
 
 pub returns-else-is_built : goal.returns-else-is_built

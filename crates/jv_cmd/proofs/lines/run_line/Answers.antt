@@ -1,8 +1,8 @@
 use Rattle.std.proofs.Common.{List, [], ℕ, refl, sym, ap, subst}
-use Rattle.jv_outside.specs.Stream.{HasAll, IsCut, Stream}
-use Rattle.jv_outside.specs.Ticks.{Ticks}
+use Rattle.jv_outside.specs.promise.Stream.{HasAll, IsCut, Stream}
+use Rattle.jv_outside.specs.promise.Ticks.{Ticks}
 use Rattle.jv_outside.proofs.StreamLaws.{Gains-nil}
-use Rattle.jv_cmd.proofs.StepLaws.{Advances-said, Advances-quiet}
+use Rattle.jv_cmd.proofs.runs.StepLaws.{Advances-said, Advances-quiet}
 use Rattle.jv_cmd.proofs.lines.run_line.Goals as goal
 
 pub returns-in-Ok-clause-ends : goal.returns-in-Ok-clause-ends

@@ -4,10 +4,11 @@ use Rattle.std.specs.Io.KnownBytes.{prepend_known}
 use Rattle.jv_model.specs.declared.limits.TheConstants.{MAX_LINES}
 use Rattle.jv_yard.specs.Staging.{by_client}
 use Rattle.jv_yard.specs.YardValue.{yard_value}
-use Rattle.jv_client.specs.Shared.{shared}
+use Rattle.jv_client.specs.promise.Shared.{shared}
 use Rattle.jv_session.specs.Stands.{IsYardOf}
 use Rattle.jv_cmd.specs.Steps.{Going}
-use Rattle.jv_cmd.specs.Stages.{StageValue, given_by, stage_value, yard_at}
+use Rattle.jv_cmd.specs.promise.Stages.{StageValue, stage_value}
+use Rattle.jv_cmd.specs.Stages.{given_by, yard_at}
 use Rattle.jv_cmd.proofs.lines.run_lines.Given as goal
 
 -- `done` lines are run, where none was at first

@@ -3,8 +3,8 @@ use Rattle.std.specs.Io.KnownBytes.{prepend_known}
 use Rattle.jv_model.specs.declared.limits.TheConstants.{MAX_LINES}
 use Rattle.jv_cmd.specs.declared.reader.Next.{Next}
 use Rattle.jv_cmd.specs.Cutting.{Finds, CutsText, IsOverlong}
-use Rattle.jv_cmd.proofs.GoingLaws.{Going-read, NextLine-front, EndsScript-succeeded, EndsScript-overlong, EndsScript-too_many, EndsScript-source}
-use Rattle.jv_cmd.proofs.ReadingLaws.{BeginsWith-cut}
+use Rattle.jv_cmd.proofs.runs.ReachedLaws.{Going-read, NextLine-front, EndsScript-succeeded, EndsScript-overlong, EndsScript-too_many, EndsScript-source}
+use Rattle.jv_cmd.proofs.streams.ReadingLaws.{BeginsWith-cut}
 use Rattle.jv_cmd.proofs.lines.run_next.Goals as goal
 
 pub returns-then-done-eq-MAX_LINES-clause-runs : goal.returns-then-done-eq-MAX_LINES-clause-runs

@@ -1,6 +1,6 @@
-use Rattle.jv_cmd.proofs.DoneLaws.{Going-first}
-use Rattle.jv_cmd.proofs.GoingLaws.{EndsScript-none}
-use Rattle.jv_cmd.proofs.StageLaws.{First-fits, First-setting, given_some}
+use Rattle.jv_cmd.proofs.runs.LinesDoneLaws.{Going-first}
+use Rattle.jv_cmd.proofs.runs.ReachedLaws.{EndsScript-none}
+use Rattle.jv_cmd.proofs.runs.StageLaws.{First-fits, First-setting, given_some}
 use Rattle.jv_cmd.proofs.lines.run_script.Goals as goal
 
 pub returns-in_default-clause-runs : goal.returns-in_default-clause-runs

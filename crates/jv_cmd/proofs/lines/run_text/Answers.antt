@@ -1,5 +1,5 @@
 use Rattle.std.proofs.Common.{sym, ◌∙◌}
-use Rattle.jv_cmd.proofs.GoingLaws.{TextEnds-from_reads, TextEnds-from_line, TextEnds-silent}
+use Rattle.jv_cmd.proofs.runs.ReachedLaws.{TextEnds-from_reads, TextEnds-from_line, TextEnds-silent}
 use Rattle.jv_cmd.proofs.lines.run_text.Goals as goal
 
 pub returns-in-Err-clause-ends : goal.returns-in-Err-clause-ends

@@ -1,4 +1,4 @@
-use Rattle.jv_cmd.proofs.TextLaws.{first_feed}
+use Rattle.jv_cmd.proofs.asked.TextLaws.{first_feed}
 use Rattle.jv_cmd.proofs.reader.feed_in.Goals as goal
 
 pub returns : goal.returns

@@ -1,6 +1,6 @@
 use Rattle.std.proofs.Common.{◌≡◌, ◌-◌, ◌++◌, List, ℕ, is_ok, if◌then◌else◌, replicate, take, slice_range, vec_len, sym, ap, ◌∙◌, arith}
 use Rattle.jv_cmd.specs.declared.reader.TheConstants.{ROOM}
-use Rattle.jv_cmd.proofs.BufferLaws.{held_on}
+use Rattle.jv_cmd.proofs.streams.BufferLaws.{held_on}
 use Rattle.jv_cmd.proofs.reader.make_room.Goals as goal
 
 pub returns-then-start-eq0-clause-same : goal.returns-then-start-eq0-clause-same

@@ -1,6 +1,6 @@
 use Rattle.std.proofs.Common.{ℕ, subst}
 use Rattle.jv_data.specs.Resizing.{ResizesFile}
-use Rattle.jv_data.proofs.BeginningLaws.{is_timely, begin-sized}
+use Rattle.jv_data.proofs.commits.BeginningLaws.{is_timely, begin-sized}
 use Rattle.jv_data.proofs.committing.begin_commit.Goals as goal
 
 pub returns : goal.returns

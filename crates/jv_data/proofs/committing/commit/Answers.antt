@@ -1,7 +1,7 @@
 use Rattle.std.proofs.Common.{[], Ok, Err, refl}
 use Rattle.std.specs.Option.{unwrap_or}
 use Rattle.std.proofs.lemmas.Result.{err_from_is_err_and}
-use Rattle.jv_data.proofs.RecordCommitLaws.{at_end, record-unbegun, record-unread, record-read, record-memory, record-down, record-done, record-lists, record-rest}
+use Rattle.jv_data.proofs.commits.RecordCommitLaws.{at_end, record-unbegun, record-unread, record-read, record-memory, record-down, record-done, record-lists, record-rest}
 use Rattle.jv_data.proofs.committing.commit.Goals as goal
 
 pub returns-in_err-begin_commit-clause-commits : goal.returns-in_err-begin_commit-clause-commits

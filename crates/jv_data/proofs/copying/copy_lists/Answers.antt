@@ -1,8 +1,8 @@
 use Rattle.std.proofs.Common.{ℕ, ◌+◌, ◌++◌, List, ap, ◌∙◌, arith}
 use Rattle.std.proofs.lemmas.Result.{err_from_is_err_and}
 use Rattle.jv_model.specs.declared.slice.Rec.{Rec}
-use Rattle.jv_data.proofs.CopyingLaws.{copying-fails, copying-more}
-use Rattle.jv_data.proofs.PartsLaws.{part-within}
+use Rattle.jv_data.proofs.copies.CopyingLaws.{copying-fails, copying-more}
+use Rattle.jv_data.proofs.lists.PartsLaws.{part-within}
 use Rattle.jv_data.proofs.copying.copy_lists.Goals as goal
 
 pub returns-in_err-new : goal.returns-in_err-new

@@ -1,5 +1,5 @@
 use Rattle.std.proofs.Common.{◌-◌, ◌≤◌}
-use Rattle.jv_data.proofs.CopyingLaws.{IsCopying}
+use Rattle.jv_data.proofs.copies.CopyingLaws.{IsCopying}
 use Rattle.jv_data.proofs.copying.copy_lists.Given as goal
 
 abbrev pub invariant-loop-done : goal.invariant-loop-done

@@ -5,12 +5,12 @@ use Rattle.jv_model.specs.declared.limits.TheConstants.{WINDOW}
 use Rattle.jv_model.specs.declared.row.Row.TheVariants.{OfList}
 use Rattle.jv_model.specs.declared.slice.Rec.{Rec}
 use Rattle.jv_model.specs.FiniteMap.{alter}
-use Rattle.jv_model.specs.rows.RowGrammar.{is_list}
-use Rattle.jv_model.specs.rows.RowPlaces.{list_key}
+use Rattle.jv_model.specs.promise.rows.RowGrammar.{is_list}
+use Rattle.jv_model.specs.promise.rows.RowPlaces.{list_key}
 use Rattle.jv_rows.specs.Drafts.{cell, drafted}
 use Rattle.jv_data.specs.Copying.{ShowsRange, window_at}
-use Rattle.jv_data.proofs.CopyingLaws.{is_list-append, part-unread, part-added}
-use Rattle.jv_data.proofs.PartsLaws.{part-some}
+use Rattle.jv_data.proofs.copies.CopyingLaws.{is_list-append, part-unread, part-added}
+use Rattle.jv_data.proofs.lists.PartsLaws.{part-some}
 use Rattle.jv_data.proofs.copying.copy_part.Goals as goal
 
 pub returns-in_err-records : goal.returns-in_err-records

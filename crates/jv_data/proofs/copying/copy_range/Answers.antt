@@ -5,9 +5,9 @@ use Rattle.jv_model.specs.declared.fault.Fault.TheVariants.{FileTooLarge, Invali
 use Rattle.jv_model.specs.declared.fault.TxFault.TheVariants.{Refused, Rows as OfRows}
 use Rattle.jv_model.specs.declared.limits.TheConstants.{FILE_END}
 use Rattle.jv_model.specs.rows.RowFaults.{row_fault}
-use Rattle.jv_model.specs.tree.FileBytes.{overlap}
+use Rattle.jv_model.specs.promise.tree.FileBytes.{overlap}
 use Rattle.jv_data.specs.Resizing.{ResizesFile}
-use Rattle.jv_data.proofs.CopyEndsLaws.{adjusts-as, ends-as, copy-no_source, copy-no_target, copy-overlaps, copy-too_long, copy-none, copy-no_room, copy-unread, copy-uncounted, copy-down, copy-done, rest-none, rest-done, pieces-nothing, pieces-done}
+use Rattle.jv_data.proofs.copies.CopyEndsLaws.{adjusts-as, ends-as, copy-no_source, copy-no_target, copy-overlaps, copy-too_long, copy-none, copy-no_room, copy-unread, copy-uncounted, copy-down, copy-done, rest-none, rest-done, pieces-nothing, pieces-done}
 use Rattle.jv_data.proofs.copying.copy_range.Goals as goal
 
 pub returns-in_err-source-clause-changes : goal.returns-in_err-source-clause-changes

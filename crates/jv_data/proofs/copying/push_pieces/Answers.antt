@@ -3,7 +3,7 @@ use Rattle.jv_model.specs.declared.slice.Piece.{Piece}
 use Rattle.jv_model.specs.declared.slice.Rec.{Rec}
 use Rattle.jv_model.specs.declared.slice.Spot.TheVariants.{Zero}
 use Rattle.jv_volume_bytes.specs.Fills.{records_of_plan}
-use Rattle.jv_data.proofs.ShownLaws.{pieces-next, plan-next, pieces-take}
+use Rattle.jv_data.proofs.lists.ShownLaws.{pieces-next, plan-next, pieces-take}
 use Rattle.jv_data.proofs.copying.push_pieces.Goals as goal
 
 abbrev none : Piece

@@ -3,7 +3,7 @@ use Rattle.std.proofs.lemmas.Result.{err_from_is_err_and}
 use Rattle.jv_model.specs.declared.slice.Piece.{Piece}
 use Rattle.jv_volume_bytes.specs.Fills.{records_of_plan}
 use Rattle.jv_data.specs.Copying.{pieces_len}
-use Rattle.jv_data.proofs.ShownLaws.{plan-len, cut-next, showing-none, showing-unread, showing-more, showing-all}
+use Rattle.jv_data.proofs.lists.ShownLaws.{plan-len, cut-next, showing-none, showing-unread, showing-more, showing-all}
 use Rattle.jv_data.proofs.copying.shown.Goals as goal
 
 pub returns-in_err-list : goal.returns-in_err-list

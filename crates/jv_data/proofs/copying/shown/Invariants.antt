@@ -1,6 +1,6 @@
 use Rattle.std.proofs.Common.{◌≡◌, ◌+◌, ◌-◌, ◌%◌, ◌<◌, ◌≤◌}
 use Rattle.jv_model.specs.declared.limits.TheConstants.{WINDOW}
-use Rattle.jv_data.proofs.ShownLaws.{IsShowing}
+use Rattle.jv_data.proofs.lists.ShownLaws.{IsShowing}
 use Rattle.jv_data.proofs.copying.shown.Given as goal
 
 abbrev pub invariant-loop-done : goal.invariant-loop-done

@@ -1,10 +1,10 @@
 use Rattle.std.proofs.Common.{None, Some, Ok, Err, ap, refl, arith}
 use Rattle.std.proofs.lemmas.Result.{err_from_is_err_and}
 use Rattle.jv_model.specs.declared.row.Row.TheVariants.{OfNode}
-use Rattle.jv_model.specs.rows.RowGrammar.{is_node}
-use Rattle.jv_model.specs.rows.RowPlaces.{node_key}
-use Rattle.jv_rows.proofs.TransactionLaws.{seen-fresh}
-use Rattle.jv_data.proofs.LookingLaws.{file-unread, file-gone, file-other, file-there}
+use Rattle.jv_model.specs.promise.rows.RowGrammar.{is_node}
+use Rattle.jv_model.specs.promise.rows.RowPlaces.{node_key}
+use Rattle.jv_rows.proofs.transactions.TransactionLaws.{seen-fresh}
+use Rattle.jv_data.proofs.files.LookingLaws.{file-unread, file-gone, file-other, file-there}
 use Rattle.jv_data.proofs.looking.file.Goals as goal
 
 pub returns-in_err-node : goal.returns-in_err-node

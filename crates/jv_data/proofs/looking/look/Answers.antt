@@ -1,5 +1,5 @@
 use Rattle.std.proofs.lemmas.Result.{err_from_is_err_and}
-use Rattle.jv_data.proofs.RecordsLaws.{look-unread}
+use Rattle.jv_data.proofs.lists.RecordsLaws.{look-unread}
 use Rattle.jv_data.proofs.looking.look.Goals as goal
 
 pub returns-in_err-list : goal.returns-in_err-list

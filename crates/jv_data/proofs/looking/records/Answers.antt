@@ -1,6 +1,6 @@
 use Rattle.std.proofs.Common.{[], None, Some, Ok, Err, refl, ap}
 use Rattle.std.proofs.lemmas.Result.{err_from_is_err_and}
-use Rattle.jv_data.proofs.RecordsLaws.{records-seen, unchanged, records-unread, records-seen_in}
+use Rattle.jv_data.proofs.lists.RecordsLaws.{records-seen, unchanged, records-unread, records-seen_in}
 use Rattle.jv_data.proofs.looking.records.Goals as goal
 
 pub returns-in_err-list : goal.returns-in_err-list

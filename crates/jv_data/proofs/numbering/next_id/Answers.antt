@@ -2,7 +2,7 @@ use Rattle.std.proofs.Common.{◌+◌, refl, arith, leb-true}
 use Rattle.std.specs.Prelude.{◌&&◌, nat_le}
 use Rattle.std.proofs.lemmas.Bool.{and_parts}
 use Rattle.std.proofs.lemmas.Result.{err_from_is_err_and}
-use Rattle.jv_data.proofs.NumberLaws.{number-uncounted, number-full, number-done}
+use Rattle.jv_data.proofs.files.NumberLaws.{number-uncounted, number-full, number-done}
 use Rattle.jv_data.proofs.numbering.next_id.Goals as goal
 
 pub returns-in_err-counters-clause-taken : goal.returns-in_err-counters-clause-taken

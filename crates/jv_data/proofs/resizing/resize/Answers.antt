@@ -1,5 +1,5 @@
 use Rattle.std.proofs.Common.{sym, ◌∙◌}
-use Rattle.jv_data.proofs.ResizingLaws.{resize-same}
+use Rattle.jv_data.proofs.files.ResizingLaws.{resize-same}
 use Rattle.jv_data.proofs.resizing.resize.Goals as goal
 
 pub returns : goal.returns

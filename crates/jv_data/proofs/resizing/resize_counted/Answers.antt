@@ -1,5 +1,5 @@
 use Rattle.std.proofs.lemmas.Result.{err_from_is_err_and}
-use Rattle.jv_data.proofs.ResizingLaws.{resize-no_setting, resize-no_counters, resize-no_room, resize-done}
+use Rattle.jv_data.proofs.files.ResizingLaws.{resize-no_setting, resize-no_counters, resize-no_room, resize-done}
 use Rattle.jv_data.proofs.resizing.resize_counted.Goals as goal
 
 pub returns-in_err-setting : goal.returns-in_err-setting

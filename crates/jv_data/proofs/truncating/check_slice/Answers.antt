@@ -1,6 +1,6 @@
 use Rattle.std.proofs.Common.{None, Some, Ok, Err, refl, ap}
 use Rattle.std.proofs.lemmas.Result.{err_from_is_err_and}
-use Rattle.jv_data.proofs.TruncateLaws.{slice-seen, check-unread, check-found, check-none}
+use Rattle.jv_data.proofs.truncates.TruncateLaws.{slice-seen, check-unread, check-found, check-none}
 use Rattle.jv_data.proofs.truncating.check_slice.Goals as goal
 
 pub returns-in_err-read_slice : goal.returns-in_err-read_slice

@@ -2,8 +2,8 @@ use Rattle.std.proofs.Common.{◌<◌, List, length, get_or, ap, subst, arith}
 use Rattle.std.proofs.lemmas.Result.{err_from_is_err_and}
 use Rattle.std.proofs.lemmas.List.{take_all}
 use Rattle.jv_model.specs.declared.slice.Rec.{Rec}
-use Rattle.jv_rows.proofs.CountsLaws.{none}
-use Rattle.jv_data.proofs.TruncateLaws.{checking-none, checking-more, checking-fails, checking-all, has_list-then}
+use Rattle.jv_rows.proofs.counts.CountsLaws.{none}
+use Rattle.jv_data.proofs.truncates.TruncateLaws.{checking-none, checking-more, checking-fails, checking-all, has_list-then}
 use Rattle.jv_data.proofs.truncating.check_slices.Goals as goal
 
 pub loop-record-init : goal.loop-record-init

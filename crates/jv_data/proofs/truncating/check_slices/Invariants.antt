@@ -1,4 +1,4 @@
-use Rattle.jv_data.proofs.TruncateLaws.{IsChecking}
+use Rattle.jv_data.proofs.truncates.TruncateLaws.{IsChecking}
 use Rattle.jv_data.proofs.truncating.check_slices.Given as goal
 
 abbrev pub invariant-loop-record : goal.invariant-loop-record

@@ -1,7 +1,7 @@
 use Rattle.std.proofs.Common.{List, Ok, sym, subst, ◌∙◌}
 use Rattle.jv_model.specs.declared.slice.Rec.{Rec}
 use Rattle.jv_data.specs.Truncating.{DropsLists}
-use Rattle.jv_data.proofs.TruncateLaws.{cut-ends}
+use Rattle.jv_data.proofs.truncates.TruncateLaws.{cut-ends}
 use Rattle.jv_data.proofs.truncating.cut.Goals as goal
 
 pub returns : goal.returns

@@ -2,7 +2,7 @@ use Rattle.std.proofs.Common.{◌++◌, ℕ, List, Option, Some, Ok, ap, subst, 
 use Rattle.std.proofs.lemmas.Result.{err_from_is_err_and}
 use Rattle.jv_model.specs.declared.slice.Rec.{Rec}
 use Rattle.jv_rows.specs.Lists.{FindsList}
-use Rattle.jv_data.proofs.TruncateLaws.{dropping-none, dropping-unread, dropping-ends, dropping-fails, dropping-memory, dropping-more, fewer-left}
+use Rattle.jv_data.proofs.truncates.TruncateLaws.{dropping-none, dropping-unread, dropping-ends, dropping-fails, dropping-memory, dropping-more, fewer-left}
 use Rattle.jv_data.proofs.truncating.drop_lists.Goals as goal
 
 pub loop-gone-init : goal.loop-gone-init

@@ -1,4 +1,4 @@
-use Rattle.jv_data.proofs.TruncateLaws.{IsDropping, windows_left}
+use Rattle.jv_data.proofs.truncates.TruncateLaws.{IsDropping, windows_left}
 use Rattle.jv_data.proofs.truncating.drop_lists.Given as goal
 
 abbrev pub invariant-loop-gone : goal.invariant-loop-gone

@@ -3,7 +3,7 @@ use Rattle.std.proofs.lemmas.Result.{err_from_is_err_and}
 use Rattle.jv_model.specs.declared.fault.Fault.TheVariants.{FileTooLarge}
 use Rattle.jv_model.specs.declared.fault.TxFault.TheVariants.{Refused, Rows as OfRows}
 use Rattle.jv_model.specs.rows.RowFaults.{row_fault}
-use Rattle.jv_data.proofs.TruncateEndsLaws.{ends-as, leave-sized, truncate-unread, truncate-too_long, truncate-no_room, truncate-unread_lists, truncate-down, truncate-done, truncate-lists, truncate-rest}
+use Rattle.jv_data.proofs.truncates.TruncateEndsLaws.{ends-as, leave-sized, truncate-unread, truncate-too_long, truncate-no_room, truncate-unread_lists, truncate-down, truncate-done, truncate-lists, truncate-rest}
 use Rattle.jv_data.proofs.truncating.truncate.Goals as goal
 
 pub returns-in_err-was-clause-changes : goal.returns-in_err-was-clause-changes

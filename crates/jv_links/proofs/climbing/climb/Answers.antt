@@ -1,6 +1,6 @@
 use Rattle.std.proofs.Common.{◌+◌, ◌-◌, sym, ◌∙◌, arith}
 use Rattle.std.proofs.lemmas.Result.{err_from_is_err_and}
-use Rattle.jv_links.proofs.ClimbingLaws.{climb-met, climb-top, climb-not_up, climb-up, climb-nearer}
+use Rattle.jv_links.proofs.entries.ClimbingLaws.{climb-met, climb-top, climb-not_up, climb-up, climb-nearer}
 use Rattle.jv_links.proofs.climbing.climb.Goals as goal
 
 pub returns-then-place-source : goal.returns-then-place-source

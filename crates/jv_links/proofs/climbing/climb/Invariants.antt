@@ -1,6 +1,6 @@
 use Rattle.std.proofs.Common.{◌-◌, Ok}
-use Rattle.jv_model.specs.tree.Renaming as model
-use Rattle.jv_rows.proofs.TransactionLaws.{Past}
+use Rattle.jv_model.specs.promise.tree.Renaming as model
+use Rattle.jv_rows.proofs.transactions.TransactionLaws.{Past}
 use Rattle.jv_links.specs.Climbs.{StandsNear}
 use Rattle.jv_links.specs.Moves.{StandsDirectory}
 use Rattle.jv_links.proofs.climbing.climb.Given as goal

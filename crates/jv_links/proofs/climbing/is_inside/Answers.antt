@@ -1,7 +1,7 @@
 use Rattle.std.proofs.Common.{Ok}
 use Rattle.std.proofs.lemmas.Result.{err_from_is_err_and}
-use Rattle.jv_model.specs.tree.Renaming as model
-use Rattle.jv_links.proofs.ClimbingLaws.{outside-leaf, inside-no_counters, inside-near}
+use Rattle.jv_model.specs.promise.tree.Renaming as model
+use Rattle.jv_links.proofs.entries.ClimbingLaws.{outside-leaf, inside-no_counters, inside-near}
 use Rattle.jv_links.proofs.climbing.is_inside.Goals as goal
 
 pub returns-then-source-ne2 : goal.returns-then-source-ne2

@@ -2,7 +2,7 @@ use Rattle.std.proofs.Common.{ℕ, List, ap, ◌<◌, ◌≤◌, length, subst}
 use Rattle.jv_model.specs.declared.tables.TheConstants.{TABLE_OF_EDGES}
 use Rattle.jv_model.specs.declared.row.Row.{Row}
 use Rattle.jv_model.specs.declared.row.RowKey.{RowKey}
-use Rattle.jv_links.proofs.EmptinessLaws.{emptiness-unread, emptiness-none, emptiness-first}
+use Rattle.jv_links.proofs.entries.EmptinessLaws.{emptiness-unread, emptiness-none, emptiness-first}
 use Rattle.jv_links.proofs.emptiness.has_entries.Goals as goal
 
 pub returns-in_err-page : goal.returns-in_err-page

@@ -1,6 +1,6 @@
 use Rattle.std.proofs.Common.{sym, ◌∙◌}
-use Rattle.jv_links.specs.Moves.{place_of}
-use Rattle.jv_links.proofs.EndsLaws.{names-top}
+use Rattle.jv_tree.specs.Entering.{place_of}
+use Rattle.jv_links.proofs.entries.EndsLaws.{names-top}
 use Rattle.jv_links.proofs.ends.entered.Goals as goal
 
 pub returns-then-is_top-clause-comes : goal.returns-then-is_top-clause-comes

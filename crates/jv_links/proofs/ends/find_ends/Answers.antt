@@ -1,6 +1,6 @@
 use Rattle.std.proofs.Common.{sym, ◌∙◌}
 use Rattle.std.proofs.lemmas.Result.{err_from_is_err_and}
-use Rattle.jv_links.proofs.EndsLaws.{ends-no_from, ends-no_to, ends-not_permitted, ends-no_source, ends-found}
+use Rattle.jv_links.proofs.entries.EndsLaws.{ends-no_from, ends-no_to, ends-not_permitted, ends-no_source, ends-found}
 use Rattle.jv_links.proofs.ends.find_ends.Goals as goal
 
 pub returns-in_err-from : goal.returns-in_err-from

@@ -1,6 +1,6 @@
 use Rattle.std.proofs.Common.{◌≤◌, arith}
 use Rattle.std.proofs.lemmas.Result.{err_from_is_err_and}
-use Rattle.jv_links.proofs.ExchangeLaws.{exchange-not_made, exchange-made}
+use Rattle.jv_links.proofs.moves.ExchangeLaws.{exchange-not_made, exchange-made}
 use Rattle.jv_links.proofs.exchanging.exchange.Goals as goal
 use Rattle.jv_model.specs.declared.limits.TheConstants.{MAX_LINKS}
 

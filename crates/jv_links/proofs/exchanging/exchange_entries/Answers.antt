@@ -1,6 +1,6 @@
 use Rattle.std.proofs.lemmas.Result.{err_from_is_err_and}
-use Rattle.jv_links.specs.Moves.{place_of}
-use Rattle.jv_links.proofs.ExchangeStepLaws.{exchange-not_from, exchange-not_to, exchange-not_source, exchange-on}
+use Rattle.jv_tree.specs.Entering.{place_of}
+use Rattle.jv_links.proofs.moves.ExchangeStepLaws.{exchange-not_from, exchange-not_to, exchange-not_source, exchange-on}
 use Rattle.jv_links.proofs.exchanging.exchange_entries.Goals as goal
 
 pub returns-in_err-take_entry : goal.returns-in_err-take_entry

@@ -1,5 +1,5 @@
-use Rattle.jv_links.specs.Moves.{place_of}
-use Rattle.jv_links.proofs.ExchangeStepLaws.{enter-on}
+use Rattle.jv_tree.specs.Entering.{place_of}
+use Rattle.jv_links.proofs.moves.ExchangeStepLaws.{enter-on}
 use Rattle.jv_links.proofs.exchanging.move_in.Goals as goal
 
 pub returns : goal.returns

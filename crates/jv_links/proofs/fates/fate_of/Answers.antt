@@ -1,19 +1,19 @@
 use Rattle.std.proofs.Common.{◌≡◌, refl, Bool, true, false, Option, Ok, sym, ap, subst, ◌∙◌}
 use Rattle.std.specs.Prelude.{◌&&◌, nat_lt}
 use Rattle.std.proofs.lemmas.Bool.{le-ltb, lt-ltb}
-use Rattle.jv_model.specs.Lists.{is_among}
+use Rattle.jv_model.specs.promise.Lists.{is_among}
 use Rattle.jv_model.specs.declared.limits.TheConstants.{TRASH_ROOT}
 use Rattle.jv_model.specs.declared.fault.Fault.TheVariants.{Stale}
 use Rattle.jv_model.specs.declared.fault.Gone.TheVariants.{Node as GoneNode}
 use Rattle.jv_model.specs.declared.row.Node.{Node}
 use Rattle.jv_model.specs.declared.row.Row.TheVariants.{OfNode}
-use Rattle.jv_model.specs.rows.RowGrammar.{is_node}
-use Rattle.jv_model.specs.rows.RowPlaces.{node_key}
+use Rattle.jv_model.specs.promise.rows.RowGrammar.{is_node}
+use Rattle.jv_model.specs.promise.rows.RowPlaces.{node_key}
 use Rattle.jv_rows.specs.Drafts.{Sees}
 use Rattle.jv_links.specs.Removals.{MayLose}
 use Rattle.jv_links.specs.declared.fates.Fate.TheVariants.{Trashed, Dropped, Sustained}
 use Rattle.jv_rows_drafts.proofs.DraftStepLaws.{drafting-exit}
-use Rattle.jv_links.proofs.FateLaws.{fate-none, fate-no_setting, fate-made, says-trashed, says-sustained, says-dropped}
+use Rattle.jv_links.proofs.losses.FateLaws.{fate-none, fate-no_setting, fate-made, says-trashed, says-sustained, says-dropped}
 use Rattle.jv_links.proofs.fates.fate_of.Goals as goal
 use Rattle.jv_links.proofs.fates.fate_of.Goals.{else-setting-gt0-via-then-setting-gt0+else-dir-lt-TRASH_ROOT, else-setting-gt0-via-else-setting-gt0}
 

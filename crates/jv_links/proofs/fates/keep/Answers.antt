@@ -1,4 +1,4 @@
-use Rattle.jv_links.proofs.TrashingLaws.{keep-no_status, keep-ends}
+use Rattle.jv_links.proofs.losses.TrashingLaws.{keep-no_status, keep-ends}
 use Rattle.jv_links.proofs.fates.keep.Goals as goal
 
 pub returns-in_err-change_status : goal.returns-in_err-change_status

@@ -1,5 +1,5 @@
 use Rattle.std.proofs.Common.{refl}
-use Rattle.jv_links.proofs.LossLaws.{loss-no_fate, loss-not_taken, loss-linked-exit, loss-trashed-exit, loss-sustained-exit, loss-dropped-exit, loss-linked-made, loss-trashed-made, loss-sustained-made, loss-dropped-made}
+use Rattle.jv_links.proofs.losses.LossLaws.{loss-no_fate, loss-not_taken, loss-linked-exit, loss-trashed-exit, loss-sustained-exit, loss-dropped-exit, loss-linked-made, loss-trashed-made, loss-sustained-made, loss-dropped-made}
 use Rattle.jv_links.proofs.fates.remove_entry.Goals as goal
 use Rattle.jv_links.proofs.fates.remove_entry.Goals.{in-Linked+in_ok-change_status-in-Linked, in-Trashed+in_ok-trash-in-Trashed, in-Sustained+in_ok-keep-in-Sustained, in-Dropped+in_ok-drop_node-in-Dropped}
 

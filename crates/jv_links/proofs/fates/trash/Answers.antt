@@ -1,4 +1,4 @@
-use Rattle.jv_links.proofs.TrashingLaws.{trash-no_hour, trash-no_entry, trash-ends}
+use Rattle.jv_links.proofs.losses.TrashingLaws.{trash-no_hour, trash-no_entry, trash-ends}
 use Rattle.jv_links.proofs.fates.trash.Goals as goal
 
 pub returns-in_err-hour : goal.returns-in_err-hour

@@ -1,9 +1,9 @@
 use Rattle.std.proofs.Common.{eq-eqb, ne_eqb, le-leb}
 use Rattle.std.proofs.lemmas.Bool.{lt-leb}
 use Rattle.jv_model.specs.declared.limits.TheConstants.{TRASH_ROOT}
-use Rattle.jv_rows.proofs.TransactionLaws.{looks-exit}
+use Rattle.jv_rows.proofs.transactions.TransactionLaws.{looks-exit}
 use Rattle.jv_links.specs.Linkable.{linkable}
-use Rattle.jv_links.proofs.LinkableLaws.{linkable-directory, linkable-no_entry, linkable-trashed, linkable-found}
+use Rattle.jv_links.proofs.entries.LinkableLaws.{linkable-directory, linkable-no_entry, linkable-trashed, linkable-found}
 use Rattle.jv_links.proofs.linking.find_linkable.Goals as goal
 
 pub returns-then-node-eq2 : goal.returns-then-node-eq2

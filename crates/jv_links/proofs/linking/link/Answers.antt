@@ -1,4 +1,4 @@
-use Rattle.jv_links.proofs.LinkingLaws.{link-not_found, link-no_place, link-not_put, link-no_status, link-done}
+use Rattle.jv_links.proofs.entries.LinkingLaws.{link-not_found, link-no_place, link-not_put, link-no_status, link-done}
 use Rattle.jv_links.proofs.linking.link.Goals as goal
 
 pub returns-in_err-inode : goal.returns-in_err-inode

@@ -1,6 +1,6 @@
 use Rattle.std.proofs.lemmas.Result.{err_from_is_err_and}
-use Rattle.jv_links.specs.Moves.{place_of}
-use Rattle.jv_links.proofs.MoveEntryLaws.{move-not_taken, move-not_put, move-made}
+use Rattle.jv_tree.specs.Entering.{place_of}
+use Rattle.jv_links.proofs.moves.MoveEntryLaws.{move-not_taken, move-not_put, move-made}
 use Rattle.jv_links.proofs.moving.move_entry.Goals as goal
 
 pub returns-in_err-take_entry : goal.returns-in_err-take_entry

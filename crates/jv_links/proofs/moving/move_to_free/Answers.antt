@@ -1,6 +1,6 @@
 use Rattle.std.proofs.Common.{◌≤◌, arith}
 use Rattle.std.proofs.lemmas.Result.{err_from_is_err_and}
-use Rattle.jv_links.proofs.FreeMoveLaws.{free-not_moved, free-made}
+use Rattle.jv_links.proofs.moves.FreeMoveLaws.{free-not_moved, free-made}
 use Rattle.jv_links.proofs.moving.move_to_free.Goals as goal
 use Rattle.jv_model.specs.declared.limits.TheConstants.{MAX_LINKS}
 

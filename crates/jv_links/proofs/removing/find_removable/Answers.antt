@@ -1,6 +1,6 @@
 use Rattle.std.proofs.Common.{sym, ◌∙◌}
 use Rattle.std.proofs.lemmas.Result.{err_from_is_err_and}
-use Rattle.jv_links.proofs.RemovableLaws.{removable-no_place, removable-found}
+use Rattle.jv_links.proofs.entries.RemovableLaws.{removable-no_place, removable-found}
 use Rattle.jv_links.proofs.removing.find_removable.Goals as goal
 
 pub returns-in_err-place : goal.returns-in_err-place

@@ -1,9 +1,9 @@
 use Rattle.std.proofs.Common.{Bool, Ok, subst, eq-eqb, ne_eqb}
 use Rattle.jv_model.specs.declared.op.Reply.TheVariants.{Done}
-use Rattle.jv_model.specs.tree.Removing.{rmdir}
-use Rattle.jv_model.specs.tree.Tree.{has_entries}
+use Rattle.jv_model.specs.promise.tree.Removing.{rmdir}
+use Rattle.jv_model.specs.promise.tree.Tree.{has_entries}
 use Rattle.jv_rows.specs.Transactions.{Looks, Always}
-use Rattle.jv_links.proofs.RemovingLaws.{rmdir_at, rmdir-is, removing-stops, rmdir-no_directory, rmdir-not_empty, rmdir-not_taken, rmdir-not_dropped, rmdir-done}
+use Rattle.jv_links.proofs.losses.RemovingLaws.{rmdir_at, rmdir-is, removing-stops, rmdir-no_directory, rmdir-not_empty, rmdir-not_taken, rmdir-not_dropped, rmdir-done}
 use Rattle.jv_links.proofs.removing.rmdir.Goals as goal
 
 pub returns-in_err-entry : goal.returns-in_err-entry

@@ -1,9 +1,9 @@
 use Rattle.std.proofs.Common.{eq-eqb, ne_eqb}
 use Rattle.jv_model.specs.declared.op.Reply.TheVariants.{Done}
-use Rattle.jv_model.specs.tree.Removing.{unlink}
+use Rattle.jv_model.specs.promise.tree.Removing.{unlink}
 use Rattle.jv_links.specs.Removals.{HoldsFiles}
-use Rattle.jv_links.proofs.RemovingLaws.{unlink_at, unlink-is, removing-stops}
-use Rattle.jv_links.proofs.UnlinkLaws.{unlink-directory, unlink-not_lost, unlink-fails, unlink-answers, unlink-done, unlink-says}
+use Rattle.jv_links.proofs.losses.RemovingLaws.{unlink_at, unlink-is, removing-stops}
+use Rattle.jv_links.proofs.losses.UnlinkLaws.{unlink-directory, unlink-not_lost, unlink-fails, unlink-answers, unlink-done, unlink-says}
 use Rattle.jv_links.proofs.removing.unlink.Goals as goal
 
 pub returns-in_err-entry-clause-does : goal.returns-in_err-entry-clause-does

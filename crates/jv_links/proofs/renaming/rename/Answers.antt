@@ -1,5 +1,5 @@
 use Rattle.std.proofs.lemmas.Result.{err_from_is_err_and}
-use Rattle.jv_links.proofs.RenameLaws.{rename-no_ends, rename-no_target, rename-free, rename-there}
+use Rattle.jv_links.proofs.moves.RenameLaws.{rename-no_ends, rename-no_target, rename-free, rename-there}
 use Rattle.jv_links.proofs.renaming.rename.Goals as goal
 
 pub returns-in_err-ends-clause-does : goal.returns-in_err-ends-clause-does

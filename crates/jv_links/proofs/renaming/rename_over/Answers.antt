@@ -2,9 +2,10 @@ use Rattle.std.proofs.Common.{None, Ok, refl, ap, eq-eqb, ne_eqb}
 use Rattle.std.specs.Prelude.{◌==◌, if◌then◌else◌}
 use Rattle.jv_links.specs.Replacements.{cleared}
 use Rattle.jv_model.specs.declared.basics.How.TheVariants.{Plain, Exchange}
-use Rattle.jv_model.specs.tree.Renaming.{replacing, exchanging}
-use Rattle.jv_links.specs.Moves.{IsOverMove, place_of}
-use Rattle.jv_links.proofs.RenameLaws.{renames-same, renames-apart}
+use Rattle.jv_model.specs.promise.tree.Renaming.{replacing, exchanging}
+use Rattle.jv_links.specs.Moves.{IsOverMove}
+use Rattle.jv_tree.specs.Entering.{place_of}
+use Rattle.jv_links.proofs.moves.RenameLaws.{renames-same, renames-apart}
 use Rattle.jv_links.proofs.renaming.rename_over.Goals as goal
 
 pub returns-in-Plain : goal.returns-in-Plain

@@ -1,6 +1,6 @@
 use Rattle.std.proofs.Common.{eq-eqb, ne_eqb}
 use Rattle.std.proofs.lemmas.Result.{err_from_is_err_and}
-use Rattle.jv_links.proofs.ReplaceableLaws.{replaceable-no_directory, replaceable-leaf, replaceable-directory, replaceable-unread, replaceable-not_empty, replaceable-empty}
+use Rattle.jv_links.proofs.entries.ReplaceableLaws.{replaceable-no_directory, replaceable-leaf, replaceable-directory, replaceable-unread, replaceable-not_empty, replaceable-empty}
 use Rattle.jv_links.proofs.replacing.may_replace.Goals as goal
 
 pub returns-then-ends-eq2 : goal.returns-then-ends-eq2

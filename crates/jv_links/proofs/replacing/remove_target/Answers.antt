@@ -1,6 +1,6 @@
 use Rattle.std.proofs.Common.{Some, eq-eqb, ne_eqb}
-use Rattle.jv_links.specs.Moves.{place_of}
-use Rattle.jv_links.proofs.ClearingLaws.{clear-not_taken, clear-not_dropped, clear-dropped, clear-not_lost, clear-lost, clear-says}
+use Rattle.jv_tree.specs.Entering.{place_of}
+use Rattle.jv_links.proofs.losses.ClearingLaws.{clear-not_taken, clear-not_dropped, clear-dropped, clear-not_lost, clear-lost, clear-says}
 use Rattle.jv_links.proofs.replacing.remove_target.Goals as goal
 
 pub returns-in_err-take_entry-clause-does : goal.returns-in_err-take_entry-clause-does

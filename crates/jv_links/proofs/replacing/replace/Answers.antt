@@ -1,6 +1,6 @@
 use Rattle.std.proofs.Common.{◌≤◌, sym, ◌∙◌, arith}
 use Rattle.std.proofs.lemmas.Result.{err_from_is_err_and}
-use Rattle.jv_links.proofs.ReplaceLaws.{replace-refused, replace-not_cleared, replace-not_moved, replace-not_committed, replace-made}
+use Rattle.jv_links.proofs.moves.ReplaceLaws.{replace-refused, replace-not_cleared, replace-not_moved, replace-not_committed, replace-made}
 use Rattle.jv_links.proofs.replacing.replace.Goals as goal
 use Rattle.jv_model.specs.declared.limits.TheConstants.{MAX_LINKS}
 

@@ -2,7 +2,7 @@ use Rattle.std.proofs.Common.{Option, Ok, ap, subst, ◌∙◌}
 use Rattle.std.specs.Prelude.{not, true}
 use Rattle.std.proofs.lemmas.Result.{err_from_is_err_and}
 use Rattle.jv_model.specs.declared.row.Row.TheVariants.{OfSustained}
-use Rattle.jv_model.specs.rows.RowPlaces.{sustained_key}
+use Rattle.jv_model.specs.promise.rows.RowPlaces.{sustained_key}
 use Rattle.jv_model.proofs.TestLaws.{none_if}
 use Rattle.jv_rows.specs.Drafts.{Sees}
 use Rattle.jv_live.proofs.KeptLaws.{unit-there, release-no_session, release-unread, release-other, has-pair, release-lost, release-fell, release-stays, release-commits}

@@ -3,8 +3,8 @@ use Rattle.std.proofs.lemmas.Result.{err_from_is_err_and}
 use Rattle.jv_model.proofs.TestLaws.{none_unless}
 use Rattle.jv_model.specs.declared.row.Row.TheVariants.{OfSession}
 use Rattle.jv_model.specs.declared.row.Session.{Session}
-use Rattle.jv_model.specs.rows.RowGrammar.{is_session}
-use Rattle.jv_model.specs.rows.RowPlaces.{session_key}
+use Rattle.jv_model.specs.promise.rows.RowGrammar.{is_session}
+use Rattle.jv_model.specs.promise.rows.RowPlaces.{session_key}
 use Rattle.jv_rows.specs.Drafts.{Sees}
 use Rattle.jv_live.proofs.SessionLaws.{beat-unread, beat-gone, beat-fell, beat-commits}
 use Rattle.jv_live.proofs.sessions.beat.Goals as goal

@@ -1,6 +1,6 @@
 use Rattle.std.proofs.Common.{ℕ, ap, ◌∙◌}
-use Rattle.jv_model.specs.FiniteMap.{insert, map_of}
-use Rattle.jv_outside.specs.Blocks.{staged_key}
+use Rattle.jv_model.specs.promise.FiniteMap.{insert, map_of}
+use Rattle.jv_outside.specs.promise.Blocks.{staged_key}
 use Rattle.jv_outside.proofs.StoredLaws.{map_of-updated}
 use Rattle.jv_outside.proofs.block_store.insert.Goals as goal
 

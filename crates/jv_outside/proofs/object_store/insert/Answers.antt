@@ -1,4 +1,4 @@
-use Rattle.jv_model.specs.FiniteMap.{text_key}
+use Rattle.jv_model.specs.promise.FiniteMap.{text_key}
 use Rattle.jv_outside.proofs.StoredLaws.{map_of-updated}
 use Rattle.jv_outside.proofs.object_store.insert.Goals as goal
 

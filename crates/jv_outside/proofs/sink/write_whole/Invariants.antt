@@ -1,5 +1,5 @@
 use Rattle.std.proofs.Common.{◌≡◌, length, ◌-◌, ◌≤◌, take}
-use Rattle.jv_outside.specs.Stream.{Gains}
+use Rattle.jv_outside.specs.promise.Stream.{Gains}
 use Rattle.jv_outside.proofs.sink.write_whole.Given as goal
 
 abbrev pub invariant-pieces : goal.invariant-pieces

@@ -1,6 +1,6 @@
 -- What the tree has at a key then is what the map has.
 use Rattle.std.proofs.Common.{None}
-use Rattle.jv_model.specs.rows.RowKeys.{row_key}
+use Rattle.jv_model.specs.promise.rows.RowKeys.{row_key}
 use Rattle.jv_outside.proofs.StoredLaws.{map_of-updated}
 use Rattle.jv_outside.proofs.store.make.Goals as goal
 

@@ -1,6 +1,7 @@
 use Rattle.std.proofs.Common.{◌∙◌, Option, Some, ℕ, ap, sym, arith}
 use Rattle.std.specs.Option.{option_map}
-use Rattle.jv_model.specs.client.Pending.{Segment, first_segment_of, first_segment}
+use Rattle.jv_model.specs.promise.client.Pending.{Segment, first_segment}
+use Rattle.jv_model.specs.client.Pending.{first_segment_of}
 use Rattle.jv_pending.specs.At.{segment_at}
 use Rattle.jv_pending.specs.Runs.{pending_bytes}
 use Rattle.jv_pending.proofs.PartLaws.{Rise-order}

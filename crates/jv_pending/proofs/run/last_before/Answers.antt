@@ -2,7 +2,7 @@ use Rattle.std.proofs.Common.{◌∙◌, ap, sym}
 use Rattle.std.specs.Option.{option_map}
 use Rattle.jv_pending.proofs.EntryLaws.{between_before}
 use Rattle.jv_pending.proofs.run.last_before.Goals as goal
-use Rattle.jv_model.specs.Lists.{last_item}
+use Rattle.jv_model.specs.promise.Lists.{last_item}
 use Rattle.jv_model.proofs.ListLaws.{last_end}
 
 pub returns-in_err-start : goal.returns-in_err-start

@@ -5,7 +5,7 @@ use Rattle.jv_pending.proofs.JoinLaws.{gap_le}
 use Rattle.jv_pending.proofs.TouchedLaws.{last_is_run, first_reaches, first_none, first_apart}
 use Rattle.jv_pending.proofs.write.first_touched.Goals as goal
 use Rattle.jv_pending.proofs.write.first_touched.Goals.{else-start-inode-via-then-start-inode+else-from-end, else-start-inode-via-else-start-inode}
-use Rattle.jv_model.specs.Lists.{last_item}
+use Rattle.jv_model.specs.promise.Lists.{last_item}
 
 pub last_before-requires-clause-rise : goal.last_before-requires-clause-rise
 last_before-requires-clause-rise c = Rise-order 0 c.args.runs.now.entries c.requires.order

@@ -1,5 +1,5 @@
 use Rattle.std.proofs.Common.{◌+◌, ◌∙◌, length, ap, sym, subst, arith}
-use Rattle.jv_model.specs.client.Pending.{written}
+use Rattle.jv_model.specs.promise.client.Pending.{written}
 use Rattle.jv_pending.specs.Runs.{pending_bytes, IsFirst}
 use Rattle.jv_pending.proofs.ByteLaws.{written_length}
 use Rattle.jv_pending.proofs.PartLaws.{Rise-order}

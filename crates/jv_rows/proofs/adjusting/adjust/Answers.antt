@@ -4,7 +4,7 @@ use Rattle.std.specs.Ordering.{nat_cmp}
 use Rattle.std.specs.BTreeMap.{get}
 use Rattle.std.proofs.lemmas.Result.{err_from_is_err_and}
 use Rattle.std.proofs.lemmas.Bool.{not-true}
-use Rattle.jv_rows.proofs.AdjustLaws.{none_adjusted, all_adjusted, left_stored, step_adjusts, step_fails}
+use Rattle.jv_rows.proofs.counts.AdjustLaws.{none_adjusted, all_adjusted, left_stored, step_adjusts, step_fails}
 use Rattle.jv_rows.proofs.adjusting.adjust.Goals as goal
 
 pub loop-id-init : goal.loop-id-init

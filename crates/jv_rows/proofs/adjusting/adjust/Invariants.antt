@@ -1,7 +1,7 @@
 use Rattle.std.proofs.Common.{◌+◌, length}
 use Rattle.std.specs.Ordering.{nat_cmp}
 use Rattle.std.specs.BTreeMap.{get}
-use Rattle.jv_rows.proofs.AdjustLaws.{IsAdjusting}
+use Rattle.jv_rows.proofs.counts.AdjustLaws.{IsAdjusting}
 use Rattle.jv_rows.proofs.adjusting.adjust.Given as goal
 
 abbrev pub invariant-loop-id : goal.invariant-loop-id

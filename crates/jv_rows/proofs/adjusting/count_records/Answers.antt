@@ -3,7 +3,7 @@ use Rattle.std.specs.Prelude.{unwrap_or}
 use Rattle.std.specs.Ordering.{nat_cmp}
 use Rattle.std.specs.BTreeMap.{get, is_at}
 use Rattle.jv_rows.specs.Counts.{stored_count}
-use Rattle.jv_rows.proofs.CountsLaws.{stored_le, stored_same, stored_more, none}
+use Rattle.jv_rows.proofs.counts.CountsLaws.{stored_le, stored_same, stored_more, none}
 use Rattle.jv_rows.proofs.adjusting.count_records.Goals as goal
 use Rattle.jv_rows.proofs.adjusting.count_records.Goals.{then-record-ne0+in_ok-insert, else-record-ne0}
 

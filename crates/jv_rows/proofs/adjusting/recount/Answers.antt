@@ -1,4 +1,4 @@
-use Rattle.jv_rows.proofs.AdjustLaws.{recounts}
+use Rattle.jv_rows.proofs.counts.AdjustLaws.{recounts}
 use Rattle.jv_rows.proofs.adjusting.recount.Goals as goal
 
 pub returns : goal.returns

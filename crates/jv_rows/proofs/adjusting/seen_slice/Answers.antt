@@ -1,10 +1,10 @@
 use Rattle.std.proofs.Common.{[], refl}
 use Rattle.jv_model.specs.declared.row.Row.TheVariants.{OfSlice}
-use Rattle.jv_model.specs.rows.RowGrammar.{is_slice, slice_bytes, slice_of}
-use Rattle.jv_model.specs.rows.RowPlaces.{slice_key}
+use Rattle.jv_model.specs.promise.rows.RowGrammar.{is_slice, slice_bytes, slice_of}
+use Rattle.jv_model.specs.promise.rows.RowPlaces.{slice_key}
 use Rattle.jv_rows.specs.Tables.{slice_row}
-use Rattle.jv_rows.proofs.AdjustLaws.{sees-stored}
-use Rattle.jv_rows.proofs.DraftLaws.{sees_stored}
+use Rattle.jv_rows.proofs.counts.AdjustLaws.{sees-stored}
+use Rattle.jv_rows.proofs.transactions.DraftLaws.{sees_stored}
 use Rattle.jv_rows.proofs.adjusting.seen_slice.Goals as goal
 
 pub returns-then-is_stored : goal.returns-then-is_stored

@@ -1,5 +1,5 @@
 use Rattle.std.proofs.Common.{◌∙◌}
-use Rattle.jv_rows.proofs.BoundLaws.{text_test}
+use Rattle.jv_rows.proofs.grammars.BoundLaws.{text_test}
 use Rattle.jv_rows.proofs.allowed.is_text.Goals as goal
 
 pub returns : goal.returns

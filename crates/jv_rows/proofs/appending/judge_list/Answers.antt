@@ -1,6 +1,6 @@
 use Rattle.std.proofs.Common.{◌/◌, length, refl, sym}
 use Rattle.std.proofs.lemmas.Result.{err_from_is_err_and}
-use Rattle.jv_rows.proofs.AppendingLaws.{too_short, goes_over, spoils, stops, left_over, all_over}
+use Rattle.jv_rows.proofs.counts.AppendingLaws.{too_short, goes_over, spoils, stops, left_over, all_over}
 use Rattle.jv_rows.proofs.appending.judge_list.Goals as goal
 use Rattle.jv_model.specs.declared.tables.TheConstants.{RECORD_LENGTH}
 

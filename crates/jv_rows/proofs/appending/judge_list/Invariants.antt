@@ -1,6 +1,6 @@
 use Rattle.std.proofs.Common.{◌≡◌, ◌-◌}
-use Rattle.jv_model.specs.rows.RowGrammar.{records_at}
-use Rattle.jv_rows.proofs.AppendingLaws.{is_well}
+use Rattle.jv_model.specs.promise.rows.RowGrammar.{records_at}
+use Rattle.jv_rows.proofs.counts.AppendingLaws.{is_well}
 use Rattle.jv_rows.proofs.appending.judge_list.Given as goal
 
 abbrev pub invariant-loop : goal.invariant-loop

@@ -1,5 +1,5 @@
 use Rattle.std.proofs.Common.{arith}
-use Rattle.jv_rows.proofs.DraftLaws.{search_ends, search_goes_on}
+use Rattle.jv_rows.proofs.transactions.DraftLaws.{search_ends, search_goes_on}
 use Rattle.jv_rows.proofs.drafts.last_of.Goals as goal
 
 pub returns-then-is_of : goal.returns-then-is_of

@@ -2,7 +2,7 @@
 use Rattle.std.proofs.Common.{◌≡◌, List, ℕ, true, codes, refl, sym, subst}
 use Rattle.std.specs.Str.{is_utf8, chars}
 use Rattle.jv_model.specs.declared.setting.Setting.{Setting}
-use Rattle.jv_model.specs.rows.RowGrammar.{is_setting}
+use Rattle.jv_model.specs.promise.rows.RowGrammar.{is_setting}
 use Rattle.jv_rows.specs.FreshRows.{default_setting}
 use Rattle.jv_rows.proofs.fresh.default_setting.Goals as goal
 

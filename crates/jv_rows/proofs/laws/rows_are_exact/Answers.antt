@@ -1,5 +1,5 @@
-use Rattle.jv_rows.proofs.ExactRowLaws.{setting_exact, counters_exact, node_exact, edge_exact, slice_exact, session_exact, sustained_exact, dropped_exact, dead_exact}
-use Rattle.jv_rows.proofs.ExactListLaws.{list_exact}
+use Rattle.jv_rows.proofs.grammars.ExactRowLaws.{setting_exact, counters_exact, node_exact, edge_exact, slice_exact, session_exact, sustained_exact, dropped_exact, dead_exact}
+use Rattle.jv_rows.proofs.grammars.ExactListLaws.{list_exact}
 use Rattle.jv_rows.proofs.laws.rows_are_exact.Goals as goal
 
 pub returns : goal.returns

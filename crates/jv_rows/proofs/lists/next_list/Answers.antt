@@ -1,6 +1,6 @@
 use Rattle.std.proofs.Common.{◌-◌, ℕ, take, ap, sym, ◌∙◌}
 use Rattle.std.proofs.lemmas.List.{append-nil}
-use Rattle.jv_rows.proofs.ListsLaws.{finds-unread, finds-other, finds-last, finds-none}
+use Rattle.jv_rows.proofs.scans.ListsLaws.{finds-unread, finds-other, finds-last, finds-none}
 use Rattle.jv_rows.proofs.lists.next_list.Goals as goal
 
 pub returns-in-Err : goal.returns-in-Err

@@ -1,6 +1,6 @@
 use Rattle.std.proofs.Common.{None, Some, Ok, Err, refl, ap}
 use Rattle.std.proofs.lemmas.Result.{err_from_is_err_and}
-use Rattle.jv_rows.proofs.NeedingLaws.{session_is, session-seen, session-unread, session-there, session-gone}
+use Rattle.jv_rows.proofs.transactions.NeedingLaws.{session_is, session-seen, session-unread, session-there, session-gone}
 use Rattle.jv_rows.proofs.needing.in_session.Goals as goal
 
 pub returns-in_err-read_session : goal.returns-in_err-read_session

@@ -1,4 +1,4 @@
-use Rattle.jv_rows.proofs.RecordLaws.{no_record}
+use Rattle.jv_rows.proofs.grammars.RecordLaws.{no_record}
 use Rattle.jv_rows.proofs.parsing.has_no_record.Goals as goal
 
 pub returns : goal.returns

@@ -1,6 +1,6 @@
 use Rattle.std.proofs.lemmas.Result.{err_from_is_err_and}
-use Rattle.jv_model.specs.rows.RowGrammar.{records_at}
-use Rattle.jv_rows.proofs.RecordLaws.{goes_on, ends, is_done}
+use Rattle.jv_model.specs.promise.rows.RowGrammar.{records_at}
+use Rattle.jv_rows.proofs.grammars.RecordLaws.{goes_on, ends, is_done}
 use Rattle.jv_rows.proofs.parsing.take_records.Goals as goal
 
 pub returns-in_err-record : goal.returns-in_err-record

@@ -1,6 +1,6 @@
 use Rattle.std.proofs.Common.{◌≡◌, ◌-◌}
-use Rattle.jv_model.specs.rows.RowGrammar.{records_at}
-use Rattle.jv_rows.proofs.RecordLaws.{with_front}
+use Rattle.jv_model.specs.promise.rows.RowGrammar.{records_at}
+use Rattle.jv_rows.proofs.grammars.RecordLaws.{with_front}
 use Rattle.jv_rows.proofs.parsing.take_records.Given as goal
 
 abbrev pub invariant-loop : goal.invariant-loop

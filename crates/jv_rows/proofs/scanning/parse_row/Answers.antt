@@ -1,5 +1,5 @@
 use Rattle.std.proofs.Common.{arith}
-use Rattle.jv_rows.proofs.AnyRowLaws.{row_sound}
+use Rattle.jv_rows.proofs.grammars.AnyRowLaws.{row_sound}
 use Rattle.jv_rows.proofs.scanning.parse_row.Goals as goal
 
 pub returns-clause-sound : goal.returns-clause-sound

@@ -3,7 +3,7 @@ use Rattle.std.proofs.lemmas.List.{length_push}
 use Rattle.std.proofs.lemmas.Iterator.Adapters.{YieldsList-from_vec}
 use Rattle.std.proofs.lemmas.Iterator.Consumers.{YieldsList-turn, YieldsList-end}
 use Rattle.std.proofs.lemmas.Result.{err_from_is_err_and}
-use Rattle.jv_rows.proofs.ScanLaws.{start, row_goes_on, row_refused, rows_done, AreAllowed-push}
+use Rattle.jv_rows.proofs.scans.ScanLaws.{start, row_goes_on, row_refused, rows_done, AreAllowed-push}
 use Rattle.jv_rows.proofs.scanning.typed_rows.Goals as goal
 
 pub loop-key-init : goal.loop-key-init

@@ -1,5 +1,5 @@
 use Rattle.std.proofs.Common.{length}
-use Rattle.jv_rows.proofs.ScanLaws.{IsReadSoFar}
+use Rattle.jv_rows.proofs.scans.ScanLaws.{IsReadSoFar}
 use Rattle.jv_rows.proofs.scanning.typed_rows.Given as goal
 
 abbrev pub invariant-loop-key : goal.invariant-loop-key

@@ -1,6 +1,6 @@
-use Rattle.jv_model.specs.rows.RowFields.{word, long}
-use Rattle.jv_model.specs.rows.RowGrammar.{record_bytes}
-use Rattle.jv_rows.proofs.RecordLaws.{five_pieces}
+use Rattle.jv_model.specs.promise.rows.RowFields.{word, long}
+use Rattle.jv_model.specs.promise.rows.RowGrammar.{record_bytes}
+use Rattle.jv_rows.proofs.grammars.RecordLaws.{five_pieces}
 use Rattle.jv_rows.proofs.spelling.put_record.Goals as goal
 
 pub returns : goal.returns

@@ -1,7 +1,7 @@
 use Rattle.std.proofs.Common.{◌≡◌, ℕ, List, ◌++◌, drop, true, ap, ◌∙◌}
 use Rattle.std.proofs.lemmas.Result.{err_from_is_err_and}
-use Rattle.jv_model.specs.tree.Walk.{names_of, is_absolute}
-use Rattle.jv_rows.proofs.CourseLaws.{goes_from_root, root_fails}
+use Rattle.jv_model.specs.promise.tree.Walk.{names_of, is_absolute}
+use Rattle.jv_rows.proofs.walks.CourseLaws.{goes_from_root, root_fails}
 use Rattle.jv_rows.proofs.walking.by_target.Goals as goal
 
 pub returns-in_err-from : goal.returns-in_err-from

@@ -1,7 +1,7 @@
 use Rattle.std.proofs.lemmas.Result.{err_from_is_err_and}
-use Rattle.jv_rows.proofs.LooksLaws.{seen_edge}
-use Rattle.jv_rows.proofs.WalkLaws.{has_edge_row}
-use Rattle.jv_rows.proofs.StepLaws.{entry_not_read, entry_is, no_entry_is}
+use Rattle.jv_rows.proofs.transactions.ReadingPartLaws.{seen_edge}
+use Rattle.jv_rows.proofs.walks.WalkLaws.{has_edge_row}
+use Rattle.jv_rows.proofs.walks.NameStepLaws.{entry_not_read, entry_is, no_entry_is}
 use Rattle.jv_rows.proofs.walking.child.Goals as goal
 
 pub returns-in_err-edge : goal.returns-in_err-edge

@@ -1,7 +1,7 @@
 use Rattle.std.proofs.Common.{◌+◌, ◌<◌, length, drop, ap, sym, ◌∙◌, arith}
 use Rattle.std.specs.Prelude.{◌&&◌, ◌||◌, ◌==◌, not}
 use Rattle.std.proofs.lemmas.Result.{err_from_is_err_and}
-use Rattle.jv_rows.proofs.CourseLaws.{last_goes, name_fails, to_symlink, to_node, is_last, next_name}
+use Rattle.jv_rows.proofs.walks.CourseLaws.{last_goes, name_fails, to_symlink, to_node, is_last, next_name}
 use Rattle.jv_rows.proofs.walking.go_on.Goals as goal
 
 pub returns-in_err-next : goal.returns-in_err-next

@@ -1,8 +1,8 @@
 use Rattle.std.proofs.Common.{drop}
 use Rattle.std.specs.Prelude.{IsTrue}
-use Rattle.jv_model.specs.rows.RowGrammar.{is_node}
+use Rattle.jv_model.specs.promise.rows.RowGrammar.{is_node}
 use Rattle.jv_rows.specs.Walks.{HasNodeRow, course}
-use Rattle.jv_rows.proofs.TransactionLaws.{Past}
+use Rattle.jv_rows.proofs.transactions.TransactionLaws.{Past}
 use Rattle.jv_rows.proofs.walking.go_on.Given as goal
 
 abbrev pub invariant-loop-index : goal.invariant-loop-index

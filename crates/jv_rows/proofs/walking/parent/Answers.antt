@@ -1,7 +1,7 @@
 use Rattle.std.proofs.Common.{Ok}
 use Rattle.std.proofs.lemmas.Result.{err_from_is_err_and}
-use Rattle.jv_rows.proofs.LooksLaws.{seen_node}
-use Rattle.jv_rows.proofs.WalkLaws.{not_come, comes_to, lacks_parent, no_parent}
+use Rattle.jv_rows.proofs.transactions.ReadingPartLaws.{seen_node}
+use Rattle.jv_rows.proofs.walks.WalkLaws.{not_come, comes_to, lacks_parent, no_parent}
 use Rattle.jv_rows.proofs.walking.parent.Goals as goal
 
 pub returns-in_err-read_node-clause-comes : goal.returns-in_err-read_node-clause-comes

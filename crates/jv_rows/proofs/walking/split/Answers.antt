@@ -1,4 +1,4 @@
-use Rattle.jv_rows.proofs.NamesLaws.{names_from_start}
+use Rattle.jv_rows.proofs.grammars.NamesLaws.{names_from_start}
 use Rattle.jv_rows.proofs.walking.split.Goals as goal
 
 pub loop-byte-init : goal.loop-byte-init

@@ -1,8 +1,8 @@
 use Rattle.std.proofs.Common.{◌≡◌, ◌≤◌, length, true, false, refl, arith}
 use Rattle.jv_model.specs.declared.limits.TheConstants.{MAX_NAME}
-use Rattle.jv_model.specs.tree.Walk.{is_dot, is_dot_dot, is_trash}
-use Rattle.jv_rows.proofs.WalkLaws.{last_come}
-use Rattle.jv_rows.proofs.StepLaws.{no_directory, long_name, one_of_names, stays}
+use Rattle.jv_model.specs.promise.tree.Walk.{is_dot, is_dot_dot, is_trash}
+use Rattle.jv_rows.proofs.walks.WalkLaws.{last_come}
+use Rattle.jv_rows.proofs.walks.NameStepLaws.{no_directory, long_name, one_of_names, stays}
 use Rattle.jv_rows.proofs.walking.step.Goals as goal
 
 pub returns-then-place-ne2 : goal.returns-then-place-ne2

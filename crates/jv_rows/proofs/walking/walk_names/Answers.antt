@@ -1,7 +1,7 @@
 use Rattle.std.proofs.Common.{◌<◌, arith}
 use Rattle.std.proofs.lemmas.Result.{err_from_is_err_and}
 use Rattle.jv_model.specs.declared.limits.TheConstants.{MAX_SYMLINKS}
-use Rattle.jv_rows.proofs.CourseLaws.{walk_begins_nowhere, walk_fails, walk_ends, too_many, one_more}
+use Rattle.jv_rows.proofs.walks.CourseLaws.{walk_begins_nowhere, walk_fails, walk_ends, too_many, one_more}
 use Rattle.jv_rows.proofs.walking.walk_names.Goals as goal
 
 pub returns-in_err-place : goal.returns-in_err-place

@@ -1,9 +1,9 @@
 use Rattle.std.specs.Prelude.{IsTrue}
 use Rattle.jv_model.specs.declared.limits.TheConstants.{MAX_SYMLINKS, ROOT}
-use Rattle.jv_model.specs.rows.RowGrammar.{is_node}
-use Rattle.jv_model.specs.tree.Walk.{walk}
+use Rattle.jv_model.specs.promise.rows.RowGrammar.{is_node}
+use Rattle.jv_model.specs.promise.tree.Walk.{walk}
 use Rattle.jv_rows.specs.Walks.{HasNodeRow}
-use Rattle.jv_rows.proofs.TransactionLaws.{Past}
+use Rattle.jv_rows.proofs.transactions.TransactionLaws.{Past}
 use Rattle.jv_rows.proofs.walking.walk_names.Given as goal
 
 abbrev pub decreases-loop-names : goal.decreases-loop-names

@@ -2,8 +2,8 @@ use Rattle.std.proofs.Common.{◌≡◌, ℕ, ◌≤◌, ◌<◌, List, [], ◌�
 use Rattle.std.specs.Prelude.{◌||◌}
 use Rattle.std.proofs.lemmas.Result.{err_from_is_err_and}
 use Rattle.jv_model.specs.declared.limits.TheConstants.{MAX_NAME, MAX_PATH}
-use Rattle.jv_model.specs.tree.Walk.{names_of, is_dot, is_dot_dot}
-use Rattle.jv_rows.proofs.EntryLaws.{entry_of_dots, directory_fails, entry_nowhere, entry_too_long, entry_found}
+use Rattle.jv_model.specs.promise.tree.Walk.{names_of, is_dot, is_dot_dot}
+use Rattle.jv_rows.proofs.walks.EntryLaws.{entry_of_dots, directory_fails, entry_nowhere, entry_too_long, entry_found}
 use Rattle.jv_rows.proofs.walking.walk_to_entry.Goals as goal
 
 pub returns-then-is_dots : goal.returns-then-is_dots

@@ -2,8 +2,8 @@ use Rattle.std.proofs.Common.{◌+◌, Some, Ok}
 use Rattle.std.proofs.lemmas.Result.{err_from_is_err_and}
 use Rattle.jv_model.specs.declared.row.Edge.{Edge}
 use Rattle.jv_model.specs.declared.row.Row.TheVariants.{OfEdge}
-use Rattle.jv_model.specs.rows.RowPlaces.{edge_key}
-use Rattle.jv_model.specs.tree.Tree.{EntryKey}
+use Rattle.jv_model.specs.promise.rows.RowPlaces.{edge_key}
+use Rattle.jv_model.specs.promise.tree.Tree.{EntryKey}
 use Rattle.jv_rows_drafts.specs.Present.{links_to_node, linked_row}
 use Rattle.jv_rows_drafts.specs.Ready.{entry_put}
 use Rattle.jv_rows_drafts.proofs.DraftedLaws.{was_drafted}

@@ -1,8 +1,8 @@
 use Rattle.std.proofs.Common.{◌-◌, None, Ok}
 use Rattle.std.proofs.lemmas.Result.{err_from_is_err_and}
-use Rattle.jv_model.specs.rows.RowPlaces.{edge_key}
-use Rattle.jv_model.specs.tree.Changes as model
-use Rattle.jv_model.specs.tree.Tree.{EntryKey}
+use Rattle.jv_model.specs.promise.rows.RowPlaces.{edge_key}
+use Rattle.jv_model.specs.promise.tree.Changes as model
+use Rattle.jv_model.specs.promise.tree.Tree.{EntryKey}
 use Rattle.jv_rows_drafts.specs.Present.{links_to_node, linked_row}
 use Rattle.jv_rows_drafts.proofs.DraftedLaws.{was_drafted}
 use Rattle.jv_rows_drafts.proofs.EntryChangeLaws.{take-no_dir, take-made}

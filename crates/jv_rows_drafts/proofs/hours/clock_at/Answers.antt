@@ -1,7 +1,7 @@
 use Rattle.std.proofs.Common.{◌/◌, ◌≤◌, ◌∙◌, ap, subst, arith, pos, ◌+ℤ◌, ◌*ℤ◌}
 use Rattle.jv_model.specs.declared.limits.TheConstants.{LAST_MOMENT}
 use Rattle.jv_model.specs.declared.lifetimes.TheConstants.{HOUR}
-use Rattle.jv_model.specs.tree.HourNames.{hour_at, day_hours}
+use Rattle.jv_model.specs.promise.tree.HourNames.{hour_at, day_hours}
 use Rattle.jv_rows_drafts.proofs.CivilDateLaws.{is_date_of, day_shown, hour_shown}
 use Rattle.jv_rows_drafts.proofs.hours.clock_at.Goals as goal
 

@@ -1,8 +1,8 @@
 use Rattle.std.proofs.Common.{◌/◌, ◌∙◌, ap, sym}
 use Rattle.std.proofs.lemmas.Result.{err_from_is_err_and}
 use Rattle.jv_model.specs.declared.lifetimes.TheConstants.{HOUR}
-use Rattle.jv_model.specs.tree.HourNames.{hour_at}
-use Rattle.jv_model.specs.tree.Trash.{hour_inode}
+use Rattle.jv_model.specs.promise.tree.HourNames.{hour_at}
+use Rattle.jv_model.specs.promise.tree.Trash.{hour_inode}
 use Rattle.jv_rows_drafts.proofs.DraftedLaws.{was_drafted}
 use Rattle.jv_rows_drafts.proofs.HourStepLaws.{hour_low, enter_hour-there, enter_hour-lacking, enter_hour-fails, enter_hour-comes}
 use Rattle.jv_rows_drafts.proofs.hours.enter_hour.Goals as goal

@@ -1,5 +1,5 @@
 use Rattle.std.proofs.Common.{◌∙◌, arith, ◌<◌, ◌/◌}
-use Rattle.jv_model.specs.tree.HourNames.{hour_at, day_hours, date_of}
+use Rattle.jv_model.specs.promise.tree.HourNames.{hour_at, day_hours, date_of}
 use Rattle.jv_rows_drafts.proofs.CivilDateLaws.{small_half, small_byte, month_small, day_small, year_small, hour_text}
 use Rattle.jv_rows_drafts.proofs.hours.hour_name.Goals as goal
 

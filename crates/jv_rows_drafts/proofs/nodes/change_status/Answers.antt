@@ -1,5 +1,5 @@
 use Rattle.std.proofs.Common.{ℕ, refl, subst}
-use Rattle.jv_model.specs.tree.Changes.{status_changed}
+use Rattle.jv_model.specs.promise.tree.Changes.{status_changed}
 use Rattle.jv_rows_drafts.proofs.NodeChangeLaws.{IsRowChanged, change-made, is_row-status_changed}
 use Rattle.jv_rows_drafts.proofs.PresentLaws.{put_drafted}
 use Rattle.jv_rows_drafts.proofs.nodes.change_status.Goals as goal

@@ -1,8 +1,8 @@
 use Rattle.std.proofs.Common.{Some, sym, subst, ◌∙◌}
 use Rattle.std.proofs.lemmas.Result.{err_from_is_err_and}
 use Rattle.jv_model.specs.declared.row.Counters.{Counters}
-use Rattle.jv_model.specs.rows.RowPlaces.{counters_key}
-use Rattle.jv_volume.proofs.StoredLaws.{of_counters}
+use Rattle.jv_model.specs.promise.rows.RowPlaces.{counters_key}
+use Rattle.jv_volume.proofs.stored.StoredLaws.{of_counters}
 use Rattle.jv_rows_drafts.proofs.DraftedLaws.{Drafted, was_drafted}
 use Rattle.jv_rows_drafts.proofs.GoingLaws.{drop-absent, drop-unread, drop-made}
 use Rattle.jv_rows_drafts.proofs.nodes.drop_node.Goals as goal

@@ -1,6 +1,6 @@
 use Rattle.std.proofs.Common.{◌≡◌}
-use Rattle.jv_model.specs.tree.Renaming.{moved_node}
-use Rattle.jv_volume.proofs.NodeRowLaws.{moved_row}
+use Rattle.jv_model.specs.promise.tree.Renaming.{moved_node}
+use Rattle.jv_volume.proofs.stored.NodeRowLaws.{moved_row}
 use Rattle.jv_rows_drafts.proofs.NodeChangeLaws.{change-made, is_row-moved}
 use Rattle.jv_rows_drafts.proofs.PresentLaws.{put_drafted}
 use Rattle.jv_rows_drafts.proofs.nodes.move_under.Goals as goal

@@ -3,7 +3,7 @@ use Rattle.std.specs.Option.{option_copied}
 use Rattle.jv_script.specs.Reading.{parts_after}
 use Rattle.jv_script.proofs.PartLaws.{length_with, length_with_none, length_with_off, length_with_more, length_with_over, no_parts, all_parts}
 use Rattle.jv_script.proofs.data.are_parts.Goals as goal
-use Rattle.jv_model.specs.Lists.{parted}
+use Rattle.jv_model.specs.promise.Lists.{parted}
 
 pub returns-in_default-part_length : goal.returns-in_default-part_length
 returns-in_default-part_length c =

@@ -1,7 +1,7 @@
 use Rattle.std.proofs.Common.{◌≡◌, ◌≤◌, length}
 use Rattle.std.specs.Option.{option_copied}
 use Rattle.jv_model.specs.declared.limits.TheConstants.{MAX_DATA}
-use Rattle.jv_model.specs.Lists.{parted}
+use Rattle.jv_model.specs.promise.Lists.{parted}
 use Rattle.jv_script.specs.Reading.{parts_after}
 use Rattle.jv_script.proofs.PartLaws.{length_with}
 use Rattle.jv_script.proofs.data.are_parts.Given as goal

@@ -2,7 +2,7 @@ use Rattle.std.proofs.Common.{arith, ap, sym, ◌∙◌, length}
 use Rattle.std.specs.Option.{option_copied}
 use Rattle.std.proofs.lemmas.Bool.{le-leb, lt-leb}
 use Rattle.jv_model.specs.declared.limits.TheConstants.{MAX_DATA}
-use Rattle.jv_model.specs.Lists.{parted}
+use Rattle.jv_model.specs.promise.Lists.{parted}
 use Rattle.jv_script.specs.Reading.{parts_after, bytes_after}
 use Rattle.jv_script.proofs.PartLaws.{bytes_of_parts-after, bytes_after-none, bytes_after-more, bytes_after-off}
 use Rattle.jv_script.proofs.data.joined.Goals as goal

@@ -1,7 +1,7 @@
 use Rattle.std.proofs.Common.{◌≡◌, length}
 use Rattle.std.specs.Option.{option_copied}
-use Rattle.jv_model.specs.script.Grammar.{bytes_of_parts}
-use Rattle.jv_model.specs.Lists.{parted}
+use Rattle.jv_model.specs.promise.script.Grammar.{bytes_of_parts}
+use Rattle.jv_model.specs.promise.Lists.{parted}
 use Rattle.jv_script.specs.Reading.{parts_after, bytes_after}
 use Rattle.jv_script.proofs.data.joined.Given as goal
 

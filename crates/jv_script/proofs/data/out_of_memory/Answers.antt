@@ -1,7 +1,7 @@
 use Rattle.std.proofs.Common.{sym, ◌∙◌}
-use Rattle.jv_model.specs.script.Grammar.{bytes_of_parts}
+use Rattle.jv_model.specs.promise.script.Grammar.{bytes_of_parts}
 use Rattle.jv_model.proofs.TestLaws.{none_if}
-use Rattle.jv_model.specs.Lists.{parted}
+use Rattle.jv_model.specs.promise.Lists.{parted}
 use Rattle.jv_script.proofs.data.out_of_memory.Goals as goal
 
 pub returns-then-are_parts : goal.returns-then-are_parts

@@ -1,5 +1,5 @@
 use Rattle.std.proofs.Common.{sym, ◌∙◌, ap, Some, option_map}
-use Rattle.jv_model.specs.script.Grammar.{part_length}
+use Rattle.jv_model.specs.promise.script.Grammar.{part_length}
 use Rattle.jv_script.proofs.PartLaws.{part_of_pairs, part_of_other, length-bytes_of_digits}
 use Rattle.jv_script.proofs.data.part_length.Goals as goal
 

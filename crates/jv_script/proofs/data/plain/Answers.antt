@@ -2,7 +2,7 @@
 use Rattle.std.proofs.Common.{arith, rules, length}
 use Rattle.std.proofs.lemmas.Bool.{le-leb, lt-leb}
 use Rattle.jv_model.specs.declared.limits.TheConstants.{MAX_DATA}
-use Rattle.jv_model.specs.script.Spelling.{bytes_of_digits}
+use Rattle.jv_model.specs.promise.script.Spelling.{bytes_of_digits}
 use Rattle.jv_script.proofs.PartLaws.{length-bytes_of_digits, plain_whole}
 use Rattle.jv_script.proofs.data.plain.Goals as goal
 

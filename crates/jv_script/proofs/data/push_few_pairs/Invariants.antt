@@ -1,5 +1,5 @@
 use Rattle.std.proofs.Common.{◌≡◌, ◌++◌, length}
-use Rattle.jv_model.specs.script.Spelling.{bytes_of_digits}
+use Rattle.jv_model.specs.promise.script.Spelling.{bytes_of_digits}
 use Rattle.jv_script.proofs.PartLaws.{all_paired}
 use Rattle.jv_script.proofs.data.push_few_pairs.Given as goal
 

@@ -1,5 +1,5 @@
 use Rattle.std.proofs.Common.{◌≡◌, ◌++◌, length}
-use Rattle.jv_model.specs.script.Printed.{data_text}
+use Rattle.jv_model.specs.promise.script.Printed.{data_text}
 use Rattle.jv_script.specs.Printing.{rest_text}
 use Rattle.jv_script.proofs.data_text.push_data.Given as goal
 

@@ -1,7 +1,7 @@
 use Rattle.std.proofs.Common.{arith, get_or, ◌++◌}
 use Rattle.jv_script.proofs.RepeatLaws.{long_part, long_first}
 use Rattle.jv_script.proofs.DataTextLaws.{part_printed}
-use Rattle.jv_model.specs.script.Printed.{Repeated}
+use Rattle.jv_model.specs.promise.script.Printed.{Repeated}
 use Rattle.jv_script.proofs.data_text.push_long.Goals as goal
 
 pub returns : goal.returns

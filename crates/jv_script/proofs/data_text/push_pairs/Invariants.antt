@@ -1,6 +1,6 @@
 use Rattle.std.proofs.Common.{◌≡◌, ◌++◌, take}
 use Rattle.std.specs.List.{flat_map}
-use Rattle.jv_model.specs.script.Printed.{hex_pair}
+use Rattle.jv_model.specs.promise.script.Printed.{hex_pair}
 use Rattle.jv_script.proofs.data_text.push_pairs.Given as goal
 
 -- the bytes so far are printed

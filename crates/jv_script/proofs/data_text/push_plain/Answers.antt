@@ -1,5 +1,5 @@
 use Rattle.std.proofs.Common.{arith, List, ℕ, ◌++◌, length, not, ◌==◌, ap, ◌∙◌}
-use Rattle.jv_model.specs.script.Printed.{Plain}
+use Rattle.jv_model.specs.promise.script.Printed.{Plain}
 use Rattle.jv_script.specs.Printing.{joint}
 use Rattle.jv_script.proofs.DataTextLaws.{part_printed}
 use Rattle.jv_script.proofs.data_text.push_plain.Goals as goal

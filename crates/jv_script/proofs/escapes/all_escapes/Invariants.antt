@@ -1,7 +1,7 @@
 use Rattle.std.proofs.Common.{◌≡◌, length}
 use Rattle.std.specs.Option.{option_copied}
 use Rattle.std.specs.List.{list_all}
-use Rattle.jv_model.specs.script.Grammar.{is_escape}
+use Rattle.jv_model.specs.promise.script.Grammar.{is_escape}
 use Rattle.jv_script.specs.Reading.{parts_after}
 use Rattle.jv_script.proofs.escapes.all_escapes.Given as goal
 

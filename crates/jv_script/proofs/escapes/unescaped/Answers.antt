@@ -2,7 +2,7 @@ use Rattle.std.proofs.Common.{arith, ap, ◌∙◌, sym, ◌≡◌, ◌++◌, So
 use Rattle.std.specs.List.{flat_map}
 use Rattle.std.specs.Option.{option_copied}
 use Rattle.std.proofs.lemmas.Grind.{common_steps}
-use Rattle.jv_model.specs.script.Grammar.{escape_bytes}
+use Rattle.jv_model.specs.promise.script.Grammar.{escape_bytes}
 use Rattle.jv_script.specs.Reading.{parts_after}
 use Rattle.jv_script.proofs.EscapeLaws.{sound_parts}
 use Rattle.jv_script.proofs.escapes.unescaped.Goals as goal

@@ -1,6 +1,6 @@
 use Rattle.std.proofs.Common.{◌≡◌, take}
 use Rattle.std.specs.List.{list_all}
-use Rattle.jv_model.specs.script.Spelling.{is_hex_digit}
+use Rattle.jv_model.specs.promise.script.Spelling.{is_hex_digit}
 use Rattle.jv_script.proofs.hex_digits.all_hex_digits.Given as goal
 
 abbrev pub invariant-loop-digit : goal.invariant-loop-digit

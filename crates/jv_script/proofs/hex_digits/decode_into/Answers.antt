@@ -1,7 +1,7 @@
 use Rattle.std.proofs.Common.{◌+◌, ◌*◌, ◌<◌, length, arith, below_more, refl, ◌≢◌}
 use Rattle.std.proofs.lemmas.List.{get_or-set_other, get_or-set_same}
 use Rattle.std.proofs.lemmas.List.Sums.{AllPass-from_list_all}
-use Rattle.jv_model.specs.script.Spelling.{is_hex_digit}
+use Rattle.jv_model.specs.promise.script.Spelling.{is_hex_digit}
 use Rattle.jv_script.proofs.DigitLaws.{bytes_from_places}
 use Rattle.jv_script.proofs.hex_digits.decode_into.Goals as goal
 

@@ -1,6 +1,6 @@
 use Rattle.std.proofs.Common.{arith, ap, ◌∙◌}
 use Rattle.std.proofs.lemmas.Grind.{common_steps}
-use Rattle.jv_model.specs.script.ReplyText.{entries_text}
+use Rattle.jv_model.specs.promise.script.ReplyText.{entries_text}
 use Rattle.jv_script.proofs.EntryLaws.{entries_text_cons, entries_text_empty}
 use Rattle.jv_script.proofs.names.push_entries.Goals as goal
 

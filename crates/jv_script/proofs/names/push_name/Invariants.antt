@@ -1,5 +1,5 @@
 use Rattle.std.proofs.Common.{◌≡◌, ◌++◌, take}
-use Rattle.jv_model.specs.script.ReplyText.{name_text}
+use Rattle.jv_model.specs.promise.script.ReplyText.{name_text}
 use Rattle.jv_script.proofs.names.push_name.Given as goal
 
 abbrev pub invariant-loop-byte : goal.invariant-loop-byte

@@ -1,5 +1,5 @@
 use Rattle.std.proofs.Common.{◌≡◌, ◌++◌, take}
-use Rattle.jv_model.specs.script.ReplyText.{path_text}
+use Rattle.jv_model.specs.promise.script.ReplyText.{path_text}
 use Rattle.jv_script.proofs.names.push_path.Given as goal
 
 abbrev pub invariant-loop-byte : goal.invariant-loop-byte

@@ -1,6 +1,6 @@
 use Rattle.std.proofs.Common.{◌≡◌, ◌++◌, take}
 use Rattle.std.specs.List.{flat_map}
-use Rattle.jv_model.specs.script.Printed.{number_word}
+use Rattle.jv_model.specs.promise.script.Printed.{number_word}
 use Rattle.jv_script.proofs.numbers.push_numbers.Given as goal
 
 abbrev pub invariant-loop-number : goal.invariant-loop-number

@@ -3,7 +3,7 @@ use Rattle.std.proofs.lemmas.Result.{IfOk-weaker}
 use Rattle.jv_model.specs.declared.op.Op.{Op}
 use Rattle.jv_model.specs.declared.op.Op.TheVariants.{Mount}
 use Rattle.jv_script_drawn.specs.declared.accesses.TheConstants.{FILES}
-use Rattle.jv_script_drawn.specs.Script.{create, access, script, on_client}
+use Rattle.jv_script_drawn.specs.promise.Script.{create_line, access, script, on_client}
 use Rattle.jv_script_drawn.proofs.ScriptLaws.{line-mount, line-create, line-access, line-flush}
 use Rattle.jv_script_drawn.proofs.accesses.operation_at.Goals as goal
 
@@ -14,7 +14,7 @@ returns-then-index-eq0 c = λ seed h.
 pub returns-then-index-le-FILES : goal.returns-then-index-le-FILES
 returns-then-index-le-FILES c =
     let i = c.args.index - 1 in
-    IfOk-weaker c.create.result (λ op. op ≡ create i) _
+    IfOk-weaker c.create.result (λ op. op ≡ create_line i) _
     (λ op e seed h. line-create seed c.args.index i (omega arith) (omega arith) ∙ ap (λ (o : Op). Some (on_client o)) (sym e))
     c.create.ensures
 

@@ -1,6 +1,6 @@
 use Rattle.std.proofs.Common.{◌≡◌, ℕ, ◌-◌, suc, ap, ◌∙◌, arith}
 use Rattle.jv_script_drawn.specs.declared.accesses.TheConstants.{FILES}
-use Rattle.jv_script_drawn.specs.Script.{state}
+use Rattle.jv_script_drawn.specs.promise.Script.{state}
 use Rattle.jv_script_drawn.proofs.ScriptLaws.{state_next}
 use Rattle.jv_script_drawn.proofs.accesses.state_at.Goals as goal
 

@@ -1,5 +1,5 @@
 use Rattle.std.proofs.Common.{◌≡◌, sum, take}
-use Rattle.jv_script_drawn.specs.Summary.{added}
+use Rattle.jv_script_drawn.specs.promise.Summary.{added}
 use Rattle.jv_script_drawn.proofs.totals.add_values.Given as goal
 
 abbrev pub invariant-loop-byte : goal.invariant-loop-byte

@@ -3,7 +3,8 @@ use Rattle.std.specs.List.{range_with_len}
 use Rattle.std.proofs.lemmas.List.FromFn.{map-range_with_len_more}
 use Rattle.std.proofs.lemmas.List.Sums.{fold_push}
 use Rattle.jv_model.specs.declared.slice.BlockId.{BlockId}
-use Rattle.jv_model.specs.blocks.Slices.{with_block, block_at}
+use Rattle.jv_model.specs.blocks.Slices.{with_block}
+use Rattle.jv_model.specs.promise.blocks.Slices.{block_at}
 use Rattle.jv_slices.proofs.blocks.add_piece.Goals as goal
 
 pub loop-index-preserved : goal.loop-index-preserved

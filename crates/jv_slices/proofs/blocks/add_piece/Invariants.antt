@@ -1,6 +1,7 @@
 use Rattle.std.proofs.Common.{◌≡◌, ◌-◌, map, fold}
 use Rattle.std.specs.List.{range_with_len}
-use Rattle.jv_model.specs.blocks.Slices.{with_block, block_at}
+use Rattle.jv_model.specs.blocks.Slices.{with_block}
+use Rattle.jv_model.specs.promise.blocks.Slices.{block_at}
 use Rattle.jv_slices.specs.Listing.{ListsIn}
 use Rattle.jv_slices.proofs.blocks.add_piece.Given as goal
 

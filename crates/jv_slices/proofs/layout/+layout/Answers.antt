@@ -3,7 +3,7 @@ use Rattle.std.specs.Option.{option_or}
 use Rattle.std.proofs.lemmas.List.{take-append-drop}
 use Rattle.std.proofs.lemmas.Result.{IfOk-weaker}
 use Rattle.jv_model.specs.declared.slice.Rec.{Rec}
-use Rattle.jv_model.specs.blocks.Slices.{visible}
+use Rattle.jv_model.specs.promise.blocks.Slices.{visible}
 use Rattle.jv_slices.specs.declared.layout.Stretch.{Stretch}
 use Rattle.jv_slices.specs.Stretches.{Shows, IsLayout}
 use Rattle.jv_slices.proofs.StretchLaws.{layout_same, visible-append}

@@ -1,6 +1,6 @@
 use Rattle.std.proofs.Common.{List, All, subst, arith}
 use Rattle.jv_model.specs.declared.slice.Rec.{Rec}
-use Rattle.jv_model.specs.blocks.Slices.{IsRecord}
+use Rattle.jv_model.specs.promise.blocks.Slices.{IsRecord}
 use Rattle.jv_slices.proofs.StretchLaws.{all_before}
 use Rattle.jv_slices.proofs.layout.+show_records.Goals as goal
 

@@ -1,5 +1,5 @@
 use Rattle.std.proofs.Common.{refl}
-use Rattle.jv_model.specs.blocks.Slices.{visible}
+use Rattle.jv_model.specs.promise.blocks.Slices.{visible}
 use Rattle.jv_slices.proofs.StretchLaws.{layout_none}
 use Rattle.jv_slices.proofs.layout.lay_few.Goals as goal
 

@@ -3,7 +3,7 @@ use Rattle.std.specs.Prelude.{All}
 use Rattle.std.proofs.lemmas.List.Elements.{All-filter}
 use Rattle.std.proofs.lemmas.Result.{IfOk-weaker}
 use Rattle.jv_model.specs.declared.slice.Rec.{Rec}
-use Rattle.jv_model.specs.blocks.Slices.{IsRecord, visible}
+use Rattle.jv_model.specs.promise.blocks.Slices.{IsRecord, visible}
 use Rattle.jv_slices.specs.Stretches.{IsLayout, touches}
 use Rattle.jv_slices.proofs.StretchLaws.{layout_in, visible-touching}
 use Rattle.jv_slices.proofs.layout.show_range.Goals as goal

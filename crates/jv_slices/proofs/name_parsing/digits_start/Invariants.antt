@@ -1,5 +1,5 @@
 use Rattle.std.proofs.Common.{◌≡◌, ℕ, ◌<◌, ◌≤◌, true, length, get_or}
-use Rattle.jv_model.specs.script.Spelling.{is_decimal_digit}
+use Rattle.jv_model.specs.promise.script.Spelling.{is_decimal_digit}
 use Rattle.jv_slices.proofs.name_parsing.digits_start.Given as goal
 
 abbrev pub invariant-loop-start : goal.invariant-loop-start

@@ -1,7 +1,7 @@
 use Rattle.std.proofs.Common.{◌≡◌, ◌++◌, ◌∙◌, Some, None, sym, ap, codes, arith, refl, subst}
 use Rattle.std.proofs.lemmas.Bool.{false≢true}
 use Rattle.jv_model.specs.declared.slice.BlockId.{BlockId}
-use Rattle.jv_model.specs.blocks.BlockNames.{IsBlock, IsBlockName}
+use Rattle.jv_model.specs.promise.blocks.BlockNames.{IsBlock, IsBlockName}
 use Rattle.jv_slices.proofs.NameLaws.{folder_of, name_numbers, none_exactly, folder_is, volume_is, volume_name_is, spelled_from}
 use Rattle.jv_slices.proofs.name_parsing.parse_block_name.Goals as goal
 use Rattle.jv_slices.proofs.name_parsing.parse_block_name.Goals.{else-is_same-via-then-is_same+else-is_block, else-is_same-via-else-is_same}

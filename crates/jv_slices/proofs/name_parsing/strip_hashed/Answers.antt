@@ -1,7 +1,7 @@
 use Rattle.std.proofs.Common.{◌≡◌, ◌≢◌, ℕ, List, ◌++◌, ◌/◌, ◌%◌, codes, subst}
 use Rattle.std.specs.Prelude.{MatchOption}
 use Rattle.std.specs.Fmt.{decimal}
-use Rattle.jv_model.specs.blocks.BlockNames.{upper_pair}
+use Rattle.jv_model.specs.promise.blocks.BlockNames.{upper_pair}
 use Rattle.jv_slices.proofs.NameEndLaws.{match_none, lacks_last, lacks_mid, ends_three}
 use Rattle.jv_slices.proofs.name_parsing.strip_hashed.Goals as goal
 

@@ -1,6 +1,6 @@
 use Rattle.std.proofs.Common.{◌≡◌, List, ap, ◌∙◌, sym}
 use Rattle.jv_model.specs.declared.slice.Rec.{Rec}
-use Rattle.jv_model.specs.blocks.Slices.{visible}
+use Rattle.jv_model.specs.promise.blocks.Slices.{visible}
 use Rattle.jv_slices.proofs.PlanLaws.{seen_fits}
 use Rattle.jv_slices.proofs.plans.byte_at.Goals as goal
 

@@ -3,7 +3,8 @@ use Rattle.std.specs.Prelude.{All}
 use Rattle.std.proofs.lemmas.List.{append-nil}
 use Rattle.std.proofs.lemmas.List.Elements.{All-push}
 use Rattle.jv_model.specs.declared.slice.Piece.{Piece}
-use Rattle.jv_model.specs.blocks.Slices.{IsPart, IsPlan, IsAsStored, visible}
+use Rattle.jv_model.specs.blocks.Slices.{IsPart, IsPlan, IsAsStored}
+use Rattle.jv_model.specs.promise.blocks.Slices.{visible}
 use Rattle.jv_slices.specs.declared.layout.Stretch.{Stretch}
 use Rattle.jv_slices.specs.Stretches.{IsSeen, Shows, Turns, Differ, piece_of}
 use Rattle.jv_slices.specs.Shown.{IsOfRecord, EndsBy}

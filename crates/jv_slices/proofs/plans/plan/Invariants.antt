@@ -1,7 +1,8 @@
 use Rattle.std.proofs.Common.{◌++◌, List, drop}
 use Rattle.std.specs.Prelude.{All}
 use Rattle.jv_model.specs.declared.slice.Piece.{Piece}
-use Rattle.jv_model.specs.blocks.Slices.{IsPart, IsPlan, IsAsStored, visible}
+use Rattle.jv_model.specs.blocks.Slices.{IsPart, IsPlan, IsAsStored}
+use Rattle.jv_model.specs.promise.blocks.Slices.{visible}
 use Rattle.jv_slices.specs.Stretches.{Shows, Differ}
 use Rattle.jv_slices.specs.Shown.{IsOfRecord, EndsBy}
 use Rattle.jv_slices.proofs.plans.plan.Given as goal

@@ -2,7 +2,8 @@ use Rattle.std.proofs.Common.{◌≡◌, ℕ, ◌+◌, ◌-◌, ◌/◌, ◌%◌
 use Rattle.std.proofs.lemmas.Nat.{div-add-mod', mod_below}
 use Rattle.jv_model.specs.declared.slice.BlockId.{BlockId}
 use Rattle.jv_model.specs.declared.slice.Spot.{Spot}
-use Rattle.jv_model.specs.blocks.Slices.{LiesIn, block_at, block_length, place_after}
+use Rattle.jv_model.specs.blocks.Slices.{LiesIn, place_after}
+use Rattle.jv_model.specs.promise.blocks.Slices.{block_at, block_length}
 use Rattle.jv_slices_reading.specs.declared.copying.Overlap.{Overlap}
 use Rattle.jv_slices_reading.specs.Overlaps.{HasOverlaps, overlaps_at}
 use Rattle.jv_slices_reading.proofs.OverlapLaws.{has_more, has_zeros, slice_overlap}

@@ -3,7 +3,8 @@ use Rattle.std.specs.Prelude.{All}
 use Rattle.std.proofs.lemmas.List.{drop_all, drop_more}
 use Rattle.jv_model.specs.declared.slice.Piece.{Piece}
 use Rattle.jv_model.specs.declared.slice.Spot.TheVariants.{Zero}
-use Rattle.jv_model.specs.blocks.Slices.{IsPlan, IsAsStored, stored_place}
+use Rattle.jv_model.specs.blocks.Slices.{IsPlan, IsAsStored}
+use Rattle.jv_model.specs.promise.blocks.Slices.{stored_place}
 use Rattle.jv_slices_reading.specs.Overlaps.{HasOverlaps, overlaps_at}
 use Rattle.jv_slices_reading.proofs.OverlapLaws.{IsLaid, has_none, laid_more, laid_end}
 use Rattle.jv_slices_reading.proofs.table.table_of.Goals as goal

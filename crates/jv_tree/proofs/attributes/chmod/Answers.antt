@@ -1,7 +1,7 @@
 use Rattle.std.proofs.Common.{ℕ, ap, sym, subst, ◌∙◌}
 use Rattle.jv_model.specs.declared.row.Node.{Node as NodeRow}
-use Rattle.jv_model.specs.tree.Reading.{chmod}
-use Rattle.jv_model.specs.tree.Tree.{Node}
+use Rattle.jv_model.specs.promise.tree.Reading.{chmod}
+use Rattle.jv_model.specs.promise.tree.Tree.{Node}
 use Rattle.jv_tree.proofs.AttributeLaws.{IsChanged, changed-mode, chmod-is, attributes-exit, attributes-done}
 use Rattle.jv_tree.proofs.attributes.chmod.Goals as goal
 

@@ -2,10 +2,10 @@ use Rattle.std.proofs.Common.{ℕ, sym, ap, ◌∙◌}
 use Rattle.std.proofs.lemmas.Result.{err_from_is_err_and}
 use Rattle.jv_model.specs.declared.op.Reply.TheVariants.{FileOpened}
 use Rattle.jv_model.specs.declared.row.Node.{Node}
-use Rattle.jv_model.specs.tree.Attempt.{◌>>=◌}
-use Rattle.jv_model.specs.tree.Making as model
-use Rattle.jv_model.specs.tree.Tree.{File}
-use Rattle.jv_model.specs.tree.Changes.{empty_content}
+use Rattle.jv_model.specs.promise.tree.Attempt.{◌>>=◌}
+use Rattle.jv_model.specs.promise.tree.Making as model
+use Rattle.jv_model.specs.promise.tree.Tree.{File}
+use Rattle.jv_model.specs.promise.tree.Changes.{empty_content}
 use Rattle.jv_tree.specs.Entering.{EmptyFile, new_row, enter}
 use Rattle.jv_tree.proofs.MakeLaws.{make-no_session, make-session, make-no_place, make-enters, create-is}
 use Rattle.jv_tree.proofs.making.create.Goals as goal

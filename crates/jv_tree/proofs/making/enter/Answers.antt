@@ -2,7 +2,7 @@ use Rattle.std.proofs.Common.{sym, ap, subst, ◌∙◌}
 use Rattle.std.specs.Prelude.{IsTrue}
 use Rattle.std.proofs.lemmas.Result.{err_from_is_err_and}
 use Rattle.jv_model.specs.declared.row.Node.{Node}
-use Rattle.jv_model.specs.rows.RowGrammar.{is_node}
+use Rattle.jv_model.specs.promise.rows.RowGrammar.{is_node}
 use Rattle.jv_tree.proofs.EnterLaws.{was_drafted, enter-no_setting, enter-no_counters, enter-no_room, enter-no_link, enter-commits}
 use Rattle.jv_tree.proofs.making.enter.Goals as goal
 

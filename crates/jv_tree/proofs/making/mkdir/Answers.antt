@@ -2,9 +2,9 @@ use Rattle.std.proofs.Common.{ℕ, sym, ap, ◌∙◌}
 use Rattle.std.proofs.lemmas.Result.{err_from_is_err_and}
 use Rattle.jv_model.specs.declared.op.Reply.TheVariants.{Found}
 use Rattle.jv_model.specs.declared.row.Node.{Node}
-use Rattle.jv_model.specs.tree.Attempt.{◌>>=◌}
-use Rattle.jv_model.specs.tree.Making as model
-use Rattle.jv_model.specs.tree.Tree.{Directory}
+use Rattle.jv_model.specs.promise.tree.Attempt.{◌>>=◌}
+use Rattle.jv_model.specs.promise.tree.Making as model
+use Rattle.jv_model.specs.promise.tree.Tree.{Directory}
 use Rattle.jv_tree.specs.Entering.{DirectoryIn, new_row, enter}
 use Rattle.jv_tree.proofs.MakeLaws.{make-no_session, make-session, make-no_place, make-enters, mkdir-is}
 use Rattle.jv_tree.proofs.making.mkdir.Goals as goal

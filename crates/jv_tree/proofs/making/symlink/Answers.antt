@@ -6,9 +6,9 @@ use Rattle.jv_model.specs.declared.limits.TheConstants.{MAX_PATH, FULL_MODE}
 use Rattle.jv_model.specs.declared.fault.Fault.TheVariants.{NameTooLong}
 use Rattle.jv_model.specs.declared.op.Reply.TheVariants.{Found}
 use Rattle.jv_model.specs.declared.row.Node.{Node}
-use Rattle.jv_model.specs.tree.Attempt.{◌>>=◌, require}
-use Rattle.jv_model.specs.tree.Making as model
-use Rattle.jv_model.specs.tree.Tree.{Tree, Symlink}
+use Rattle.jv_model.specs.promise.tree.Attempt.{◌>>=◌, require}
+use Rattle.jv_model.specs.promise.tree.Making as model
+use Rattle.jv_model.specs.promise.tree.Tree.{Tree, Symlink}
 use Rattle.jv_tree.specs.Entering.{LinkTo, new_row, enter}
 use Rattle.jv_tree.proofs.MakeLaws.{make-no_session, make-session, make-no_place, make-passes, make-refused, make-enters, symlink-is}
 use Rattle.jv_tree.proofs.making.symlink.Goals as goal

@@ -2,11 +2,11 @@ use Rattle.std.proofs.Common.{List, None, Some, Result, Ok, Err, Option, ap, ref
 use Rattle.jv_model.specs.declared.fault.RowFault.{RowFault}
 use Rattle.jv_model.specs.declared.row.Node.{Node}
 use Rattle.jv_model.specs.declared.row.Row.TheVariants.{OfNode}
-use Rattle.jv_model.specs.rows.RowGrammar.{is_node}
-use Rattle.jv_model.specs.rows.RowPlaces.{node_key}
+use Rattle.jv_model.specs.promise.rows.RowGrammar.{is_node}
+use Rattle.jv_model.specs.promise.rows.RowPlaces.{node_key}
 use Rattle.jv_outside.specs.declared.batch.Change.{Change}
 use Rattle.jv_rows.specs.Drafts.{Sees}
-use Rattle.jv_rows.proofs.TransactionLaws.{seen-fresh}
+use Rattle.jv_rows.proofs.transactions.TransactionLaws.{seen-fresh}
 use Rattle.jv_tree.proofs.ReadingLaws.{fstat-exit, fstat-unread, fstat-there, fstat-gone}
 use Rattle.jv_tree.proofs.reading.fstat.Goals as goal
 

@@ -1,11 +1,11 @@
 use Rattle.std.proofs.Common.{ℕ, false}
 use Rattle.jv_model.specs.declared.op.Reply.TheVariants.{Found}
-use Rattle.jv_model.specs.tree.Caller.{answered}
-use Rattle.jv_model.specs.tree.Reading.{lookup}
-use Rattle.jv_model.specs.tree.Tree.{Tree}
+use Rattle.jv_model.specs.promise.tree.Caller.{answered}
+use Rattle.jv_model.specs.promise.tree.Reading.{lookup}
+use Rattle.jv_model.specs.promise.tree.Tree.{Tree}
 use Rattle.jv_rows.specs.Transactions.{Always}
-use Rattle.jv_rows.proofs.TransactionLaws.{transacts-answers}
-use Rattle.jv_rows.proofs.ArrivalLaws.{arrives, exit-session, exit-walk}
+use Rattle.jv_rows.proofs.transactions.TransactionLaws.{transacts-answers}
+use Rattle.jv_rows.proofs.walks.ArrivalLaws.{arrives, exit-session, exit-walk}
 use Rattle.jv_tree.proofs.ReadingLaws.{begins-lookup}
 use Rattle.jv_tree.proofs.reading.lookup.Goals as goal
 

@@ -1,8 +1,8 @@
 use Rattle.std.proofs.Common.{true, sym, ◌∙◌}
 use Rattle.jv_model.specs.declared.op.Reply.TheVariants.{FileOpened}
-use Rattle.jv_model.specs.tree.Reading.{open_file}
+use Rattle.jv_model.specs.promise.tree.Reading.{open_file}
 use Rattle.jv_rows.specs.Transactions.{Always}
-use Rattle.jv_rows.proofs.ArrivalLaws.{exit-session, exit-walk}
+use Rattle.jv_rows.proofs.walks.ArrivalLaws.{exit-session, exit-walk}
 use Rattle.jv_tree.specs.Attributes.{kind_in}
 use Rattle.jv_tree.proofs.ReadingLaws.{opened_at, begins-open, opens, opens-directory, other-directory}
 use Rattle.jv_tree.proofs.reading.open_node.Goals as goal

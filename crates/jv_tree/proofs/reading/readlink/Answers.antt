@@ -1,8 +1,8 @@
 use Rattle.std.proofs.Common.{false, sym, ◌∙◌}
 use Rattle.jv_model.specs.declared.op.Reply.TheVariants.{Target}
-use Rattle.jv_model.specs.tree.Reading.{readlink}
+use Rattle.jv_model.specs.promise.tree.Reading.{readlink}
 use Rattle.jv_rows.specs.Transactions.{Always}
-use Rattle.jv_rows.proofs.ArrivalLaws.{exit-session, exit-walk}
+use Rattle.jv_rows.proofs.walks.ArrivalLaws.{exit-session, exit-walk}
 use Rattle.jv_tree.specs.Attributes.{kind_in}
 use Rattle.jv_tree.proofs.ReadingLaws.{target_answered, begins-readlink, reads-target, reads-no-target, other-symlink}
 use Rattle.jv_tree.proofs.reading.readlink.Goals as goal

@@ -1,7 +1,7 @@
 use Rattle.jv_model.specs.declared.op.Reply.TheVariants.{Described}
-use Rattle.jv_model.specs.tree.Reading.{stat, lstat, described}
+use Rattle.jv_model.specs.promise.tree.Reading.{stat, lstat, described}
 use Rattle.jv_rows.specs.Transactions.{Always}
-use Rattle.jv_rows.proofs.ArrivalLaws.{exit-session, exit-walk}
+use Rattle.jv_rows.proofs.walks.ArrivalLaws.{exit-session, exit-walk}
 use Rattle.jv_tree.proofs.ReadingLaws.{begins-stat_by, begins-lstat_by, describes}
 use Rattle.jv_tree.proofs.reading.stat.Goals as goal
 

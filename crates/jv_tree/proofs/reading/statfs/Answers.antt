@@ -1,8 +1,8 @@
 use Rattle.std.proofs.Common.{Ok, Err, refl}
 use Rattle.jv_model.specs.declared.row.Row.TheVariants.{OfSetting, OfCounters}
-use Rattle.jv_model.specs.rows.RowGrammar.{is_setting, is_counters}
-use Rattle.jv_model.specs.rows.RowPlaces.{setting_key, counters_key}
-use Rattle.jv_rows.proofs.NeedingLaws.{needs-fresh}
+use Rattle.jv_model.specs.promise.rows.RowGrammar.{is_setting, is_counters}
+use Rattle.jv_model.specs.promise.rows.RowPlaces.{setting_key, counters_key}
+use Rattle.jv_rows.proofs.transactions.NeedingLaws.{needs-fresh}
 use Rattle.jv_tree.proofs.ReadingLaws.{statfs-exit, statfs-no_setting, statfs-no_counters, statfs-answers}
 use Rattle.jv_tree.proofs.reading.statfs.Goals as goal
 

@@ -3,8 +3,8 @@ use Rattle.std.proofs.Common.{◌+◌, ◌∙◌, ap, subst, arith}
 use Rattle.std.specs.Prelude.{unwrap_or}
 use Rattle.std.proofs.lemmas.List.{length_push}
 use Rattle.std.proofs.lemmas.Option.{slice_get_past}
-use Rattle.jv_model.specs.FiniteMap.{empty_map}
-use Rattle.jv_yard.specs.Starting.{IsFound}
+use Rattle.jv_model.specs.promise.FiniteMap.{empty_map}
+use Rattle.jv_yard.specs.promise.Starting.{IsFound}
 use Rattle.jv_yard.proofs.PageLaws.{clients-more}
 use Rattle.jv_yard.proofs.finding.find_staged.Goals as goal
 

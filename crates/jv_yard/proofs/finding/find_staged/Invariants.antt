@@ -1,6 +1,6 @@
 use Rattle.std.proofs.Common.{◌≡◌, ◌<◌, ℕ, length}
 use Rattle.jv_yard.specs.Staging.{by_client}
-use Rattle.jv_yard.specs.Starting.{IsFound}
+use Rattle.jv_yard.specs.promise.Starting.{IsFound}
 use Rattle.jv_yard.proofs.finding.find_staged.Given as goal
 
 abbrev pub invariant-loop-c : goal.invariant-loop-c

@@ -1,5 +1,5 @@
 use Rattle.std.proofs.Common.{sym, subst, IsTrue, is_some, ◌↔◌}
-use Rattle.jv_yard.specs.YardValue.{NamesBlock}
+use Rattle.jv_yard.specs.promise.YardValue.{NamesBlock}
 use Rattle.jv_yard.proofs.StagingLaws.{named_exactly}
 use Rattle.jv_yard.proofs.finding.is_block_name.Goals as goal
 

@@ -2,8 +2,8 @@
 use Rattle.std.proofs.Common.{subst}
 use Rattle.std.specs.Prelude.{IfSome}
 use Rattle.jv_client.specs.Flushing.{NextOf}
-use Rattle.jv_client.proofs.AfterFlushLaws.{follows-answer, follows-request, follows-segment, follows-write, none_left}
-use Rattle.jv_client.proofs.AfterFlushLaws.{some_left}
+use Rattle.jv_client.proofs.flushes.AfterFlushLaws.{follows-answer, follows-request, follows-segment, follows-write, none_left}
+use Rattle.jv_client.proofs.flushes.AfterFlushLaws.{some_left}
 use Rattle.jv_client.proofs.client.Client.after_commit.Goals as goal
 use Rattle.std.proofs.Common.{refl}
 

@@ -1,12 +1,12 @@
 -- What is looked up is what the views of the operation's handle show, and the cache has the entries that it had.
 use Rattle.std.proofs.Common.{◌≡◌, ◌∙◌, List, Option, Some, ap, subst, sym}
 use Rattle.std.specs.Option.{option_copied}
-use Rattle.jv_model.specs.client.ModelClient.{file_of}
+use Rattle.jv_model.specs.promise.client.ModelClient.{file_of}
 use Rattle.jv_client_handles.specs.declared.handle.Handle.{Handle}
 use Rattle.jv_client.specs.ClientValue.{ClientValue}
 use Rattle.jv_client.specs.Reading.{OnlyLooksUp, came}
-use Rattle.jv_client.proofs.LimitsLaws.{limits-looked}
-use Rattle.jv_client.proofs.LooksLaws.{only-looks}
+use Rattle.jv_client.proofs.held.LimitsLaws.{limits-looked}
+use Rattle.jv_client.proofs.reads.LookedUpLaws.{only-looks}
 use Rattle.jv_client.proofs.client.Client.ahead.Goals as goal
 
 pub invariant_of-self : goal.invariant_of-self

@@ -1,8 +1,8 @@
 -- The request of a segment's number is allowed, and where it leads.
 use Rattle.std.proofs.Common.{ap}
 use Rattle.jv_model.specs.declared.basics.Who.{Who}
-use Rattle.jv_client.specs.Shared.{shared}
-use Rattle.jv_client.proofs.FlushLaws.{number-asked, number-unmade}
+use Rattle.jv_client.specs.promise.Shared.{shared}
+use Rattle.jv_client.proofs.flushes.FlushLaws.{number-asked, number-unmade}
 use Rattle.jv_client.proofs.client.Client.ask_number.Goals as goal
 
 pub returns-in-Ok : goal.returns-in-Ok

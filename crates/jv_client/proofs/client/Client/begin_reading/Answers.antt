@@ -5,7 +5,7 @@ use Rattle.jv_cache.specs.Cached.{Cached}
 use Rattle.jv_client.specs.declared.doing.Progress.TheVariants.{Reading}
 use Rattle.jv_client.specs.ClientValue.{ClientValue}
 use Rattle.jv_client.specs.Reading.{IsCachedAs, IsMade, put_at}
-use Rattle.jv_client.proofs.ReadingLaws.{ahead-cached, begins-none, begins-some, same-cached}
+use Rattle.jv_client.proofs.reads.ReadingLaws.{ahead-cached, begins-none, begins-some, same-cached}
 use Rattle.jv_client.proofs.client.Client.begin_reading.Goals as goal
 use Rattle.jv_model.proofs.TestLaws.{on_err}
 

@@ -4,12 +4,12 @@ use Rattle.std.specs.Prelude.{IfSome}
 use Rattle.jv_client.specs.declared.doing.Doing.{Doing}
 use Rattle.jv_client.specs.ClientValue.{ClientValue}
 use Rattle.jv_client.specs.Changing.{TriesChange}
-use Rattle.jv_client.specs.Shared.{shared}
+use Rattle.jv_client.specs.promise.Shared.{shared}
 use Rattle.jv_client.specs.Ending.{told_here}
 use Rattle.jv_model_steps.specs.Stages.{changes_files}
 use Rattle.jv_client.specs.UnderWay.{ClosesOpen}
-use Rattle.jv_client.proofs.ChangingLaws.{blind}
-use Rattle.jv_client.proofs.ChangedLaws.{change-made, change-unmade, closes-blind, may-try}
+use Rattle.jv_client.proofs.steps.FileChangeLaws.{blind}
+use Rattle.jv_client.proofs.steps.ChangeCallLaws.{change-made, change-unmade, closes-blind, may-try}
 use Rattle.jv_client.proofs.client.Client.change.Goals as goal
 
 pub try_change-tried-requires : goal.try_change-tried-requires

@@ -1,5 +1,5 @@
 -- A close without a transaction is answered at once.
-use Rattle.jv_client.specs.Shared.{shared}
+use Rattle.jv_client.specs.promise.Shared.{shared}
 use Rattle.jv_client.proofs.client.Client.close.Goals as goal
 
 pub returns-else-is_last : goal.returns-else-is_last

@@ -4,10 +4,10 @@ use Rattle.std.specs.Prelude.{IfSome}
 use Rattle.jv_pending.specs.At.{segment_at}
 use Rattle.jv_client.specs.declared.doing.Progress.TheVariants.{Working}
 use Rattle.jv_client.specs.Flushing.{Follows}
-use Rattle.jv_client.specs.Shared.{shared}
-use Rattle.jv_client.proofs.CommitCallLaws.{closes-still, commits-as, committed-call, unasked-call, unmade-call}
-use Rattle.jv_client.proofs.CommitLaws.{record_for}
-use Rattle.jv_client.proofs.WaitingLaws.{next-after}
+use Rattle.jv_client.specs.promise.Shared.{shared}
+use Rattle.jv_client.proofs.flushes.CommitCallLaws.{closes-still, commits-as, committed-call, unasked-call, unmade-call}
+use Rattle.jv_client.proofs.flushes.CommitLaws.{record_for}
+use Rattle.jv_client.proofs.writes.WaitingLaws.{next-after}
 use Rattle.jv_client.proofs.client.Client.commit.Goals as goal
 
 pub returns-in_default : goal.returns-in_default

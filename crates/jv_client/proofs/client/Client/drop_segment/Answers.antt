@@ -1,10 +1,10 @@
 -- The segment's bytes and the others are all that was pending.
 use Rattle.std.proofs.Common.{length, ap, arith}
-use Rattle.jv_model.specs.client.Pending.{without_range}
+use Rattle.jv_model.specs.promise.client.Pending.{without_range}
 use Rattle.jv_pending.specs.At.{segment_at}
 use Rattle.jv_pending.specs.Held.{PendingValue}
 use Rattle.jv_client.specs.ClientValue.{ClientValue}
-use Rattle.jv_client.proofs.WithoutLaws.{length-parted}
+use Rattle.jv_client.proofs.held.CommittedSegmentLaws.{length-parted}
 use Rattle.jv_client.proofs.client.Client.drop_segment.Goals as goal
 
 pub returns-clause-fewer : goal.returns-clause-fewer

@@ -1,7 +1,7 @@
 -- It is answered alone.
 use Rattle.std.proofs.Common.{refl}
-use Rattle.jv_client.proofs.AtOnceLaws.{end_at_once}
-use Rattle.jv_client.proofs.StatsLaws.{stats-other}
+use Rattle.jv_client.proofs.steps.AnsweredAtOnceLaws.{end_at_once}
+use Rattle.jv_client.proofs.held.StatsLaws.{stats-other}
 use Rattle.jv_client.proofs.client.Client.end_at_once.Goals as goal
 
 pub returns-clause-made : goal.returns-clause-made

@@ -1,7 +1,7 @@
 -- The next request of a segment is one for its number, for a block, or its commit.
 use Rattle.std.proofs.Common.{◌<◌, subst, arith}
 use Rattle.jv_model.specs.declared.setting.Setting.{Setting}
-use Rattle.jv_model.specs.blocks.Slices.{block_count}
+use Rattle.jv_model.specs.promise.blocks.Slices.{block_count}
 use Rattle.jv_client.proofs.client.Client.flush_on.Goals as goal
 
 pub returns-then-upload-eq0 : goal.returns-then-upload-eq0

@@ -1,7 +1,7 @@
 -- The block didn't come, or memory ran out after it, or the reading goes on with its bytes or is answered.
-use Rattle.jv_client.specs.Shared.{shared}
+use Rattle.jv_client.specs.promise.Shared.{shared}
 use Rattle.jv_client.specs.contracts.client.Client.{the_view}
-use Rattle.jv_client.proofs.AskCallLaws.{gets-came, gets-lost, gets-missed, gets-none, open_then}
+use Rattle.jv_client.proofs.reads.AskCallLaws.{gets-came, gets-lost, gets-missed, gets-none, open_then}
 use Rattle.jv_client.proofs.client.Client.get.Goals as goal
 
 pub returns-in-Err : goal.returns-in-Err

@@ -5,12 +5,12 @@ use Rattle.jv_data.specs.declared.looking.View.{View as Looked}
 use Rattle.jv_data.specs.Records.{LooksAt}
 use Rattle.jv_client_handles.specs.Handles.{inode_here}
 use Rattle.jv_client.specs.ClientValue.{ClientValue}
-use Rattle.jv_client.specs.Shared.{shared}
+use Rattle.jv_client.specs.promise.Shared.{shared}
 use Rattle.jv_client.specs.Reading.{came, fetch_in}
 use Rattle.jv_client.specs.contracts.client.Client.{the_view}
-use Rattle.jv_client.proofs.AskCallLaws.{back_as, if_err, if_ok, looks-came, looks-full, looks-lost, looks-unmade}
-use Rattle.jv_client.proofs.AskCallLaws.{mid_looked, open_after, open_looked}
-use Rattle.jv_client.proofs.LookLaws.{view_of}
+use Rattle.jv_client.proofs.reads.AskCallLaws.{back_as, if_err, if_ok, looks-came, looks-full, looks-lost, looks-unmade}
+use Rattle.jv_client.proofs.reads.AskCallLaws.{mid_looked, open_after, open_looked}
+use Rattle.jv_client.proofs.reads.LookLaws.{view_of}
 use Rattle.jv_client.proofs.client.Client.look.Goals as goal
 
 pub returns-in-Err : goal.returns-in-Err

@@ -3,8 +3,8 @@ use Rattle.std.proofs.Common.{Some, refl, sym, ap, ◌∙◌}
 use Rattle.std.specs.Option.{option_map}
 use Rattle.jv_model.specs.declared.profile.Does.TheVariants.{Reads, Releases}
 use Rattle.jv_pending.specs.At.{segment_at}
-use Rattle.jv_client.proofs.ReadingLaws.{ahead-already}
-use Rattle.jv_client.proofs.StatsLaws.{stats-does, stats-flushing, stats-reading, stats-told}
+use Rattle.jv_client.proofs.reads.ReadingLaws.{ahead-already}
+use Rattle.jv_client.proofs.held.StatsLaws.{stats-does, stats-flushing, stats-reading, stats-told}
 use Rattle.jv_client.proofs.client.Client.make.Goals as goal
 
 pub returns-in-Some-segment_left-clause-made : goal.returns-in-Some-segment_left-clause-made

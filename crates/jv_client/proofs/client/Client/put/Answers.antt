@@ -6,7 +6,7 @@ use Rattle.jv_pending.specs.At.{segment_at}
 use Rattle.jv_client.specs.ClientValue.{ClientValue}
 use Rattle.jv_client.specs.Flushing.{bytes_of}
 use Rattle.jv_client.specs.Transacting.{Fails}
-use Rattle.jv_client.proofs.PutBlockLaws.{block-put, block-unput, put-numbered}
+use Rattle.jv_client.proofs.flushes.PutBlockLaws.{block-put, block-unput, put-numbered}
 use Rattle.jv_client.proofs.client.Client.put.Goals as goal
 use Rattle.jv_client.proofs.client.Client.put.Goals.{then-quiets-eq1, else-quiets-eq1}
 

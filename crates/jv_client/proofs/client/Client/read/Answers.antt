@@ -1,7 +1,7 @@
 -- The next request of a reading, or its answer where it needs none.
 use Rattle.std.proofs.Common.{ap}
 use Rattle.jv_model.specs.declared.setting.Setting.{Setting}
-use Rattle.jv_client.proofs.ShowLaws.{begun-ahead, begun-fails, begun-shows}
+use Rattle.jv_client.proofs.reads.ShowLaws.{begun-ahead, begun-fails, begun-shows}
 use Rattle.jv_client.proofs.client.Client.read.Goals as goal
 
 pub returns-in-Ok-Some : goal.returns-in-Ok-Some

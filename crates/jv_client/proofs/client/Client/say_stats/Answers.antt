@@ -10,8 +10,8 @@ use Rattle.jv_client.specs.ClientValue.{ClientValue}
 use Rattle.jv_client.specs.Ending.{ended}
 use Rattle.jv_client.specs.Stats.{numbers_in}
 use Rattle.jv_client.specs.UnderWay.{says_stats}
-use Rattle.jv_client.proofs.AnswerLaws.{makes-as}
-use Rattle.jv_client.proofs.AtOnceLaws.{stats_told}
+use Rattle.jv_client.proofs.steps.AnswerLaws.{makes-as}
+use Rattle.jv_client.proofs.steps.AnsweredAtOnceLaws.{stats_told}
 use Rattle.jv_client.proofs.client.Client.say_stats.Goals as goal
 
 pub returns-clause-made : goal.returns-clause-made

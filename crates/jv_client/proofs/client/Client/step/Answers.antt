@@ -1,7 +1,7 @@
 -- The entries of a step are appended.
 use Rattle.std.proofs.Common.{ap, ◌∙◌, arith}
 use Rattle.jv_client.specs.ClientValue.{ClientValue}
-use Rattle.jv_client.proofs.StepOfLaws.{steps-of}
+use Rattle.jv_client.proofs.steps.StepOfLaws.{steps-of}
 use Rattle.jv_client.proofs.client.Client.step.Goals as goal
 
 pub returns : goal.returns

@@ -1,15 +1,15 @@
 -- The client in memory and the model's are refused alike, and begin alike.
 use Rattle.std.proofs.Common.{◌≡◌, ◌<◌, is_some, sym, ap, subst, ◌∙◌, Option, Some}
-use Rattle.jv_model.specs.client.Profile.{profile}
+use Rattle.jv_model.specs.promise.client.Profile.{profile}
 use Rattle.jv_model.specs.declared.profile.Profile.{Profile}
-use Rattle.jv_model.specs.client.ModelClient.{open_count}
-use Rattle.jv_model.specs.client.Submission.{submitted, submission_of, names_closed, by_limits}
+use Rattle.jv_model.specs.promise.client.ModelClient.{open_count}
+use Rattle.jv_model.specs.promise.client.Submission.{submitted, submission_of, names_closed, by_limits}
 use Rattle.jv_client.specs.declared.doing.Doing.{Doing}
 use Rattle.jv_client.specs.ClientValue.{ClientValue}
 use Rattle.jv_client.specs.Held.{IsClient, begun, flush_here}
 use Rattle.jv_client.specs.UnderWay.{IsReady, most_steps, steps_left}
-use Rattle.jv_client.proofs.ReadyLaws.{begun-ready, steps-bounded}
-use Rattle.jv_client.proofs.SubmissionLaws.{refusal-by, refusal-calm, begun-stands}
+use Rattle.jv_client.proofs.begun.ReadyLaws.{begun-ready, steps-bounded}
+use Rattle.jv_client.proofs.begun.SubmissionLaws.{refusal-by, refusal-calm, begun-stands}
 use Rattle.jv_client.proofs.client.Client.submit.Goals as goal
 
 pub returns-in-Some-clause-refusal : goal.returns-in-Some-clause-refusal

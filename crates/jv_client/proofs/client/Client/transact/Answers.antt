@@ -4,22 +4,22 @@ use Rattle.std.specs.Prelude.{IfSome}
 use Rattle.jv_model.specs.declared.act.ActKind.{ActKind}
 use Rattle.jv_model.specs.declared.act.ActKind.TheVariants.{Meta}
 use Rattle.jv_model.specs.declared.act.Told.{Told}
-use Rattle.jv_model.specs.journal.State.{gift_of}
-use Rattle.jv_model.specs.journal.Steps.{entry_of_gift, told_of}
-use Rattle.jv_client_shared.specs.Shared.{Shared}
+use Rattle.jv_model.specs.promise.journal.State.{gift_of}
+use Rattle.jv_model.specs.promise.journal.Steps.{entry_of_gift, told_of}
+use Rattle.jv_client_shared.specs.promise.Shared.{Shared}
 use Rattle.jv_client_handles.proofs.TableLaws.{the_some}
 use Rattle.jv_client.specs.declared.doing.Doing.{Doing}
 use Rattle.jv_client.specs.declared.made.Made.TheVariants.{Both}
 use Rattle.jv_client.specs.ClientValue.{ClientValue}
-use Rattle.jv_client.specs.Shared.{shared}
+use Rattle.jv_client.specs.promise.Shared.{shared}
 use Rattle.jv_client.specs.Ending.{ended, told_here}
 use Rattle.jv_client.specs.UnderWay.{ClosesOpen, asks_more, makes_transaction}
 use Rattle.jv_client.specs.Transacting.{EndsUnmade, answered_here, given_here, handles_given, session_given}
 use Rattle.jv_client.specs.Transacting.{sustained_with}
 use Rattle.jv_client.specs.contracts.client.Client.{the_view}
-use Rattle.jv_client.proofs.AnswerLaws.{makes-as, no_memory-makes}
-use Rattle.jv_client.proofs.DueLaws.{makes-one, one-tried}
-use Rattle.jv_client.proofs.TransactionLaws.{given-open, transaction-made, transaction-unmade}
+use Rattle.jv_client.proofs.steps.AnswerLaws.{makes-as, no_memory-makes}
+use Rattle.jv_client.proofs.begun.FirstRequestLaws.{makes-one, one-tried}
+use Rattle.jv_client.proofs.steps.TransactionLaws.{given-open, transaction-made, transaction-unmade}
 use Rattle.jv_client.proofs.client.Client.transact.Goals as goal
 
 -- a client whose tables are those of another

@@ -7,8 +7,8 @@ use Rattle.jv_client.specs.ClientValue.{ClientValue}
 use Rattle.jv_client.specs.Ending.{ended}
 use Rattle.jv_client.specs.UnderWay.{keeps}
 use Rattle.jv_client.specs.contracts.client.Client.{the_view}
-use Rattle.jv_client.proofs.AnswerLaws.{no_memory-makes}
-use Rattle.jv_client.proofs.WriteLaws.{may_keep, write_kept}
+use Rattle.jv_client.proofs.steps.AnswerLaws.{no_memory-makes}
+use Rattle.jv_client.proofs.writes.WriteLaws.{may_keep, write_kept}
 use Rattle.jv_client.proofs.client.Client.write.Goals as goal
 
 pub keep-kept-requires : goal.keep-kept-requires

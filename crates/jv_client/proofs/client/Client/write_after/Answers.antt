@@ -1,7 +1,7 @@
 -- All that is pending is this segment: then the write's bytes are all that is left.
 use Rattle.std.proofs.Common.{◌≡◌, length, Some, sym, ap, ◌∙◌, arith}
 use Rattle.jv_client.specs.ClientValue.{ClientValue}
-use Rattle.jv_client.proofs.WaitingLaws.{next-of_last}
+use Rattle.jv_client.proofs.writes.WaitingLaws.{next-of_last}
 use Rattle.jv_client.proofs.client.Client.write_after.Goals as goal
 
 pub returns : goal.returns

@@ -1,8 +1,8 @@
 use Rattle.std.proofs.Common.{◌≡◌, ◌<◌, length, Some, None, sym, ap, ◌∙◌, drop, arith}
 use Rattle.std.specs.List.{position}
 use Rattle.std.proofs.lemmas.List.{length-drop}
-use Rattle.jv_cmd.specs.Texts.{is_feed}
-use Rattle.jv_cmd.proofs.TextLaws.{position_after-none, position_after-some, position_within}
+use Rattle.jv_cmd.specs.promise.Texts.{is_feed}
+use Rattle.jv_cmd.proofs.asked.TextLaws.{position_after-none, position_after-some, position_within}
 use Rattle.jv_cmd.proofs.reader.LineReader.feed_after.Goals as goal
 
 found : (c : goal.In_ok-feed_in) → position is_feed (drop c.args.seen c.args.self.now) ≡ Some c.in_ok-feed_in.field-0

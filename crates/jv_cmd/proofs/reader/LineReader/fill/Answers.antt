@@ -1,7 +1,7 @@
 use Rattle.std.proofs.Common.{◌≡◌, ◌≤◌, ◌+◌, ◌-◌, ◌++◌, take, drop, length, ap, ◌∙◌, arith}
 use Rattle.std.proofs.lemmas.List.{length-take, length-drop}
 use Rattle.jv_model.specs.declared.limits.TheConstants.{MAX_LINE}
-use Rattle.jv_cmd.proofs.BufferLaws.{held_more}
+use Rattle.jv_cmd.proofs.streams.BufferLaws.{held_more}
 use Rattle.jv_cmd.proofs.reader.LineReader.fill.Goals as goal
 
 pub returns-clause-filled : goal.returns-clause-filled

@@ -3,8 +3,8 @@ use Rattle.std.specs.Io.KnownBytes.{prepend_known}
 use Rattle.std.proofs.lemmas.List.{take_at, length-append}
 use Rattle.jv_cmd.specs.Texts.{has_feed}
 use Rattle.jv_cmd.specs.Cutting.{Finds, Fills}
-use Rattle.jv_cmd.proofs.TextLaws.{no_feed}
-use Rattle.jv_cmd.proofs.CuttingLaws.{Keeps-same, Keeps-filled, Finds-feed, Finds-last, IsOverlong-held}
+use Rattle.jv_cmd.proofs.asked.TextLaws.{no_feed}
+use Rattle.jv_cmd.proofs.streams.CuttingLaws.{Keeps-same, Keeps-filled, Finds-feed, Finds-last, IsOverlong-held}
 use Rattle.jv_cmd.proofs.reader.LineReader.next.Goals as goal
 
 pub pieces-init : goal.pieces-init

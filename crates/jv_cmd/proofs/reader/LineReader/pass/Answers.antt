@@ -1,5 +1,5 @@
 use Rattle.std.proofs.Common.{◌+◌, ◌∙◌, drop, ap, arith}
-use Rattle.jv_cmd.proofs.BufferLaws.{held_past}
+use Rattle.jv_cmd.proofs.streams.BufferLaws.{held_past}
 use Rattle.jv_cmd.proofs.reader.LineReader.pass.Goals as goal
 
 pub returns : goal.returns

@@ -1,6 +1,6 @@
 use Rattle.std.proofs.Common.{◌≡◌, ◌+◌, ◌-◌, take, drop, length, ap, ◌∙◌, arith}
 use Rattle.std.proofs.lemmas.List.{length-take}
-use Rattle.jv_cmd.proofs.BufferLaws.{held_from}
+use Rattle.jv_cmd.proofs.streams.BufferLaws.{held_from}
 use Rattle.jv_cmd.proofs.reader.LineReader.rest.Goals as goal
 
 pub returns-clause-rest : goal.returns-clause-rest

@@ -1,5 +1,5 @@
 use Rattle.std.proofs.Common.{refl}
-use Rattle.jv_cmd.proofs.AppLaws.{adds, adds_last}
+use Rattle.jv_cmd.proofs.asked.AppLaws.{adds, adds_last}
 use Rattle.jv_cmd.proofs.words.program.with_staging.Goals as goal
 
 pub returns : goal.returns

@@ -1,4 +1,4 @@
-use Rattle.jv_cmd.proofs.ProgramLaws.{parsed, refused}
+use Rattle.jv_cmd.proofs.asked.ProgramLaws.{parsed, refused}
 use Rattle.jv_cmd.proofs.words.read.parse.Goals as goal
 
 pub returns-in-Ok : goal.returns-in-Ok

@@ -1,6 +1,6 @@
 use Rattle.std.proofs.Common.{◌∙◌}
 use Rattle.std.proofs.lemmas.Result.{err_from_is_err_and}
-use Rattle.jv_cmd.proofs.AskedLaws.{asked_of, off_words, refused_words, Refuses-own, Refuses-parsed}
+use Rattle.jv_cmd.proofs.asked.AskedLaws.{asked_of, off_words, refused_words, Refuses-own, Refuses-parsed}
 use Rattle.jv_cmd.proofs.words.read.read_words.Goals as goal
 
 pub returns-in_err-matches-clause-asked : goal.returns-in_err-matches-clause-asked

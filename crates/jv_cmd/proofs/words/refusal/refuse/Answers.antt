@@ -1,5 +1,5 @@
 use Rattle.std.proofs.Common.{List, ℕ, subst}
-use Rattle.jv_cmd.specs.Saying.{Says}
+use Rattle.jv_cmd.specs.promise.Saying.{Says}
 use Rattle.jv_cmd.proofs.words.refusal.refuse.Goals as goal
 
 pub returns-clause-says : goal.returns-clause-says

@@ -1,7 +1,7 @@
 use Rattle.std.proofs.Common.{◌*◌, ◌∙◌, arith, sym}
 use Rattle.std.proofs.lemmas.Grind.{common_steps}
-use Rattle.jv_cmd.specs.Values.{block_size_of}
-use Rattle.jv_cmd.proofs.ValuesLaws.{block_is_small, no_block}
+use Rattle.jv_cmd.specs.promise.Values.{block_size_of}
+use Rattle.jv_cmd.proofs.asked.ValuesLaws.{block_is_small, no_block}
 use Rattle.jv_cmd.proofs.words.values.block_size.Goals as goal
 
 pub returns-in_err-bytes : goal.returns-in_err-bytes

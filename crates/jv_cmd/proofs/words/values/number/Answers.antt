@@ -1,6 +1,6 @@
 use Rattle.std.proofs.Common.{◌+◌, ◌∙◌, arith, sym}
 use Rattle.std.proofs.lemmas.Grind.{pow_more}
-use Rattle.jv_cmd.proofs.ValuesLaws.{digit_at, power_few}
+use Rattle.jv_cmd.proofs.asked.ValuesLaws.{digit_at, power_few}
 use Rattle.jv_cmd.proofs.words.values.number.Goals as goal
 
 pub overflow_mul-number : goal.overflow_mul-number

@@ -1,5 +1,5 @@
 use Rattle.std.proofs.Common.{◌≡◌, ◌<◌, ◌^◌, take}
-use Rattle.jv_model.specs.script.Spelling.{value_of}
+use Rattle.jv_model.specs.promise.script.Spelling.{value_of}
 use Rattle.jv_cmd.proofs.words.values.number.Given as goal
 
 abbrev pub invariant-loop-digit : goal.invariant-loop-digit

@@ -1,7 +1,7 @@
 -- What the tree finds is what the blocks have.
 use Rattle.std.proofs.Common.{ℕ, Some, ap, sym, ◌∙◌}
-use Rattle.jv_model.specs.FiniteMap.{get, map_of}
-use Rattle.jv_outside.specs.Blocks.{staged_at, staged_key}
+use Rattle.jv_model.specs.promise.FiniteMap.{get, map_of}
+use Rattle.jv_outside.specs.promise.Blocks.{staged_at, staged_key}
 use Rattle.jv_outside.specs.StoredBlocks.{blocks_in}
 use Rattle.jv_outside.proofs.OverlaidLaws.{blocks-settled}
 use Rattle.jv_outside.proofs.StoredLaws.{get-lookup}

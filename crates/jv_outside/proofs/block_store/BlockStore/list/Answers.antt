@@ -3,7 +3,8 @@ use Rattle.std.proofs.Common.{ℕ, ◌==◌, ◌&&◌, List, filter, map, take, 
 use Rattle.std.specs.declared.ops.Bound.TheVariants.{Unbounded}
 use Rattle.std.specs.BTreeMap.Range.{entries_between}
 use Rattle.std.specs.Option.{option_copied}
-use Rattle.jv_outside.specs.Blocks.{names_after, staged_cmp, staged_key}
+use Rattle.jv_outside.specs.Blocks.{names_after}
+use Rattle.jv_outside.specs.promise.Blocks.{staged_cmp, staged_key}
 use Rattle.jv_outside.specs.Objects.{is_later}
 use Rattle.jv_outside.specs.StoredBlocks.{blocks_in, key_start}
 use Rattle.jv_outside.proofs.ListingLaws.{blocks-from}

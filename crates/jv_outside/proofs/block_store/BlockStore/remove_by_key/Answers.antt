@@ -1,7 +1,8 @@
 -- A block that is taken out of the tree is gone from the blocks.
 use Rattle.std.proofs.Common.{ℕ, None, ap, sym, ◌∙◌}
-use Rattle.jv_model.specs.FiniteMap.{map_of, remove}
-use Rattle.jv_outside.specs.Blocks.{key_of, bytes_of, staged_key, unstaged}
+use Rattle.jv_model.specs.promise.FiniteMap.{map_of, remove}
+use Rattle.jv_outside.specs.Blocks.{key_of, bytes_of, unstaged}
+use Rattle.jv_outside.specs.promise.Blocks.{staged_key}
 use Rattle.jv_outside.specs.Overlaid.{overlaid}
 use Rattle.jv_outside.specs.StoredBlocks.{blocks_in}
 use Rattle.jv_outside.proofs.OverlaidLaws.{blocks-settled}

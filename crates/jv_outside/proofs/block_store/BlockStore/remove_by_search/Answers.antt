@@ -3,9 +3,10 @@ use Rattle.std.proofs.Common.{ℕ, not, List, ap, ◌∙◌, rules}
 use Rattle.std.proofs.lemmas.Fn.{filter_same}
 use Rattle.std.proofs.lemmas.Map.Made.{filter_same_pairs}
 use Rattle.std.specs.Ordering.{eq_by_cmp}
-use Rattle.jv_model.specs.FiniteMap.{map_of}
+use Rattle.jv_model.specs.promise.FiniteMap.{map_of}
 use Rattle.jv_outside.specs.declared.object.Staged.{Staged}
-use Rattle.jv_outside.specs.Blocks.{key_of, bytes_of, staged_cmp, staged_key, unstaged}
+use Rattle.jv_outside.specs.Blocks.{key_of, bytes_of, unstaged}
+use Rattle.jv_outside.specs.promise.Blocks.{staged_cmp, staged_key}
 use Rattle.jv_outside.specs.Overlaid.{overlaid}
 use Rattle.jv_outside.specs.StoredBlocks.{blocks_in}
 use Rattle.jv_outside.proofs.OverlaidLaws.{overlaid-without, map_of-without}

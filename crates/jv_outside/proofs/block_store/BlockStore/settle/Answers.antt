@@ -1,7 +1,8 @@
 -- A block that is brought into order stays what the shelf has at its key.
 use Rattle.std.proofs.Common.{sym, ap, ◌∙◌}
-use Rattle.jv_model.specs.FiniteMap.{map_of}
-use Rattle.jv_outside.specs.Blocks.{key_of, bytes_of, staged_key}
+use Rattle.jv_model.specs.promise.FiniteMap.{map_of}
+use Rattle.jv_outside.specs.Blocks.{key_of, bytes_of}
+use Rattle.jv_outside.specs.promise.Blocks.{staged_key}
 use Rattle.jv_outside.specs.Overlaid.{overlaid}
 use Rattle.jv_outside.proofs.OverlaidLaws.{overlaid-moved}
 use Rattle.jv_outside.proofs.block_store.BlockStore.settle.Goals as goal

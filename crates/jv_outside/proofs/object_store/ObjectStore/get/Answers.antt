@@ -1,7 +1,7 @@
 -- What the tree finds is what the objects have.
 use Rattle.std.proofs.Common.{ℕ, List, Some, ap, sym, ◌∙◌}
 use Rattle.std.specs.Option.{option_map}
-use Rattle.jv_model.specs.FiniteMap.{get, text_key}
+use Rattle.jv_model.specs.promise.FiniteMap.{get, text_key}
 use Rattle.jv_outside.proofs.OverlaidLaws.{objects-settled}
 use Rattle.jv_outside.proofs.StoredLaws.{get-lookup}
 use Rattle.jv_outside.proofs.object_store.ObjectStore.get.Goals as goal

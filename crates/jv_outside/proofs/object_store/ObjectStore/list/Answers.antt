@@ -5,7 +5,7 @@ use Rattle.std.specs.BTreeMap.Range.{entries_between}
 use Rattle.std.specs.Cmp.Lexicographic.{slice_cmp}
 use Rattle.std.specs.Option.{option_copied}
 use Rattle.std.specs.Ordering.{nat_cmp}
-use Rattle.jv_model.specs.FiniteMap.{map_of, text_key}
+use Rattle.jv_model.specs.promise.FiniteMap.{map_of, text_key}
 use Rattle.jv_outside.specs.Objects.{as_seen, is_later, seen_after}
 use Rattle.jv_outside.proofs.ListingLaws.{objects-from}
 use Rattle.jv_outside.proofs.OverlaidLaws.{objects-settled}

@@ -1,6 +1,6 @@
 -- An object that is taken out of the tree is gone from the objects.
 use Rattle.std.proofs.Common.{None, ap, sym, ◌∙◌}
-use Rattle.jv_model.specs.FiniteMap.{map_of, remove, text_key}
+use Rattle.jv_model.specs.promise.FiniteMap.{map_of, remove, text_key}
 use Rattle.jv_outside.specs.LazyTrees.{entries_in}
 use Rattle.jv_outside.specs.Objects.{name_of, value_of}
 use Rattle.jv_outside.specs.Overlaid.{overlaid}

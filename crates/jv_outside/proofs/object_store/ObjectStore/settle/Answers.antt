@@ -1,6 +1,6 @@
 -- An object that is brought into the tree stays what the depot has at its name.
 use Rattle.std.proofs.Common.{sym, ap, ◌∙◌}
-use Rattle.jv_model.specs.FiniteMap.{map_of, text_key}
+use Rattle.jv_model.specs.promise.FiniteMap.{map_of, text_key}
 use Rattle.jv_outside.specs.LazyTrees.{entries_in}
 use Rattle.jv_outside.specs.Objects.{name_of, value_of}
 use Rattle.jv_outside.specs.Overlaid.{overlaid}

@@ -1,7 +1,7 @@
 -- What the tree finds is what the rows have.
 use Rattle.std.proofs.Common.{ap, sym, ◌∙◌, Some}
-use Rattle.jv_model.specs.FiniteMap.{get}
-use Rattle.jv_model.specs.rows.RowKeys.{row_key}
+use Rattle.jv_model.specs.promise.FiniteMap.{get}
+use Rattle.jv_model.specs.promise.rows.RowKeys.{row_key}
 use Rattle.jv_outside.proofs.StoredLaws.{stored-settled, get-lookup}
 use Rattle.jv_outside.proofs.store.RowStore.get.Goals as goal
 

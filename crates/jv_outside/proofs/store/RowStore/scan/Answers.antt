@@ -3,8 +3,8 @@ use Rattle.std.proofs.Common.{◌==◌, filter, take, take_while, sym, ap, ◌�
 use Rattle.std.specs.declared.ops.Bound.TheVariants.{Unbounded}
 use Rattle.std.specs.BTreeMap.Range.{entries_between}
 use Rattle.std.specs.Option.{option_copied}
-use Rattle.jv_model.specs.FiniteMap.{map_of}
-use Rattle.jv_model.specs.rows.RowKeys.{row_cmp, row_key}
+use Rattle.jv_model.specs.promise.FiniteMap.{map_of}
+use Rattle.jv_model.specs.promise.rows.RowKeys.{row_cmp, row_key}
 use Rattle.jv_outside.specs.Rows.{is_after, rows_after}
 use Rattle.jv_outside.specs.Stored.{scan_start}
 use Rattle.jv_outside.proofs.ScanLaws.{rows-from, list-map_of, if_ok_along}

@@ -1,9 +1,9 @@
 -- A row that is brought into the tree stays what the rows have at its key.
 use Rattle.std.proofs.Common.{◌++◌, sym, ap, ◌∙◌}
 use Rattle.jv_model.specs.rows.RowKeys.{row_map}
-use Rattle.jv_model.specs.rows.RowKeys.{row_key}
+use Rattle.jv_model.specs.promise.rows.RowKeys.{row_key}
 use Rattle.jv_outside.specs.LazyTrees.{entries_in}
-use Rattle.jv_outside.specs.Rows.{applied}
+use Rattle.jv_outside.specs.promise.Rows.{applied}
 use Rattle.jv_outside.proofs.StoredLaws.{map_of-moved, map_of-updated}
 use Rattle.jv_outside.proofs.store.RowStore.settle_listed.Goals as goal
 

@@ -1,5 +1,5 @@
 use Rattle.std.proofs.Common.{◌∙◌, ap, sym}
-use Rattle.jv_model.specs.client.Pending.{without_range, pending_of_others}
+use Rattle.jv_model.specs.promise.client.Pending.{without_range, pending_of_others}
 use Rattle.jv_pending.specs.At.{segment_at}
 use Rattle.jv_pending.specs.Held.{PendingValue}
 use Rattle.jv_pending.proofs.SegmentLaws.{own_segment, others_stay, others_all, none_of_others, no_end}

@@ -1,5 +1,5 @@
 use Rattle.std.proofs.Common.{◌≡◌, length}
-use Rattle.jv_model.specs.client.Pending.{pending_of_others}
+use Rattle.jv_model.specs.promise.client.Pending.{pending_of_others}
 use Rattle.jv_pending.proofs.pending.Pending.clear.Given as goal
 
 abbrev pub invariant-loop-at : goal.invariant-loop-at

@@ -1,6 +1,7 @@
 use Rattle.std.proofs.Common.{◌≡◌, ◌∙◌, true, length, ap, sym, subst}
 use Rattle.std.specs.Option.{option_copied}
-use Rattle.jv_model.specs.client.Pending.{first_segment, pending_of, bytes_in_range, is_rising}
+use Rattle.jv_model.specs.promise.client.Pending.{first_segment, pending_of, bytes_in_range}
+use Rattle.jv_model.specs.client.Pending.{is_rising}
 use Rattle.jv_pending.specs.At.{segment_at}
 use Rattle.jv_pending.specs.Held.{PendingValue}
 use Rattle.jv_pending.specs.Runs.{pending_bytes}

@@ -1,5 +1,5 @@
 use Rattle.std.proofs.Common.{◌≡◌, ◌∙◌, ℕ, List, is_some, length, ap, sym, subst, arith}
-use Rattle.jv_model.specs.client.Pending.{PendingByte, first_segment, pending_of, bytes_in_range, without_range}
+use Rattle.jv_model.specs.promise.client.Pending.{PendingByte, first_segment, pending_of, bytes_in_range, without_range}
 use Rattle.jv_pending.specs.At.{segment_at}
 use Rattle.jv_pending.specs.Held.{PendingValue}
 use Rattle.jv_pending.specs.Runs.{Run, InOrder, pending_bytes}

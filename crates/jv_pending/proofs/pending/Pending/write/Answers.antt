@@ -1,5 +1,6 @@
 use Rattle.std.proofs.Common.{◌≡◌, ◌∙◌, List, true, length, ap, subst, arith}
-use Rattle.jv_model.specs.client.Pending.{is_rising, pending_of_others}
+use Rattle.jv_model.specs.client.Pending.{is_rising}
+use Rattle.jv_model.specs.promise.client.Pending.{pending_of_others}
 use Rattle.jv_pending.specs.Held.{PendingValue}
 use Rattle.jv_pending.specs.Runs.{Run, InOrder, pending_bytes}
 use Rattle.jv_pending.proofs.ByteLaws.{written_length}

@@ -1,11 +1,11 @@
 use Rattle.std.proofs.Common.{◌≡◌, ℕ, List, [], ◌∷◌, ◌++◌, Option, None, Ok, Err, IsSome, ap, subst, sym}
 use Rattle.std.proofs.lemmas.Result.{err_from_is_err_and}
 use Rattle.jv_model.specs.declared.row.RowKey.{RowKey}
-use Rattle.jv_model.specs.rows.RowGrammar.{record_bytes, list_of}
-use Rattle.jv_model.specs.rows.RowPlaces.{list_key}
+use Rattle.jv_model.specs.promise.rows.RowGrammar.{record_bytes, list_of}
+use Rattle.jv_model.specs.promise.rows.RowPlaces.{list_key}
 use Rattle.jv_outside.specs.declared.batch.Change.TheVariants.{Put}
 use Rattle.jv_rows.specs.Appending.{FindsLeft, AppendsTo}
-use Rattle.jv_rows.proofs.AppendingLaws.{longer-first, appends-found, appends-first, appends-memory, appends-none, appends-down}
+use Rattle.jv_rows.proofs.counts.AppendingLaws.{longer-first, appends-found, appends-first, appends-memory, appends-none, appends-down}
 use Rattle.jv_rows.proofs.drafts.Draft.append_record.Goals as goal
 
 pub returns-in_err-key : goal.returns-in_err-key

@@ -2,7 +2,7 @@ use Rattle.std.proofs.Common.{ℕ, List, None, Some, refl, sym, ap, ◌∙◌}
 use Rattle.std.proofs.lemmas.Result.{err_from_is_err_and}
 use Rattle.jv_outside.specs.declared.batch.Change.TheVariants.{Put, Del}
 use Rattle.jv_rows.specs.Drafts.{last_change}
-use Rattle.jv_rows.proofs.AppendingLaws.{finds-stored, finds-changed}
+use Rattle.jv_rows.proofs.counts.AppendingLaws.{finds-stored, finds-changed}
 use Rattle.jv_rows.proofs.drafts.Draft.bytes_at.Goals as goal
 
 pub returns-in_err-shared-in-Some-Put : goal.returns-in_err-shared-in-Some-Put

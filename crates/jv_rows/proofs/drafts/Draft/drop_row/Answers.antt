@@ -1,7 +1,7 @@
 use Rattle.std.proofs.Common.{None, List, subst}
 use Rattle.jv_outside.specs.declared.batch.Change.{Change}
 use Rattle.jv_rows.specs.Drafts.{Drafts}
-use Rattle.jv_rows.proofs.DraftLaws.{drafts_del}
+use Rattle.jv_rows.proofs.transactions.DraftLaws.{drafts_del}
 use Rattle.jv_rows.proofs.drafts.Draft.drop_row.Goals as goal
 
 pub returns : goal.returns

@@ -1,8 +1,8 @@
 use Rattle.std.proofs.Common.{ℕ, Some, Ok, List, ap, subst, ◌∙◌}
-use Rattle.jv_model.specs.rows.RowGrammar.{row_of}
+use Rattle.jv_model.specs.promise.rows.RowGrammar.{row_of}
 use Rattle.jv_outside.specs.declared.batch.Change.{Change}
 use Rattle.jv_rows.specs.Drafts.{Drafts}
-use Rattle.jv_rows.proofs.DraftLaws.{drafts_put}
+use Rattle.jv_rows.proofs.transactions.DraftLaws.{drafts_put}
 use Rattle.jv_rows.proofs.drafts.Draft.put.Goals as goal
 
 pub returns : goal.returns

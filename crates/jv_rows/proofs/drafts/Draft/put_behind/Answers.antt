@@ -1,8 +1,8 @@
 use Rattle.std.proofs.Common.{refl, subst}
 use Rattle.std.proofs.lemmas.Result.{err_from_is_err_and}
-use Rattle.jv_model.specs.rows.RowGrammar.{list_of}
+use Rattle.jv_model.specs.promise.rows.RowGrammar.{list_of}
 use Rattle.jv_rows.specs.Reads.{Misses}
-use Rattle.jv_rows.proofs.AppendingLaws.{longer-found, appends_to-done, appends_to-malformed, appends_to-memory}
+use Rattle.jv_rows.proofs.counts.AppendingLaws.{longer-found, appends_to-done, appends_to-malformed, appends_to-memory}
 use Rattle.jv_rows.proofs.drafts.Draft.put_behind.Goals as goal
 
 pub returns-in_err-put_longer-in-Ok : goal.returns-in_err-put_longer-in-Ok

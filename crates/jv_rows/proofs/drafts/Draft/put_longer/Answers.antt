@@ -2,7 +2,7 @@ use Rattle.std.proofs.Common.{◌≡◌, ℕ, List, [], ◌∷◌, ◌++◌, sub
 use Rattle.std.specs.Prelude.{OnOk, OnErr}
 use Rattle.jv_outside.specs.declared.batch.Change.{Change}
 use Rattle.jv_outside.specs.declared.batch.Change.TheVariants.{Put}
-use Rattle.jv_model.specs.rows.RowGrammar.{record_bytes}
+use Rattle.jv_model.specs.promise.rows.RowGrammar.{record_bytes}
 use Rattle.jv_rows.proofs.drafts.Draft.put_longer.Goals as goal
 
 pub returns-clause-ok : goal.returns-clause-ok

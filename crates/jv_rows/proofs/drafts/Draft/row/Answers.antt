@@ -1,6 +1,6 @@
 use Rattle.std.proofs.Common.{Some, ap, sym, ◌∙◌}
 use Rattle.jv_rows.specs.Drafts.{last_change}
-use Rattle.jv_rows.proofs.DraftLaws.{sees_stored, sees_deleted, sees_put}
+use Rattle.jv_rows.proofs.transactions.DraftLaws.{sees_stored, sees_deleted, sees_put}
 use Rattle.jv_rows.proofs.drafts.Draft.row.Goals as goal
 
 pub returns-in-None : goal.returns-in-None

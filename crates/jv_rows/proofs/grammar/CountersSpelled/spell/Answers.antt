@@ -1,7 +1,7 @@
 use Rattle.jv_model.specs.declared.row.Row.TheVariants.{OfCounters}
 use Rattle.jv_rows.specs.Tables.{counters_row}
-use Rattle.jv_rows.proofs.ExactRowLaws.{counters_exact}
-use Rattle.jv_rows.proofs.SpelledLaws.{spelled_row}
+use Rattle.jv_rows.proofs.grammars.ExactRowLaws.{counters_exact}
+use Rattle.jv_rows.proofs.grammars.SpelledLaws.{spelled_row}
 use Rattle.jv_rows.proofs.grammar.CountersSpelled.spell.Goals as goal
 
 pub returns : goal.returns

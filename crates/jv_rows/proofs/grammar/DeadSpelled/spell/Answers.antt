@@ -1,7 +1,7 @@
 use Rattle.jv_model.specs.declared.row.Row.TheVariants.{OfDead}
 use Rattle.jv_rows.specs.Tables.{dead_row}
-use Rattle.jv_rows.proofs.ExactRowLaws.{dead_exact}
-use Rattle.jv_rows.proofs.SpelledLaws.{spelled_row}
+use Rattle.jv_rows.proofs.grammars.ExactRowLaws.{dead_exact}
+use Rattle.jv_rows.proofs.grammars.SpelledLaws.{spelled_row}
 use Rattle.jv_rows.proofs.grammar.DeadSpelled.spell.Goals as goal
 
 pub returns : goal.returns

@@ -1,7 +1,7 @@
 use Rattle.jv_model.specs.declared.row.Row.TheVariants.{OfDropped}
 use Rattle.jv_rows.specs.Tables.{dropped_row}
-use Rattle.jv_rows.proofs.ExactRowLaws.{dropped_exact}
-use Rattle.jv_rows.proofs.SpelledLaws.{spelled_row}
+use Rattle.jv_rows.proofs.grammars.ExactRowLaws.{dropped_exact}
+use Rattle.jv_rows.proofs.grammars.SpelledLaws.{spelled_row}
 use Rattle.jv_rows.proofs.grammar.DroppedSpelled.spell.Goals as goal
 
 pub returns : goal.returns

@@ -1,7 +1,7 @@
 use Rattle.jv_model.specs.declared.row.Row.TheVariants.{OfEdge}
 use Rattle.jv_rows.specs.Tables.{edge_row}
-use Rattle.jv_rows.proofs.ExactRowLaws.{edge_exact}
-use Rattle.jv_rows.proofs.SpelledLaws.{spelled_row}
+use Rattle.jv_rows.proofs.grammars.ExactRowLaws.{edge_exact}
+use Rattle.jv_rows.proofs.grammars.SpelledLaws.{spelled_row}
 use Rattle.jv_rows.proofs.grammar.EdgeSpelled.spell.Goals as goal
 
 pub returns : goal.returns

@@ -1,7 +1,7 @@
 use Rattle.jv_model.specs.declared.row.Row.TheVariants.{OfList}
 use Rattle.jv_rows.specs.Tables.{list_row}
-use Rattle.jv_rows.proofs.ExactListLaws.{list_exact}
-use Rattle.jv_rows.proofs.SpelledLaws.{spelled_row}
+use Rattle.jv_rows.proofs.grammars.ExactListLaws.{list_exact}
+use Rattle.jv_rows.proofs.grammars.SpelledLaws.{spelled_row}
 use Rattle.jv_rows.proofs.grammar.ListSpelled.spell.Goals as goal
 
 pub returns : goal.returns

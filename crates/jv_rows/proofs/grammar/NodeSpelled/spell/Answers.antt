@@ -1,7 +1,7 @@
 use Rattle.jv_model.specs.declared.row.Row.TheVariants.{OfNode}
 use Rattle.jv_rows.specs.Tables.{node_row}
-use Rattle.jv_rows.proofs.ExactRowLaws.{node_exact}
-use Rattle.jv_rows.proofs.SpelledLaws.{spelled_row}
+use Rattle.jv_rows.proofs.grammars.ExactRowLaws.{node_exact}
+use Rattle.jv_rows.proofs.grammars.SpelledLaws.{spelled_row}
 use Rattle.jv_rows.proofs.grammar.NodeSpelled.spell.Goals as goal
 
 pub returns : goal.returns

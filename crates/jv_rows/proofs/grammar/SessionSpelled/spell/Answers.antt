@@ -1,7 +1,7 @@
 use Rattle.jv_model.specs.declared.row.Row.TheVariants.{OfSession}
 use Rattle.jv_rows.specs.Tables.{session_row}
-use Rattle.jv_rows.proofs.ExactRowLaws.{session_exact}
-use Rattle.jv_rows.proofs.SpelledLaws.{spelled_row}
+use Rattle.jv_rows.proofs.grammars.ExactRowLaws.{session_exact}
+use Rattle.jv_rows.proofs.grammars.SpelledLaws.{spelled_row}
 use Rattle.jv_rows.proofs.grammar.SessionSpelled.spell.Goals as goal
 
 pub returns : goal.returns

@@ -1,6 +1,6 @@
 use Rattle.std.proofs.Common.{arith}
-use Rattle.jv_rows.proofs.ExactRowLaws.{setting_exact}
-use Rattle.jv_rows.proofs.SoundLaws.{sound}
+use Rattle.jv_rows.proofs.grammars.ExactRowLaws.{setting_exact}
+use Rattle.jv_rows.proofs.grammars.SoundLaws.{sound}
 use Rattle.jv_rows.proofs.grammar.SettingGrammar.parse.Goals as goal
 
 pub returns-clause-sound : goal.returns-clause-sound

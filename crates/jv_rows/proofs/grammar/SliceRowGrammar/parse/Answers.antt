@@ -1,6 +1,6 @@
 use Rattle.std.proofs.Common.{arith}
-use Rattle.jv_rows.proofs.ExactRowLaws.{slice_exact}
-use Rattle.jv_rows.proofs.SoundLaws.{sound}
+use Rattle.jv_rows.proofs.grammars.ExactRowLaws.{slice_exact}
+use Rattle.jv_rows.proofs.grammars.SoundLaws.{sound}
 use Rattle.jv_rows.proofs.grammar.SliceRowGrammar.parse.Goals as goal
 
 pub returns-clause-sound : goal.returns-clause-sound

@@ -1,7 +1,7 @@
 use Rattle.jv_model.specs.declared.row.Row.TheVariants.{OfSlice}
 use Rattle.jv_rows.specs.Tables.{slice_row}
-use Rattle.jv_rows.proofs.ExactRowLaws.{slice_exact}
-use Rattle.jv_rows.proofs.SpelledLaws.{spelled_row}
+use Rattle.jv_rows.proofs.grammars.ExactRowLaws.{slice_exact}
+use Rattle.jv_rows.proofs.grammars.SpelledLaws.{spelled_row}
 use Rattle.jv_rows.proofs.grammar.SliceRowSpelled.spell.Goals as goal
 
 pub returns : goal.returns

@@ -1,7 +1,7 @@
 -- An operation is submitted, or refused.
 use Rattle.std.specs.Prelude.{codes}
 use Rattle.jv_model.specs.declared.op.Line.TheVariants as line
-use Rattle.jv_model.specs.script.ReplyText.{with_feed}
+use Rattle.jv_model.specs.promise.script.ReplyText.{with_feed}
 use Rattle.jv_session.specs.Lines.{line_state}
 use Rattle.jv_session.specs.InLine.{IsRefused}
 use Rattle.jv_session.proofs.WholeLineLaws.{SaysAlone, begin_enters, begin_refused_enters, says_goes, whole_line}

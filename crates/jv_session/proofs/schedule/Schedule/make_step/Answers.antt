@@ -2,9 +2,9 @@
 use Rattle.std.proofs.Common.{◌≡◌, List, slice_get, slice_set, get_or, Some, ap, subst, ◌∙◌, arith, ℕ}
 use Rattle.std.proofs.lemmas.Option.{slice_get-get_or}
 use Rattle.jv_model.specs.declared.act.Act.{Act}
-use Rattle.jv_yard.specs.YardValue.{YardValue}
+use Rattle.jv_yard.specs.promise.YardValue.{YardValue}
 use Rattle.jv_client.specs.ClientValue.{ClientValue}
-use Rattle.jv_client.specs.Shared.{shared}
+use Rattle.jv_client.specs.promise.Shared.{shared}
 use Rattle.jv_client.specs.Makes.{Steps}
 use Rattle.jv_session.specs.Stands.{ScheduleValue}
 use Rattle.jv_session.specs.InLine.{HasStepped}

@@ -2,7 +2,7 @@
 use Rattle.std.proofs.Common.{sym, subst}
 use Rattle.jv_model.specs.declared.op.Line.{Line}
 use Rattle.jv_model.specs.declared.op.Line.TheVariants as line
-use Rattle.jv_client.specs.Shared.{shared}
+use Rattle.jv_client.specs.promise.Shared.{shared}
 use Rattle.jv_session.specs.Lines.{LineRuns, line_state}
 use Rattle.jv_session.specs.InLine.{Crashes, Passing}
 use Rattle.jv_session.proofs.SeenLaws.{seen_yard}

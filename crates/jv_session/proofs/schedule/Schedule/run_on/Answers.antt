@@ -1,8 +1,8 @@
 -- An operation in progress is run to its end; where there is none, the line says so.
 use Rattle.std.proofs.Common.{sym, ◌∙◌}
 use Rattle.jv_model.specs.declared.op.Line.TheVariants as line
-use Rattle.jv_model.specs.journal.Past.{idle_text}
-use Rattle.jv_client.specs.Shared.{shared}
+use Rattle.jv_model.specs.promise.journal.Past.{idle_text}
+use Rattle.jv_client.specs.promise.Shared.{shared}
 use Rattle.jv_session.specs.Lines.{line_state}
 use Rattle.jv_session.specs.InLine.{RunsToEnd}
 use Rattle.jv_session.proofs.SeenLaws.{seen_yard}

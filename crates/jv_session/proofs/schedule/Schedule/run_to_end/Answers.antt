@@ -1,6 +1,6 @@
 -- A client's operation is run to its end, step by step.
 use Rattle.std.proofs.Common.{Ok, ap, ◌∙◌}
-use Rattle.jv_client.specs.Shared.{shared}
+use Rattle.jv_client.specs.promise.Shared.{shared}
 use Rattle.jv_session.specs.Lines.{line_state}
 use Rattle.jv_session.proofs.RunLaws.{reached_none, reached_step, run_says, run_breaks, run_stops, falls_step}
 use Rattle.jv_session.proofs.SeenLaws.{seen_yard}

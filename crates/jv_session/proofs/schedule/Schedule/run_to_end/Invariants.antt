@@ -1,5 +1,5 @@
 -- The client's operation goes on from where the line found it.
-use Rattle.jv_client.specs.Shared.{shared}
+use Rattle.jv_client.specs.promise.Shared.{shared}
 use Rattle.jv_session.specs.Lines.{line_state}
 use Rattle.jv_session.proofs.RunLaws.{Reached, steps_at}
 use Rattle.jv_session.proofs.SeenLaws.{seen_yard}

@@ -1,6 +1,6 @@
 -- An operation is submitted, and run to its end or refused.
 use Rattle.jv_model.specs.declared.op.Line.TheVariants as line
-use Rattle.jv_client.specs.Shared.{shared}
+use Rattle.jv_client.specs.promise.Shared.{shared}
 use Rattle.jv_session.specs.Lines.{line_state}
 use Rattle.jv_session.specs.InLine.{RunsToEnd, IsRefused}
 use Rattle.jv_session.proofs.MemberLaws.{yard_begun}

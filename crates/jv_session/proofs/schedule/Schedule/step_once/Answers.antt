@@ -1,6 +1,6 @@
 -- One step of a client's operation.
 use Rattle.std.proofs.Common.{Ok, ap, ◌∙◌}
-use Rattle.jv_client.specs.Shared.{shared}
+use Rattle.jv_client.specs.promise.Shared.{shared}
 use Rattle.jv_session.specs.Lines.{line_state}
 use Rattle.jv_session.proofs.InLineLaws.{once_says_more, once_says_done, once_breaks, once_stops}
 use Rattle.jv_session.proofs.SeenLaws.{seen_yard}

@@ -1,6 +1,6 @@
 -- An operation is begun at its client, or refused.
 use Rattle.std.proofs.Common.{◌≡◌, IsTrue, slice_get, slice_set, get_or, Some, sym, ap, subst, ◌∙◌, arith}
-use Rattle.jv_client.specs.Built.{is_built_op}
+use Rattle.jv_client.specs.promise.Built.{is_built_op}
 use Rattle.jv_client.specs.ClientValue.{ClientValue}
 use Rattle.jv_session.specs.Stands.{ScheduleValue}
 use Rattle.jv_session.specs.InLine.{Submits}

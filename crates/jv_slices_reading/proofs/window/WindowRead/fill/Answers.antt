@@ -2,7 +2,7 @@ use Rattle.std.proofs.Common.{◌≡◌, ℕ, ◌-◌, ◌∙◌, ◌+◌, List,
 use Rattle.std.specs.Prelude.{All, IfSome, IsSomeAnd}
 use Rattle.std.proofs.lemmas.List.{with_items_is}
 use Rattle.jv_model.specs.declared.slice.BlockId.{BlockId}
-use Rattle.jv_model.specs.blocks.Slices.{stored_place}
+use Rattle.jv_model.specs.promise.blocks.Slices.{stored_place}
 use Rattle.jv_slices_reading.specs.declared.copying.Overlap.{Overlap}
 use Rattle.jv_slices_reading.specs.Copies.{Fits, HasBytes, IsCopied}
 use Rattle.jv_slices_reading.specs.Overlaps.{overlaps_at}

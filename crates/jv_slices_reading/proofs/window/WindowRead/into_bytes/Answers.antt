@@ -1,6 +1,6 @@
 use Rattle.std.proofs.Common.{◌≡◌, ◌-◌, ◌∙◌, List, [], subst}
 use Rattle.jv_model.specs.declared.slice.BlockId.{BlockId}
-use Rattle.jv_model.specs.journal.Reading.{bytes_from}
+use Rattle.jv_model.specs.promise.journal.Reading.{bytes_from}
 use Rattle.jv_slices_reading.specs.Parts.{Part, ReadsAs, window_byte}
 use Rattle.jv_slices_reading.proofs.PartLaws.{read_out}
 use Rattle.jv_slices_reading.proofs.window.WindowRead.into_bytes.Goals as goal

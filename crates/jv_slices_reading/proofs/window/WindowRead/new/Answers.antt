@@ -2,7 +2,8 @@ use Rattle.std.proofs.Common.{◌≡◌, ◌+◌, ◌-◌, ◌≤◌, ◌∙◌,
 use Rattle.std.specs.Prelude.{All}
 use Rattle.jv_model.specs.declared.slice.BlockId.{BlockId}
 use Rattle.jv_model.specs.declared.slice.Rec.{Rec}
-use Rattle.jv_model.specs.blocks.Slices.{needed_blocks, stored_place}
+use Rattle.jv_model.specs.blocks.Slices.{needed_blocks}
+use Rattle.jv_model.specs.promise.blocks.Slices.{stored_place}
 use Rattle.jv_slices.proofs.NeedLaws.{needs_are_few}
 use Rattle.jv_slices_reading.specs.Overlaps.{HasOverlaps, overlaps_at}
 use Rattle.jv_slices_reading.specs.Parts.{IsNamed, ReadsAs}

@@ -1,5 +1,5 @@
 use Rattle.std.proofs.Common.{Some, ap, ◌∙◌}
-use Rattle.jv_model.specs.FiniteMap.{text_key, insert}
+use Rattle.jv_model.specs.promise.FiniteMap.{text_key, insert}
 use Rattle.jv_outside.proofs.StoredLaws.{map_of-updated}
 use Rattle.jv_yard.proofs.staging.ClientBlocks.add.Goals as goal
 

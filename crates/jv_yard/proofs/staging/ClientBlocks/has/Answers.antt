@@ -1,5 +1,5 @@
 use Rattle.std.proofs.Common.{ap, is_some, ◌∙◌}
-use Rattle.jv_model.specs.FiniteMap.{get}
+use Rattle.jv_model.specs.promise.FiniteMap.{get}
 use Rattle.jv_yard.proofs.StagingLaws.{has-entries}
 use Rattle.jv_yard.proofs.staging.ClientBlocks.has.Goals as goal
 

@@ -1,5 +1,5 @@
 use Rattle.std.proofs.Common.{ap, ◌∙◌}
-use Rattle.jv_model.specs.FiniteMap.{key_count}
+use Rattle.jv_model.specs.promise.FiniteMap.{key_count}
 use Rattle.jv_yard.proofs.StagingLaws.{count-entries}
 use Rattle.jv_yard.proofs.staging.ClientBlocks.len.Goals as goal
 

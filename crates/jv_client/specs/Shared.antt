@@ -1,8 +1,0 @@
--- What all clients share, put together from what is seen of the devices.
-use Rattle.jv_outside.specs.Carriage.{Carriage}
-use Rattle.jv_outside.specs.Store.{Store}
-use Rattle.jv_yard.specs.YardValue.{YardValue}
-use Rattle.jv_client_shared.specs.Shared.{Shared}
-
-abbrev pub shared : Store → YardValue → Carriage → Shared
-shared keeper yard carrier = record { keeper = keeper; yard = yard; carrier = carrier }

@@ -1,0 +1,4 @@
+-- Copies of ranges.
+pub mod CopiedLaws
+pub mod CopyEndsLaws
+pub mod CopyingLaws

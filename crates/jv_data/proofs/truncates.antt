@@ -1,0 +1,4 @@
+-- Truncates.
+pub mod TruncateEndsLaws
+pub mod TruncateLaws
+pub mod TruncatedLaws

@@ -1,0 +1,3 @@
+-- Records of chunks, and the names of blocks.
+pub mod BlockNames
+pub mod Slices

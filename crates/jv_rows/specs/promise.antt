@@ -1,0 +1,3 @@
+-- What the clauses of the top call rest on.
+pub mod FreshRows
+pub mod Transactions

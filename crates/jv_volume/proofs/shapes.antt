@@ -1,0 +1,19 @@
+-- When a tree is whole by its shape, and that operations leave it so.
+pub mod ClimbLaws
+pub mod EnteredShapeLaws
+pub mod FreshShapeLaws
+pub mod HourShapeLaws
+pub mod LinkedShapeLaws
+pub mod MoveLaws
+pub mod OperationShapeLaws
+pub mod ReadingShapeLaws
+pub mod RemovalLaws
+pub mod RenamingOperationLaws
+pub mod SameShapeLaws
+pub mod SessionShapeLaws
+pub mod ShapeLossLaws
+pub mod ShapeMapLaws
+pub mod ShapeMoveLaws
+pub mod TrashLaws
+pub mod TreeActLaws
+pub mod WalkShapeLaws
