@@ -38,7 +38,7 @@ pub(crate) fn refused(alloc: Global) -> WordsFault
 }
 
 /// The refusal of words that `clap` refuses, in its own words where they are of a command that is built.
-#[tactic(auto, using(crate::proofs::AskedLaws::feed_of_own))]
+#[tactic(auto, using(crate::proofs::asked::AskedLaws::feed_of_own))]
 pub(crate) fn refused_by_clap(alloc: Global, words: &[String], error: &Error) -> WordsFault
     ensures memory { kind_of error.now ≡ OutOfMemory → result ≡ WordsFault.Memory }
     ensures feed { HasFeed result }

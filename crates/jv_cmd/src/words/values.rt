@@ -71,7 +71,7 @@ fn unit(text: &[u8]) -> u64
     }
 }
 
-#[tactic(auto, using(crate::proofs::ValuesLaws::large_is_no_block))]
+#[tactic(auto, using(crate::proofs::asked::ValuesLaws::large_is_no_block))]
 fn is_block_size(bytes: u64) -> bool
     ensures { result ≡ is_block_length bytes }
 {
