@@ -232,14 +232,14 @@ module _ (more : ℕ) (rows middle after : Rows) (gone added : List Rec) (due : 
   dies_after id slice there none = record { dead = record { size = slice.size; due = due }; is = dead_after id slice there none; size_is = refl }
 
   -- a slice with a row has no dead one
-  not_dead : (id : ℕ) (slice : SliceRow) (dead : Dead) → slice_row_at rows id ≡ Some slice → dead_at rows id ≡ Some dead → ⊥
-  not_dead id slice dead there is = (let none = w.apart id (λ n. (let both = sym is ∙ n in absurd (cc))) in absurd (cc))
+  not_dead : (id : ℕ) (slice : SliceRow) (dead : Dead) → 0 < id → slice_row_at rows id ≡ Some slice → dead_at rows id ≡ Some dead → ⊥
+  not_dead id slice dead some there is = (let none = w.apart id some (λ n. (let both = sym is ∙ n in absurd (cc))) in absurd (cc))
 
-  stays_after : (id : ℕ) (dead : Dead) → dead_at rows id ≡ Some dead → dead_at after id ≡ Some dead
-  stays_after id dead there = by_becomes (becomes gone added due middle after a id)
+  stays_after : (id : ℕ) (dead : Dead) → 0 < id → dead_at rows id ≡ Some dead → dead_at after id ≡ Some dead
+  stays_after id dead some there = by_becomes (becomes gone added due middle after a id)
     where
       by_becomes : Becomes gone added due middle after id → dead_at after id ≡ Some dead
-      by_becomes (Follows named r) = absurd (not_dead id r.slice dead (sym (m.slices id) ∙ ap (λ c. slice_in (row_in c)) r.was) there)
+      by_becomes (Follows named r) = absurd (not_dead id r.slice dead some (sym (m.slices id) ∙ ap (λ c. slice_in (row_in c)) r.was) there)
       by_becomes (Stays other row stays) = stays ∙ m.deads id ∙ there
 
   died_after : (id : ℕ) (dead : Dead) → dead_at after id ≡ Some dead → (dead_at rows id ≡ Some dead) ⊎ (HadSize rows id dead.size × (slice_row_at after id ≡ None))

@@ -60,8 +60,8 @@ module _ (rows after : Rows) (stay : SlicesStay rows after) where
     next = next;
     unknown = λ id some apart u. unknown-stay id u;
     had = λ id slice apart there. record { slice = slice; is = sym (slice_row-stay rows after stay id) ∙ there; size_is = refl };
-    dies = λ id slice there gone. (let same = slice_row-stay rows after stay id in absurd (cc));
-    dead = λ id dead there. dead-stay rows after stay id ∙ there;
+    dies = λ id slice some there gone. (let same = slice_row-stay rows after stay id in absurd (cc));
+    dead = λ id dead some there. dead-stay rows after stay id ∙ there;
     records = (let same = record_count-stay in omega (arith, same));
   }
 
@@ -81,8 +81,8 @@ keeps-stay_then own more rows middle after stay next k = record {
   had = λ id slice apart there.
       (let had = k.had id slice apart there in
       record { slice = had.slice; is = sym (slice_row-stay rows middle stay id) ∙ had.is; size_is = had.size_is });
-  dies = λ id slice there gone. k.dies id slice (slice_row-stay rows middle stay id ∙ there) gone;
-  dead = λ id dead there. k.dead id dead (dead-stay rows middle stay id ∙ there);
+  dies = λ id slice some there gone. k.dies id slice some (slice_row-stay rows middle stay id ∙ there) gone;
+  dead = λ id dead some there. k.dead id dead some (dead-stay rows middle stay id ∙ there);
   records = (let same = record_count-stay rows middle stay in let few = k.records in omega (arith, same, few));
 }
 
@@ -96,18 +96,18 @@ keeps-then own first second rows middle after fresh k l = record {
       (let late = l.had id slice apart there in
       let early = k.had id late.slice apart late.is in
       record { slice = early.slice; is = early.is; size_is = early.size_is ∙ late.size_is });
-  dies = λ id slice there gone. dies id slice there gone (slice_row_at middle id) refl;
-  dead = λ id dead there. l.dead id dead (k.dead id dead there);
+  dies = λ id slice some there gone. dies id slice some there gone (slice_row_at middle id) refl;
+  dead = λ id dead some there. l.dead id dead some (k.dead id dead some there);
   records = (let few = k.records in let more = l.records in omega (arith, few, more));
 }
   where
-    dies : (id : ℕ) (slice : SliceRow) → slice_row_at rows id ≡ Some slice → slice_row_at after id ≡ None
+    dies : (id : ℕ) (slice : SliceRow) → 0 < id → slice_row_at rows id ≡ Some slice → slice_row_at after id ≡ None
         → (o : Option SliceRow) → slice_row_at middle id ≡ o → HasDied after id slice.size
-    dies id slice there gone None e =
-        let died = k.dies id slice there e in
-        record { dead = died.dead; is = l.dead id died.dead died.is; size_is = died.size_is }
-    dies id slice there gone (Some kept) e =
-        let died = l.dies id kept e gone in
+    dies id slice some there gone None e =
+        let died = k.dies id slice some there e in
+        record { dead = died.dead; is = l.dead id died.dead some died.is; size_is = died.size_is }
+    dies id slice some there gone (Some kept) e =
+        let died = l.dies id kept some e gone in
         let had = k.had id kept (λ same. (let none = ap (slice_row_at rows) same ∙ fresh in absurd (cc))) e in
         let one : had.slice ≡ slice = (let is = had.is in cc) in
         record { dead = died.dead; is = died.is; size_is = died.size_is ∙ sym had.size_is ∙ ap (λ s. s.size) one }

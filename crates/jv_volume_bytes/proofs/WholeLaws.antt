@@ -36,7 +36,7 @@ pub record SlicesGo (more : ℕ) (rows after : Rows) : Type 0 where
   pub had : (id : ℕ) (slice : SliceRow) → slice_row_at after id ≡ Some slice → HadSize rows id slice.size
   pub exact : (id : ℕ) → 0 < id → slice_count after id ≡ named_by after id
   pub dies : (id : ℕ) (slice : SliceRow) → slice_row_at rows id ≡ Some slice → slice_row_at after id ≡ None → HasDied after id slice.size
-  pub stays : (id : ℕ) (dead : Dead) → dead_at rows id ≡ Some dead → dead_at after id ≡ Some dead
+  pub stays : (id : ℕ) (dead : Dead) → 0 < id → dead_at rows id ≡ Some dead → dead_at after id ≡ Some dead
   pub died : (id : ℕ) (dead : Dead) → dead_at after id ≡ Some dead
       → (dead_at rows id ≡ Some dead) ⊎ (HadSize rows id dead.size × (slice_row_at after id ≡ None))
   pub count : record_count after ≤ record_count rows + more
@@ -69,7 +69,7 @@ module _ (more : ℕ) (rows after : Rows) (go : SlicesGo more rows after) where
     next = go.next;
     unknown = λ id some apart u. unknown-go id some u;
     had = λ id slice named there. go.had id slice there;
-    dies = go.dies;
+    dies = λ id slice some there none. go.dies id slice there none;
     dead = go.stays;
     records = go.count;
   }
@@ -83,11 +83,11 @@ module _ (more : ℕ) (rows after : Rows) (go : SlicesGo more rows after) where
           (λ r had named. (size_of r.id r.size (had named)).0) (listed key (get after key)) (go.names key);
       slice_size = λ id slice there. size_of id slice.size (go.had id slice there);
       exact = go.exact;
-      dead_size = λ id dead there. elim (go.died id dead there) [
-        | inl was ↦ w.dead_size id dead was
+      dead_size = λ id dead some there. elim (go.died id dead there) [
+        | inl was ↦ w.dead_size id dead some was
         | inr had ↦ (let size = size_of id dead.size had.0 in (size.1, size.2))
       ];
-      apart = λ id there. by_dead id (dead_at after id) refl there;
+      apart = λ id some there. by_dead id some (dead_at after id) refl there;
       below = λ id high. (let fresh : next_slice rows ≤ id = subst (λ n. n ≤ id) go.next high in unknown-go id (omega (arith, given, fresh)) (w.below id fresh));
       none = no_row_stays 0 w.none;
       slices_end = subst (λ n. n ≤ FULL_COUNT) (sym go.next) w.slices_end;
@@ -96,10 +96,10 @@ module _ (more : ℕ) (rows after : Rows) (go : SlicesGo more rows after) where
         size_of : (id size : ℕ) → HadSize rows id size → (size ≡ w.sizes id) × (1 ≤ size) × (size ≤ WINDOW)
         size_of id size had = subst (λ n. (n ≡ w.sizes id) × (1 ≤ n) × (n ≤ WINDOW)) had.size_is (w.slice_size id had.slice had.is)
 
-        by_dead : (id : ℕ) (o : Option Dead) → dead_at after id ≡ o → dead_at after id ≢ None → slice_row_at after id ≡ None
-        by_dead id None e there = absurd (there e)
-        by_dead id (Some dead) e there = elim (go.died id dead e) [
-          | inl was ↦ no_row_stays id (w.apart id (λ none. absurd (cc)))
+        by_dead : (id : ℕ) → 0 < id → (o : Option Dead) → dead_at after id ≡ o → dead_at after id ≢ None → slice_row_at after id ≡ None
+        by_dead id some None e there = absurd (there e)
+        by_dead id some (Some dead) e there = elim (go.died id dead e) [
+          | inl was ↦ no_row_stays id (w.apart id some (λ none. absurd (cc)))
           | inr had ↦ had.1
         ]
 

@@ -34,7 +34,8 @@ pub record KeepsOthers (own more : ℕ) (rows after : Rows) : Type 0 where
   pub unknown : (id : ℕ) → 0 < id → id ≢ own → IsUnknown rows id → IsUnknown after id
   pub had : (id : ℕ) (slice : SliceRow) → id ≢ own → slice_row_at after id ≡ Some slice
       → HadSize rows id slice.size
-  pub dies : (id : ℕ) (slice : SliceRow) → slice_row_at rows id ≡ Some slice
+  pub dies : (id : ℕ) (slice : SliceRow) → 0 < id → slice_row_at rows id ≡ Some slice
       → slice_row_at after id ≡ None → HasDied after id slice.size
-  pub dead : (id : ℕ) (dead : Dead) → dead_at rows id ≡ Some dead → dead_at after id ≡ Some dead
+  pub dead : (id : ℕ) (dead : Dead) → 0 < id → dead_at rows id ≡ Some dead
+      → dead_at after id ≡ Some dead
   pub records : record_count after ≤ record_count rows + more

@@ -102,8 +102,8 @@ module _ (rows : Rows) (c : Counters) (whole : Whole rows) (there : counters_at 
     sized = listed-other _ rows counters_key put refl w.sized;
     slice_size = λ id slice here. w.slice_size id slice (sym (same_slice id) ∙ here);
     exact = λ id low. ap count_in (same_slice id) ∙ w.exact id low ∙ sym (same_named id);
-    dead_size = λ id dead here. w.dead_size id dead (sym (same_dead id) ∙ here);
-    apart = λ id here. same_slice id ∙ w.apart id (λ none. here (same_dead id ∙ none));
+    dead_size = λ id dead some here. w.dead_size id dead some (sym (same_dead id) ∙ here);
+    apart = λ id some here. same_slice id ∙ w.apart id some (λ none. here (same_dead id ∙ none));
     below = λ id high. unknown-numbered id (w.below id (subst (λ c. c.slice ≤ id) (sym counters_was) (less (subst (λ c. c.slice ≤ id) counters_then high))));
     none = same_slice 0 ∙ w.none;
     slices_end = subst (λ c. c.slice ≤ FULL_COUNT) (sym counters_then) (omega (arith, room));

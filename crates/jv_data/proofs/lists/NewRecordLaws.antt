@@ -218,10 +218,10 @@ module _ (rows : Rows) (inode window : ℕ) (low : window < 2 ^ 32) (rec : Rec) 
       sized = sized;
       slice_size = slice_size;
       exact = exact;
-      dead_size = λ id dead there. w.dead_size id dead (sym (dead_same id) ∙ there);
-      apart = λ id there. elim (cases_eq id rec.id) [
+      dead_size = λ id dead some there. w.dead_size id dead some (sym (dead_same id) ∙ there);
+      apart = λ id some there. elim (cases_eq id rec.id) [
         | inl same ↦ absurd (there (dead_same id ∙ ap (dead_at rows) same ∙ unknown.not_dead))
-        | inr apart ↦ slice_beside id apart ∙ w.apart id (λ none. there (dead_same id ∙ none))
+        | inr apart ↦ slice_beside id apart ∙ w.apart id some (λ none. there (dead_same id ∙ none))
       ];
       below = λ id high. (let high_was : next_slice rows ≤ id = subst (λ c. c.slice ≤ id) counters_same high in
           unknown_still id (λ same. absurd (omega (arith, same, high_was, given))) (w.below id high_was));
@@ -235,8 +235,8 @@ module _ (rows : Rows) (inode window : ℕ) (low : window < 2 ^ 32) (rec : Rec) 
       next = ap (λ c. c.slice) counters_same;
       unknown = λ id some apart old. unknown_still id apart old;
       had = λ id slice apart there. record { slice = slice; is = sym (slice_beside id apart) ∙ there; size_is = refl };
-      dies = λ id slice there none. absurd (lives-recorded id slice there none);
-      dead = λ id dead there. dead_same id ∙ there;
+      dies = λ id slice some there none. absurd (lives-recorded id slice there none);
+      dead = λ id dead some there. dead_same id ∙ there;
       records = (let more = count_more in omega (arith, more));
     }
 

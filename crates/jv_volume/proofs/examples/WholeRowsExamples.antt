@@ -280,8 +280,8 @@ slices = record {
     | inl e ↦ ap (slice_count rows) e ∙ ap count_in slice_at ∙ sym named_one ∙ ap (named_by rows) (sym e)
     | inr apart ↦ ap count_in (no_slice_row id apart) ∙ sym (named_none id apart)
   ];
-  dead_size = λ id dead is. absurd (none-some dead (sym (no_dead id) ∙ is));
-  apart = λ id is. absurd (is (no_dead id));
+  dead_size = λ id dead some is. absurd (none-some dead (sym (no_dead id) ∙ is));
+  apart = λ id some is. absurd (is (no_dead id));
   below = λ id past.
       let apart : id ≢ 1 = λ e. omega (arith, e, past, next_is) in
       record { unnamed = named_none id apart; no_row = no_slice_row id apart; not_dead = no_dead id };

@@ -243,8 +243,8 @@ module _ (rows after : Rows) (q : Quiet rows after) where
     sized = λ key. subst (AllByRecursion _) (sym (listed-stay rows after q.apart key)) (w.sized key);
     slice_size = λ id slice there. w.slice_size id slice (sym (slice_row-stay rows after q.apart id) ∙ there);
     exact = λ id low. ap count_in (slice_row-stay rows after q.apart id) ∙ w.exact id low ∙ sym (named_by-stay rows after q.apart id);
-    dead_size = λ id dead there. w.dead_size id dead (sym (dead-stay rows after q.apart id) ∙ there);
-    apart = λ id there. slice_row-stay rows after q.apart id ∙ w.apart id (λ none. there (dead-stay rows after q.apart id ∙ none));
+    dead_size = λ id dead some there. w.dead_size id dead some (sym (dead-stay rows after q.apart id) ∙ there);
+    apart = λ id some there. slice_row-stay rows after q.apart id ∙ w.apart id some (λ none. there (dead-stay rows after q.apart id ∙ none));
     below = λ id low. let old = w.below id (subst (λ n. n ≤ id) q.next low) in record {
       unnamed = named_by-stay rows after q.apart id ∙ old.unnamed;
       no_row = slice_row-stay rows after q.apart id ∙ old.no_row;

@@ -140,8 +140,8 @@ module _ (setting : Setting) (at : ℕ) where
     sized = lists_have (λ r. r.id ≢ 0 → r.size ≡ 0);
     slice_size = λ id slice is. absurd (none-some slice (sym (no_slice id) ∙ is));
     exact = λ id some. ap count_in (no_slice id) ∙ sym (unnamed id);
-    dead_size = λ id dead is. absurd (none-some dead (sym (no_dead id) ∙ is));
-    apart = λ id is. no_slice id;
+    dead_size = λ id dead some is. absurd (none-some dead (sym (no_dead id) ∙ is));
+    apart = λ id some is. no_slice id;
     below = λ id past. record { unnamed = unnamed id; no_row = no_slice id; not_dead = no_dead id };
     none = no_slice 0;
     slices_end = omega (arith, next_is);

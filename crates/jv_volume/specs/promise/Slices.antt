@@ -57,9 +57,9 @@ pub record WholeSlices (rows : Rows) : Type 0 where
   pub slice_size : (id : ℕ) (slice : SliceRow) → slice_row_at rows id ≡ Some slice
       → (slice.size ≡ sizes id) × (1 ≤ slice.size) × (slice.size ≤ WINDOW)
   pub exact : (id : ℕ) → 0 < id → slice_count rows id ≡ named_by rows id
-  pub dead_size : (id : ℕ) (dead : Dead) → dead_at rows id ≡ Some dead
+  pub dead_size : (id : ℕ) (dead : Dead) → 0 < id → dead_at rows id ≡ Some dead
       → (1 ≤ dead.size) × (dead.size ≤ WINDOW)
-  pub apart : (id : ℕ) → dead_at rows id ≢ None → slice_row_at rows id ≡ None
+  pub apart : (id : ℕ) → 0 < id → dead_at rows id ≢ None → slice_row_at rows id ≡ None
   pub below : (id : ℕ) → next_slice rows ≤ id → IsUnknown rows id
   pub none : slice_row_at rows 0 ≡ None
   pub slices_end : next_slice rows ≤ FULL_COUNT
