@@ -140,7 +140,7 @@ pub record IsUnderWay (h : ClientValue) (d : Doing) : Type 0 where
   pub at : IsAt h d d.progress
   pub asks : d.has_moved ≡ true → IsTrue (has_more h d d.progress)
 
--- its operation goes on well, and its buffer takes any write
+-- its operation is under way, and its buffer takes any write
 pub record IsReady (h : ClientValue) : Type 0 where
   pub buffer : MAX_DATA ≤ h.limits.buffer
   pub doing : IfSome h.doing (IsUnderWay h)

@@ -156,7 +156,7 @@ module _ (views : SeenViews) (window : ℕ) (view : View) (none : view_at views 
     fills = is.fills;
   }
 
--- a reading goes on well while blocks and views come
+-- a reading is under way while blocks and views come
 pub fetches_go_on : FetchesGoOn
 fetches_go_on = record {
   begin = λ blocks views block offset len some low. record {

@@ -48,7 +48,7 @@ abbrev pub lost_at : Tree → Caller → EntryKey → ℕ → Removed
 lost_at t who place inode =
     record { inode = inode; fate = fate_in (model.fate_of t who place inode) }
 
--- the fate that a removal answers is the model's, for each tree that the rows in mind are those of
+-- the fate that a removal answers is the model's, for each tree that the drafted rows are those of
 abbrev pub SaysFate : Caller → EntryKey → ℕ → List Change → Store → Result Fate TxFault → Type 0
 SaysFate who place inode was before result =
     IfOk result (λ fate. (known : RowMap) → before.rows ≡ Some known

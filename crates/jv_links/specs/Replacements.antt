@@ -44,7 +44,7 @@ cleared t who place inode =
     (if is_directory t inode then None else Some (lost_at t who place inode))
 
 -- What was removed is what goes, and says which file the session keeps from then on, for each tree
--- that the rows in mind are those of.
+-- that the drafted rows are those of.
 abbrev pub SaysCleared : Caller → EntryKey → ℕ → Bool → List Change → Store
     → Result (Option Removed) TxFault → Type 0
 SaysCleared who place inode directory was before result = IfOk result (λ removed. (known : RowMap)

@@ -1,5 +1,5 @@
 -- What is proved of transactions on sessions.
-pub mod MindLaws
+pub mod DraftLaws
 pub mod SessionLaws
 pub mod KeptLaws
 pub mod FindingLaws

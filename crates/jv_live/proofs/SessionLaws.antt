@@ -42,9 +42,9 @@ use Rattle.jv_rows_drafts.specs.Drafting.{Minds, AreRows, Drafting}
 use Rattle.jv_rows_drafts.proofs.DraftedLaws.{Drafted, are_rows-put}
 use Rattle.jv_rows_drafts.proofs.DraftingLaws.{PastSteps, minds-none, are_rows-none, steps-start, steps-on, steps-stop, steps-commit}
 use Rattle.jv_live.specs.Steps.{keeping_session}
-use Rattle.jv_live.proofs.MindLaws.{minds-counted}
+use Rattle.jv_live.proofs.DraftLaws.{minds-counted}
 
--- what is in mind at first
+-- the draft at first
 pub minds-fresh : (changes : List Change) → changes ≡ [] → (known : RowMap) (bytes : ℕ → ℕ → ℕ) → Whole (typed known)
     → Minds known changes bytes (tree_of bytes (typed known))
 minds-fresh changes none known bytes whole = subst (λ ch. Minds known ch bytes (tree_of bytes (typed known))) (sym none) (minds-none known bytes whole)

@@ -1,4 +1,4 @@
--- Changes that a transaction has in mind: what is read over them, and what one more does.
+-- Changes that a transaction has drafted: what is read over them, and what one more does.
 use Rattle.std.specs.Prelude.{◌≡◌, ℕ, Bool, if◌then◌else◌, List, [], ◌∷◌, Option, None, Some, Result, Ok, Err, IfOk, IfErr, IfSome, OnOk, OnErr, MatchOption, IsTrue}
 use Rattle.std.specs.Option.{option_map, option_or}
 use Rattle.jv_model.specs.declared.row.Row.{Row}

@@ -1,4 +1,4 @@
-//! Changes of rows that a transaction has in mind, beside the keeper that has the rows: what it reads sees its own changes.
+//! Changes of rows that a transaction has drafted, beside the keeper that has the rows: what it reads sees its own changes.
 ghost use Rattle.std.specs.Prelude.{◌≡◌, ◌==◌, [], None, Some, Ok, true, IsTrue};
 ghost use Rattle.std.specs.List.{list_any};
 ghost use Rattle.std.specs.Option.{option_copied};

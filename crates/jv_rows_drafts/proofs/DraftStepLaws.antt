@@ -14,7 +14,7 @@ use Rattle.jv_volume.specs.promise.TypedRows.{typed}
 use Rattle.jv_rows_drafts.specs.Drafting.{Minds, Led, LeadsTo, Drafting}
 use Rattle.jv_model.proofs.TestLaws.{same_Ok}
 
--- what holds of the tree of each rows in mind that a step begins with
+-- what holds of the tree of any drafted rows that a step begins with
 abbrev pub OfMinds : (Tree → Type 0) → List Change → Store → (Tree → Type 0) → Type 0
 OfMinds ready was before Holds = (known : RowMap) → before.rows ≡ Some known → (bytes : ℕ → ℕ → ℕ) (t : Tree)
     → Minds known was bytes t → ready t → Holds t

@@ -1,4 +1,4 @@
--- What a change in mind keeps, how a small change ends at each of its exits, and what it reads over changes in mind.
+-- What a drafted change keeps, how a small change ends at each of its exits, and what it reads over drafted changes.
 use Rattle.std.proofs.Common.{◌≡◌, ◌≢◌, ◌⊎◌, ℕ, false, ◌||◌, List, Option, None, Some, Result, Ok, Err, refl, sym, ap, subst, ◌∙◌, true≢false, inl, inr}
 use Rattle.std.specs.Prelude.{Bool, OnOk, is_some, IsTrue}
 use Rattle.jv_model.specs.declared.fault.Fault.{Fault}
@@ -129,7 +129,7 @@ module _ (key : RowKey) (changes : List Change) where
   bad-cell rows Failed h are known is = tt
   bad-cell rows Memory h are known is = tt
 
-  -- and rows in mind have none
+  -- and drafted rows have none
   pub leads-cell : (A : Type 0) (rows : Option RowMap) (fault : RowFault) → RefusesCell key changes rows fault
       → (known : RowMap) → rows ≡ Some known → (bytes : ℕ → ℕ → ℕ) (t : Tree) → Minds known changes bytes t
       → (now : List Change) (model : Result Tree Fault) → LeadsTo {A = A} known now bytes (Err (OfRows fault)) model
@@ -181,7 +181,7 @@ module _ (key : RowKey) (changes : List Change) (need : IsTrue (is_needed key)) 
   none_leads known bytes t m there (Some (Ok row)) is bad h = h
   none_leads known bytes t m there (Some (Err stored)) is bad h = true≢false (sym (m.cells key (Err stored) is).cell_is)
 
-  -- and rows in mind have it
+  -- and drafted rows have it
   pub leads-needed : (A : Type 0) (rows : Option RowMap) (fault : TxFault) → RefusesNeeded key changes rows fault
       → (known : RowMap) → rows ≡ Some known → (bytes : ℕ → ℕ → ℕ) (t : Tree) → Minds known changes bytes t
       → IsTrue (is_some (get (drafted changes known) key))
@@ -219,7 +219,7 @@ module _ {A : Type 0} (ready : Tree → Type 0) (was now : List Change) (before 
         (λ known is. bad-cell key was middle.rows fault s.refused are known (p.rows_are ∙ is));
   }
 
-  -- nor was one that each volume has, and rows in mind have
+  -- nor was one that each volume has, and drafted rows have
   pub drafting-lacking : {B : Type 0} (row : B → Row) (is_allowed : B → Bool) (key : RowKey) (after : Store)
       (fault : TxFault) → IsTrue (is_needed key)
       → ((known : RowMap) (bytes : ℕ → ℕ → ℕ) (t : Tree) → Minds known was bytes t → ready t

@@ -27,9 +27,9 @@ use Rattle.jv_rows_drafts.specs.Drafting.{Minds, AreRows, Led, LeadsTo, Drafting
 use Rattle.jv_rows_drafts.proofs.LengthLaws.{lengths-none}
 use Rattle.jv_model.proofs.TestLaws.{if_some-by, of_known, same_Ok}
 
--- ---- what is in mind
+-- ---- drafted rows
 
--- whole rows, with nothing in mind
+-- whole rows, with nothing drafted
 pub minds-none : (known : RowMap) (bytes : ℕ → ℕ → ℕ) → Whole (typed known)
     → Minds known [] bytes (tree_of bytes (typed known))
 unfolding drafted
@@ -46,7 +46,7 @@ pub are_rows-none : AreRows []
 unfolding drafted
 are_rows-none = record { spelled = λ known key bytes is. is; needed = λ known key need is. is }
 
--- rows in mind are whole again, where their tree is
+-- drafted rows are whole again, where their tree is
 pub minds-whole : (known : RowMap) (changes : List Change) (bytes : ℕ → ℕ → ℕ) (t : Tree) → Whole (typed known)
     → Minds known changes bytes t
     → WholeShape (shape_of t) → Whole (drafted changes known)
@@ -61,7 +61,7 @@ minds-whole known changes bytes t whole m shape = record {
 
 -- ---- one step after another
 
--- Steps without a refusal: the keeper's rows are as before, and over whole rows, whose tree was ready, those in mind
+-- Steps without a refusal: the keeper's rows are as before, and over whole rows, whose tree was ready, those drafted
 -- are of
 -- the tree `now`, while the model goes on with `rest`, both by the tree at the start.
 pub record PastSteps (ready : Tree → Type 0) (before after : Store) (changes : List Change) (now : Tree → Tree)
@@ -83,7 +83,7 @@ OfWhole ready before Holds = (known : RowMap) → before.rows ≡ Some known →
     → ready (tree_of bytes (typed known))
     → Holds (tree_of bytes (typed known))
 
--- nothing is in mind yet, after readings
+-- nothing is drafted yet, after readings
 pub steps-start : (ready : Tree → Type 0) (before after : Store) (act rest : Tree → Result Outcome Fault)
     → Past before after act rest
     → PastSteps ready before after [] (λ t. t) act rest
@@ -224,7 +224,7 @@ module _ {A : Type 0} (ready : Tree → Type 0) (before middle after : Store) (w
     model = ends ∙ ap (λ u. answered u answer) (sym m.tree);
   }
 
-  -- the commit of what is in mind, where the model ends with its tree, which is whole
+  -- the commit of a draft, where the model ends with its tree, which is whole
   pub steps-commit : (x : A) → Commits middle after (Ok tt) was
       → OfWhole ready before (λ t. rest t ≡ answered (now t) (reply x))
       → OfWhole ready before (λ t. WholeShape (shape_of (now t)))

@@ -1,4 +1,4 @@
--- An entry that comes or goes among rows in mind, by the rows of its directory and its inode.
+-- An entry that comes or goes among drafted rows, by the rows of its directory and its inode.
 use Rattle.std.proofs.Common.{◌≡◌, ◌≢◌, ℕ, ◌+◌, ◌-◌, ◌<◌, ◌≤◌, true, false, List, Option, None, Some, Result, Ok, Err, refl, sym, ap, subst, ◌∙◌, eqb-true}
 use Rattle.std.proofs.lemmas.Bool.{le-leb, lt-leb}
 use Rattle.std.proofs.Math.Bool.{and-false}
@@ -71,7 +71,7 @@ module _ (rows : Rows) (at : EntryKey) (inode : ℕ) (row dir : NodeRow) (here :
       (directory_touched now links dir) dir_stands refl refl refl)
       inode row (linked_row more row) (node_stands (directory_touched now links dir)) refl refl refl
 
--- the same three in mind
+-- the same three, drafted
 pub three-drafted : (at : EntryKey) (inode : ℕ) (cell : Option Cell) (dir_after after : NodeRow)
     (was one two now : List Change)
     → Drafted (edge_key at.dir at.name) cell was one → Drafted (node_key at.dir) (Some (Ok (OfNode dir_after))) one two
@@ -82,7 +82,7 @@ three-drafted at inode cell dir_after after was one two now first second third k
     third known ∙ ap (λ (r : Rows). insert r (node_key inode) (Ok (OfNode after)))
     (second known ∙ ap (λ (r : Rows). insert r (node_key at.dir) (Ok (OfNode dir_after))) (first known))
 
--- ---- over rows in mind
+-- ---- over drafted rows
 
 module _ (known : RowMap) (was : List Change) (bytes : ℕ → ℕ → ℕ) (t : Tree) (m : Minds known was bytes t)
     (now : ℕ) (at : EntryKey) (inode : ℕ) (row dir : NodeRow)

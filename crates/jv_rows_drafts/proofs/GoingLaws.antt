@@ -1,4 +1,4 @@
--- Rows in mind are those of the model's tree again once a node has gone, or a session keeps a file.
+-- Drafted rows are those of the model's tree again once a node has gone, or a session keeps a file.
 use Rattle.std.proofs.Common.{◌≡◌, ℕ, ◌-◌, ◌<◌, ◌^◌, Bool, true, false, List, Option, None, Some, Ok, Err, refl, sym, ap, subst, ◌∙◌, arith, true≢false}
 use Rattle.std.specs.Prelude.{◌==◌, if◌then◌else◌, is_some}
 use Rattle.std.proofs.lemmas.Bool.{eq-eqb}

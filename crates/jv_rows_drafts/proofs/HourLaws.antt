@@ -1,4 +1,4 @@
--- Rows in mind are those of the model's tree again once the directory of an hour has come.
+-- Drafted rows are those of the model's tree again once the directory of an hour has come.
 use Rattle.std.proofs.Common.{◌≡◌, ◌≢◌, ℕ, ◌+◌, ◌<◌, ◌≤◌, true, false, [], ◌∷◌, ◌++◌, ◌/◌, ◌%◌, Option, None, Some, Ok, refl, sym, ap, subst, ◌∙◌, arith}
 use Rattle.std.specs.Prelude.{◌==◌, ◌&&◌, ◌||◌, not, if◌then◌else◌, is_some, IsTrue}
 use Rattle.std.specs.Option.{option_map}

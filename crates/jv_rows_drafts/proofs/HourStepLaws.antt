@@ -37,7 +37,7 @@ use Rattle.jv_rows_drafts.proofs.HourLaws.{hour_dir, with_hour-there, hour_may_s
 
 -- ---- a small change after others
 
--- a tree in mind from which another step goes on as the model's does
+-- a drafted tree from which another step goes on as the model's does
 pub record GoesOn (known : RowMap) (changes : List Change) (bytes : ℕ → ℕ → ℕ) (ready : Tree → Type 0)
     (step : Tree → Result Tree Fault) (model : Result Tree Fault) : Type 0 where
   pub then : Tree

@@ -1,4 +1,4 @@
--- Files in mind keep their lengths with each small change: of a row that is no node's, of a node's row that keeps kind and length, of a
+-- Drafted files keep their lengths with each small change: of a row that is no node's, of a node's row that keeps kind and length, of a
 -- directory that comes, and of a node that goes.
 use Rattle.std.proofs.Common.{◌≡◌, ℕ, false, inl, inr, Option, None, Some, Ok, sym, ap, ◌∙◌}
 use Rattle.std.specs.Prelude.{◌==◌, if◌then◌else◌}

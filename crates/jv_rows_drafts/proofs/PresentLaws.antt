@@ -1,4 +1,4 @@
--- A node that a small change reads, and what becomes of rows in mind by one change of a node's row or of an entry.
+-- A node that a small change reads, and what becomes of drafted rows by one change of a node's row or of an entry.
 use Rattle.std.proofs.Common.{◌≡◌, ℕ, List, Option, None, Some, Result, Ok, Err, refl, sym, ap, subst, ◌∙◌, true≢false}
 use Rattle.std.specs.Prelude.{is_some}
 use Rattle.jv_model.specs.declared.fault.Fault.{Fault}
@@ -100,7 +100,7 @@ put_drafted inode row other same was now result done d =
     subst (λ (r : NodeRow). Drafted (node_key inode) (Some (Ok (OfNode r))) was now) same
     (was_drafted (node_key inode) (Some (Ok (OfNode row))) was now result done d)
 
--- ---- rows in mind
+-- ---- drafted rows
 
 -- rows that leave lists, slices and the lengths of files of those at the start alone, whatever their tree
 pub record Sound (start rows : Rows) : Type 0 where

@@ -1,4 +1,4 @@
--- What changes in mind make of a volume's rows, and what one more step of a transaction adds to
+-- What drafted changes make of a volume's rows, and what one more step of a transaction adds to
 -- them.
 use Rattle.std.specs.Prelude.{◌≡◌, ℕ, List, None, Some, Result, Ok, Err, IfErr, IfSome, IsTrue, OnOk}
 use Rattle.jv_model.specs.declared.fault.Fault.{Fault}
@@ -28,7 +28,7 @@ abbrev pub KeepsLengths : Rows → Rows → Type 0
 KeepsLengths rows after = (inode : ℕ) (row : Node) → node_row_at after inode ≡ Some row
     → file_length (Some row) ≡ file_length (node_row_at rows inode)
 
--- With changes in mind, rows are those of a tree, though not yet of a whole one: lists and slices
+-- With drafted changes, rows are those of a tree, though not yet of a whole one: lists and slices
 -- are as before, and files that went left their lengths.
 pub record Minds (known : RowMap) (changes : List Change) (bytes : ℕ → ℕ → ℕ)
     (t : Tree) : Type 0 where
@@ -65,8 +65,8 @@ LeadsTo known changes bytes (Err (OfRows (Bad at bad))) model = ⊥
 LeadsTo known changes bytes (Err (OfRows Failed)) model = Unit {0}
 LeadsTo known changes bytes (Err (OfRows Memory)) model = Unit {0}
 
--- A step of a transaction: it adds changes to those in mind, and the keeper's rows stay. Where the
--- rows are known, and those in mind are a tree's that is ready for it, it does what the model does
+-- A step of a transaction: it adds changes to those drafted, and the keeper's rows stay. Where the
+-- rows are known, and the drafted ones are a tree's that is ready for it, it does what the model does
 -- to that tree.
 pub record Drafting {A : Type 0} (ready : Tree → Type 0) (was now : List Change)
     (before after : Store)

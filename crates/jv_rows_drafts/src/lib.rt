@@ -1,4 +1,4 @@
-//! The small changes that transactions are made of, each on the rows that a draft has in mind: entries that come and go, a
+//! The small changes that transactions are made of, each on the rows of a draft: entries that come and go, a
 //! node's times and parent, a node that goes, a file that a session keeps, and the directory of an hour of the trash.
 //!
 //! Each is the model's change of the tree that the drafted rows are those of (docs/MODEL.md). After an error a draft is given

@@ -36,7 +36,7 @@ fresh_schedule setting limits = record {
   setting = setting;
 }
 
--- a client of a schedule has its place's number and the schedule's limits, and goes on well
+-- a client of a schedule has its place's number and the schedule's limits, and is ready
 pub record IsMember (limits : Limits) (k : ℕ) (c : ClientValue) : Type 0 where
   pub id : c.id ≡ k
   pub limits_are : c.limits ≡ limits

@@ -66,9 +66,10 @@
 //! are those of the run without it, or the first ones of them, but for one at most; and its rows, and what is listed of
 //! them, are those before, or those that the run without it leaves, but where it ends between two steps of a script.
 //! Where a call of the keeper, the depot, the carrier or the shelf fails inside an operation, exactly that operation is
-//! answered `err EIO` and the device's name, and the run goes on; if each line of the script is an operation that is
-//! run to its end, the other answers, the rows, and what is listed of them, are those of the run without that line. In
-//! a scene with `show blocks` rows are compared but for numbers of slices, of which a flush that fails has used one:
+//! answered `err EIO` and the device's name, and the run goes on; if each line of the script but comments is an
+//! operation that is run to its end, the other answers, the rows, and what is listed of them, are those of the run
+//! without that line. In a scene with `show blocks` rows are compared but for numbers of slices, of which a flush that
+//! fails has used one:
 //! without the tables of lists, slices and dead slices, and of the counters without the next slice.
 //!
 //! Besides, what it leaves is whole, where what it began with was. A stock without rows is; any other is where these

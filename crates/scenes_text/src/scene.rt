@@ -56,7 +56,7 @@ pub enum Variant<'a> {
     Fails(WorldDevice, u64),
     /// The script has one more line.
     Line(&'a str),
-    /// The script lacks the fragment of this number, from 0.
+    /// The script lacks the fragment of this number, from 0; comments don't count, and are left out too.
     Without(usize),
     /// The script is that which lists what is left, and no call fails.
     List,
@@ -152,10 +152,11 @@ impl Scene {
         }
     }
 
-    /// The bytes of the script without the fragment of this number, from 0.
+    /// The bytes of the script without comments, and without the fragment of this number, from 0, among the others.
     fn source_without(&self, alloc: Global, left_out: usize) -> Result<Bytes, AllocError> {
         let mut bytes = Vec::new(alloc);
-        for (number, fragment) in self.script.iter().enumerate() {
+        let answered = self.script.iter().filter(|fragment| !is_comment(fragment));
+        for (number, fragment) in answered.enumerate() {
             if number != left_out {
                 extend_by(&mut bytes, fragment)?;
             }
@@ -175,9 +176,12 @@ impl Scene {
         self.shows_blocks || !device.is_for_blocks()
     }
 
-    /// Whether each fragment of the script is one operation that is run to its end: one line, which has one answer.
+    /// Whether each fragment of the script but comments is one operation that is run to its end: one line, which has
+    /// one answer.
     pub fn is_plain(&self) -> bool {
-        self.script.iter().all(is_plain)
+        self.script
+            .iter()
+            .all(|fragment| is_comment(fragment) || is_plain(fragment))
     }
 
     /// The calls of a device that fail. The only error is out of memory.
@@ -229,6 +233,11 @@ fn extend(bytes: &mut Vec<u8>, count: u32, text: &str, end: &[u8]) -> Result<(),
         bytes.extend_from_slice(end)?;
     }
     Ok(())
+}
+
+/// Whether a fragment is a comment line, or several, which have no answers.
+fn is_comment(fragment: &Fragment) -> bool {
+    matches!(fragment, Fragment::Lines(_, line) if line.starts_with("#"))
 }
 
 fn is_plain(fragment: &Fragment) -> bool {

@@ -31,7 +31,7 @@ pub that_does : (o : Option Doing) (does : Does) → does_of o ≡ Some does →
 that_does None does e = absurd (cc e)
 that_does (Some d) does e = (d, refl, cc e)
 
--- it goes on well
+-- it is under way
 pub under_way : (h : ClientValue) (d : Doing) → h.doing ≡ Some d → IsReady h → IsUnderWay h d
 under_way h d busy ready = subst (λ (o : Option Doing). IfSome o (IsUnderWay h)) busy ready.doing
 

@@ -1,4 +1,4 @@
--- What a commit leaves of its client where the operation goes on: it goes on well, and fewer requests are left.
+-- What a commit leaves of its client where the operation goes on: it is under way, and fewer requests are left.
 use Rattle.std.proofs.Common.{◌≡◌, ℕ, ◌+◌, ◌*◌, ◌-◌, ◌≤◌, ◌<◌, true, false, ◌||◌, length}
 use Rattle.std.proofs.Common.{Option, None, Some, refl, sym, ap, ◌∙◌, arith}
 use Rattle.std.specs.Prelude.{is_some}
@@ -101,7 +101,7 @@ module _ (h : ClientValue) (d : Doing) where
           asking does.Copies e refl
       by_form (SaysStats o e first session) = absurd (cc (ending (does.Answers answer.CacheStats) e))
 
--- ---- it goes on well
+-- ---- it is under way
 
 module _ (h : ClientValue) (d : Doing) (segment : Segment) (form : IsForm h d)
     (next : segment_left d.flush h.pending ≡ Some segment) where

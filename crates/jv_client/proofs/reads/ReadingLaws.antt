@@ -297,7 +297,7 @@ module _ (offset len block : ℕ) (h : ClientValue) (d : Doing) (busy : h.doing 
       knows = later-knows;
     }
 
-    -- it goes on well by the views of its handle
+    -- it is under way by the views of its handle
     reads-on : (sizes : ℕ → ℕ) (blocks : Blocks) → AreSizedBy sizes on.file.views
         → IfSome h.cache (IsCacheOf sizes block blocks) → HasCached blocks on.file.views block cache
     reads-on sizes blocks sized known =

@@ -78,7 +78,7 @@ module _ (now entry : ℕ) (h : ClientValue) (d : Doing) (busy : h.doing ≡ Som
   abbrev used : Shared
   used = record v { keeper = keeper }
 
-  -- in whose name it is tried
+  -- in whose name it runs
   abbrev pub asks_as : Who
   asks_as = record { sid = session_here h; held = []; now = now }
 

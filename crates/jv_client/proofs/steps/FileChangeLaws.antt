@@ -100,7 +100,7 @@ module _ (now : ℕ) (h : ClientValue) (d : Doing) (busy : h.doing ≡ Some d) (
   abbrev used : Shared
   used = record v { keeper = keeper }
 
-  -- in whose name it is tried
+  -- in whose name it runs
   abbrev pub who_is : Who
   who_is = record { sid = session_here h; held = []; now = now }
 
@@ -219,7 +219,7 @@ module _ (now : ℕ) (h : ClientValue) (d : Doing) (busy : h.doing ≡ Some d) (
             ∙ ap (λ inode. Copied (inode_here h.handles source) from inode to count) same)
             same request.1
 
-  -- one in whose name a change is tried, and the files that it is on
+  -- one in whose name a change runs, and the files that it is on
   abbrev asker : ℕ → ℕ → Caller
   asker inode other = record {
     client = h.id;

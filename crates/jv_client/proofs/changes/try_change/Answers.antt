@@ -1,4 +1,4 @@
--- A truncate or a copy of the files of the operation's handles is tried.
+-- A truncate or a copy of the files of the operation's handles runs.
 use Rattle.std.proofs.Common.{sym, ap, subst, ◌∙◌}
 use Rattle.jv_model.specs.tree.Trash.{due_after}
 use Rattle.jv_client_handles.specs.Handles.{inode_here}

@@ -1,4 +1,4 @@
--- A transaction is tried in the client's name.
+-- A transaction runs in the client's name.
 use Rattle.std.proofs.Common.{refl, sym, ap, ◌∙◌}
 use Rattle.std.specs.Prelude.{unwrap_or}
 use Rattle.jv_model.specs.promise.client.ModelClient.{free_handle}

@@ -1,5 +1,5 @@
 use Rattle.jv_rows_drafts.proofs.DraftedLaws.{was_drafted}
-use Rattle.jv_live.proofs.MindLaws.{drafting-end_session}
+use Rattle.jv_live.proofs.DraftLaws.{drafting-end_session}
 use Rattle.jv_live.proofs.steps.end_session.Goals as goal
 
 pub returns : goal.returns

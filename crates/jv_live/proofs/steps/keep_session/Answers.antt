@@ -1,5 +1,5 @@
 use Rattle.jv_rows_drafts.proofs.DraftedLaws.{was_drafted}
-use Rattle.jv_live.proofs.MindLaws.{drafting-keep_session}
+use Rattle.jv_live.proofs.DraftLaws.{drafting-keep_session}
 use Rattle.jv_live.proofs.steps.keep_session.Goals as goal
 
 pub returns : goal.returns

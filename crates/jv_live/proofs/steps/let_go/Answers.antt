@@ -1,5 +1,5 @@
 use Rattle.jv_rows_drafts.proofs.DraftedLaws.{was_drafted}
-use Rattle.jv_live.proofs.MindLaws.{drafting-let_go}
+use Rattle.jv_live.proofs.DraftLaws.{drafting-let_go}
 use Rattle.jv_live.proofs.steps.let_go.Goals as goal
 
 pub returns : goal.returns

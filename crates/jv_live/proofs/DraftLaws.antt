@@ -1,4 +1,4 @@
--- Rows in mind stay those of a tree when a session or a sustained file comes or goes, and when the next session rises.
+-- Drafted rows stay those of a tree when a session or a sustained file comes or goes, and when the next session rises.
 use Rattle.std.proofs.Common.{◌≡◌, ℕ, ◌<◌, ◌^◌, false, List, Option, None, Some, Ok, refl, sym, ap, subst, ◌∙◌, arith}
 use Rattle.std.specs.Prelude.{◌==◌}
 use Rattle.jv_model.specs.declared.row.Counters.{Counters}
