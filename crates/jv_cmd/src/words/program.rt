@@ -8,6 +8,12 @@ ghost use Rattle.jv_cmd.specs.promise.Program.{bare_app, flag, format_app, free_
 use clap::{Arg, ArgAction, Command};
 use std::alloc::{AllocError, Global};
 
+/// What follows the options in the help of `session`.
+const FORM_OF_A_LINE: &str = "\
+A line of the script is a client, A to H, and an operation, as in `A create /f 0644`, or one of
+`begin OPERATION`, `step`, `run` and `crash` in its place; or it is `tick SECONDS`. Each prints one line.
+The operations, their answers and errors are in docs/MANUAL.md.";
+
 /// The program, as `clap` reads its words. They begin with the command, and not with the program's name.
 #[tactic(auto, unfolding(crate::specs::promise::Program::program_app))]
 pub(crate) fn program<'a>(alloc: Global) -> Result<Command<'a>, AllocError>
@@ -124,9 +130,9 @@ fn with_limits<'a>(alloc: Global, command: Command<'a>) -> Result<Command<'a>, A
 fn session<'a>(alloc: Global) -> Result<Command<'a>, AllocError>
     ensures { IfOk result (IsApp session_app) }
 {
-    let command = Command::new(alloc, "session").about(
-        "Run the script on standard input over a volume",
-    );
+    let command = Command::new(alloc, "session")
+        .about("Run the script on standard input over a volume")
+        .after_help(FORM_OF_A_LINE);
     let command = with_arg(command, url(alloc))?;
     let command = with_sizes(alloc, command)?;
     let command = with_staging(alloc, command)?;
