@@ -19,6 +19,7 @@ import stat
 import subprocess
 import sys
 import tempfile
+import traceback
 from collections import Counter
 from itertools import zip_longest
 from pathlib import Path
@@ -152,8 +153,11 @@ class Kernel:
         return ()
 
     def rename(self, path, new, form=''):
+        """POSIX has EISDIR for a file that is to replace a directory; Linux has ENOTEMPTY where it lies in that one."""
         if self.libc.renameat2(AT_FDCWD, path, AT_FDCWD, new, FORMS[form]):
-            raise OSError(ctypes.get_errno(), 'renameat2')
+            code = ctypes.get_errno()
+            is_file = code == errno.ENOTEMPTY and not stat.S_ISDIR(os.lstat(path).st_mode)
+            raise OSError(errno.EISDIR if is_file else code, 'renameat2')
         return ()
 
     def flush(self, number):
@@ -183,12 +187,11 @@ class Kernel:
     def copy(self, source, start, target, place, length):
         handles = self.handle(source), self.handle(target)
         self.commit(*handles)
-        copied = 0
-        while True:
-            more = os.copy_file_range(*handles, length - copied, start + copied, place + copied)
-            copied += more
-            if not more or copied == length:
-                return (copied,)
+        wanted = min(length, max(0, os.fstat(handles[0]).st_size - start))
+        copied = os.copy_file_range(*handles, length, start, place)
+        while copied < wanted:
+            copied += os.copy_file_range(*handles, wanted - copied, start + copied, place + copied)
+        return (copied,)
 
 
 class Drawing:
@@ -336,13 +339,9 @@ class Drawing:
         return self.handle(), self.position(), self.handle(), self.position(), length
 
 
-def drawn(seed):
-    """The lines of a script, and the kernel's answers, from a process that is put into a folder of its own."""
-    folder = tempfile.mkdtemp(prefix='juicevol-linux-', dir=TMPFS)
-    reading, writing = os.pipe()
-    child = os.fork()
-    if not child:
-        os.close(reading)
+def draw_in(folder, seed, writing):
+    """Draws a script with the folder as the root of this process, hands it on, and ends the process."""
+    try:
         os.chroot(folder)
         os.chdir('/')
         os.chmod('/', 0o777)
@@ -351,13 +350,26 @@ def drawn(seed):
         with os.fdopen(writing, 'w') as out:
             json.dump((drawing.lines, drawing.answers), out)
         os._exit(0)
+    except BaseException:
+        traceback.print_exc()
+        os._exit(1)
+
+
+def drawn(seed):
+    """The lines of a script, and the kernel's answers, from a process that is put into a folder of its own."""
+    folder = tempfile.mkdtemp(prefix='juicevol-linux-', dir=TMPFS)
+    reading, writing = os.pipe()
+    child = os.fork()
+    if not child:
+        os.close(reading)
+        draw_in(folder, seed, writing)
     os.close(writing)
-    try:
-        with os.fdopen(reading) as given:
-            said = given.read()
-        os.waitpid(child, 0)
-    finally:
-        shutil.rmtree(folder)
+    with os.fdopen(reading) as given:
+        said = given.read()
+    ended = os.waitpid(child, 0)[1]
+    shutil.rmtree(folder)
+    if ended:
+        sys.exit(f'linux: seed {seed} could not be drawn')
     return json.loads(said)
 
 
