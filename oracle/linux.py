@@ -444,6 +444,8 @@ def main():
         skip('only root can give a process a root of its own')
     if not is_tmpfs(TMPFS):
         skip(f'no tmpfs is mounted at {TMPFS}')
+    if not (words.write or words.found or os.access(words.program, os.X_OK)):
+        sys.exit(f'linux: no program at {words.program}: run ./juicevol build')
     refusals, count, differences = Counter(), 0, 0
     for seed in range(words.seed, words.seed + words.scripts):
         lines, wanted = drawn(seed)
