@@ -31,7 +31,8 @@ PROGRAM = TOP / 'crates/juicevol/out/juicevol'
 WORDS = ['session', 'sqlite3://:memory:']
 TMPFS = '/dev/shm'
 LINES = 60
-NAMES = [b'a', b'b', b'c', b'd']
+NAMES = [b'a', b'b', b'c', b'd', b'e', b'f']
+ON_HANDLES = ['fstat', 'close', 'flush', 'truncate', 'read', 'write', 'copy']
 ODD_NAMES = [b'n' * 255, b'n' * 256, b'\x80\xff', b'a b', b'%', b'~', b'x' * 250]
 KINDS = {stat.S_IFREG: 'f', stat.S_IFDIR: 'd', stat.S_IFLNK: 'l'}
 FORMS = {'': 0, 'noreplace': 1, 'exchange': 2}  # the flags of renameat2
@@ -72,8 +73,11 @@ class Kernel:
             self.pending.discard(os.fstat(handle).st_ino)
 
     def describe(self, found, committed=True):
-        """Attributes. The trash of the program has the entry of a file that no directory here has any more; the length
-        of a directory is the file system's own, and that of a file by path the one that is committed."""
+        """Attributes.
+
+        The program's trash has the entry of a file that no directory here has any more. The length of a directory is
+        the file system's own, and that of a file by its path the one that is committed.
+        """
         kind = KINDS[stat.S_IFMT(found.st_mode)]
         size = '*' if kind == 'd' or not committed and found.st_ino in self.pending else found.st_size
         mode = f'{stat.S_IMODE(found.st_mode):04o}'
@@ -153,7 +157,7 @@ class Kernel:
         return ()
 
     def rename(self, path, new, form=''):
-        """POSIX has EISDIR for a file that is to replace a directory; Linux has ENOTEMPTY where it lies in that one."""
+        """POSIX has EISDIR for a file that is to replace a directory; Linux ENOTEMPTY where it lies in that one."""
         if self.libc.renameat2(AT_FDCWD, path, AT_FDCWD, new, FORMS[form]):
             code = ctypes.get_errno()
             is_file = code == errno.ENOTEMPTY and not stat.S_ISDIR(os.lstat(path).st_mode)
@@ -206,6 +210,8 @@ class Drawing:
         self.say('mount')
         while len(self.lines) < LINES:
             name = self.random.choices(list(OPERATIONS), list(OPERATIONS.values()))[0]
+            if name in ON_HANDLES and not self.kernel.handles and self.chance(0.9):
+                name = self.pick('create', 'create', 'open')
             self.say(name, *getattr(self, f'draw_{name}', self.draw_path_alone)())
         self.say_all()
 
@@ -250,13 +256,16 @@ class Drawing:
         return self.random.choice(ODD_NAMES if odd and self.chance(self.oddness) else NAMES)
 
     def path(self, new=0.1, last=False, odd=True):
-        """A path, of which it is drawn whether it is there. Where its last name is to be one of an entry it isn't `.` or
-        `..`, and none ends in a slash: the program has rules of its own for these."""
+        """A path, of which it is drawn whether it is there.
+
+        Where its last name is to be one of an entry it isn't `.` or `..`, and none ends in a slash: the program has
+        rules of its own for these.
+        """
         found = self.paths()
         path = self.random.choice(found) if found and self.chance(0.9) else b'/'
         if self.chance(new):
-            folder = path if os.path.isdir(path) and self.chance(0.6) else path[: path.rfind(b'/')]
-            path = folder.rstrip(b'/') + b'/' + self.name(odd)
+            folder = path if os.path.isdir(path) and self.chance(0.7) or self.chance(0.05) else path[: path.rfind(b'/')]
+            path = folder.rstrip(b'/') + b'/' + (self.name(odd) + b'/' if self.chance(0.04) else b'') + self.name(odd)
         elif self.chance(0.1):
             path = b''.join(b'/' + self.name(odd) for _ in range(self.pick(1, 2, 2, 3)))
         elif path == b'/' and last:
@@ -384,7 +393,7 @@ def named(answer, inodes):
 
 
 def marked(answer, pattern):
-    """The program's answer, with `i` before what is an inode and `*` for what isn't compared, by the kernel's answer."""
+    """The program's answer, with `i` before what is an inode and `*` for what isn't compared, by the kernel's."""
     words, wanted = answer.split(' '), pattern.split(' ')
     if len(words) != len(wanted):
         return answer
