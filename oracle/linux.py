@@ -348,13 +348,36 @@ class Drawing:
         return self.handle(), self.position(), self.handle(), self.position(), length
 
 
+def enter(folder):
+    """Makes the folder the root of this process."""
+    os.chroot(folder)
+    os.chdir('/')
+    os.chmod('/', 0o777)
+    os.umask(0)
+
+
+def may_enter():
+    """Whether this process may do all that a script asks for; a container can keep some of it from root."""
+    folder = tempfile.mkdtemp(prefix='juicevol-linux-', dir=TMPFS)
+    child = os.fork()
+    if not child:
+        try:
+            enter(folder)
+            os.close(os.open('/f', os.O_CREAT | os.O_RDWR, 0o644))
+            os.chown('/f', 4294967294, 7)
+            os.chmod('/f', 0o6777)
+            os._exit(0)
+        finally:
+            os._exit(1)
+    ended = os.waitpid(child, 0)[1]
+    shutil.rmtree(folder)
+    return not ended
+
+
 def draw_in(folder, seed, writing):
     """Draws a script with the folder as the root of this process, hands it on, and ends the process."""
     try:
-        os.chroot(folder)
-        os.chdir('/')
-        os.chmod('/', 0o777)
-        os.umask(0)
+        enter(folder)
         drawing = Drawing(seed)
         with os.fdopen(writing, 'w') as out:
             json.dump((drawing.lines, drawing.answers), out)
@@ -453,6 +476,8 @@ def main():
         skip('only root can give a process a root of its own')
     if not is_tmpfs(TMPFS):
         skip(f'no tmpfs is mounted at {TMPFS}')
+    if not may_enter():
+        skip('this process may not change its root, or owners of files')
     if not (words.write or words.found or os.access(words.program, os.X_OK)):
         sys.exit(f'linux: no program at {words.program}: run ./juicevol build')
     refusals, count, differences = Counter(), 0, 0
