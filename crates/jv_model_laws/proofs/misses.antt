@@ -1,0 +1,2 @@
+-- Why blocks are missed.
+pub mod LetGoLaws
