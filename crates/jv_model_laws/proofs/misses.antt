@@ -1,2 +1,3 @@
 -- Why blocks are missed.
+pub mod CompactionLookLaws
 pub mod LetGoLaws
