@@ -312,12 +312,12 @@ pub first_found : (test : View → Bool) (views : List View) (v : View) (P : Vie
 first_found test [] v P all e = absurd (cc)
 first_found test (x ∷ xs) v P all e = first_branch test x v (find test xs) (test x) refl P all.0 (first_found test xs v P all.1) e
 
-record IsOf (v : View) (file : OpenFile) (window : ℕ) : Type 0 where
-  inode : v.inode ≡ file.inode
-  at_window : v.window ≡ window
-  opened : file.opened < v.entry
+pub record IsOf (v : View) (file : OpenFile) (window : ℕ) : Type 0 where
+  pub inode : v.inode ≡ file.inode
+  pub at_window : v.window ≡ window
+  pub opened : file.opened < v.entry
 
-fresh_is_of : (handle : ℕ) (file : OpenFile) (window : ℕ) (v : View) → IsTrue (is_fresh handle file window v) → IsOf v file window
+pub fresh_is_of : (handle : ℕ) (file : OpenFile) (window : ℕ) (v : View) → IsTrue (is_fresh handle file window v) → IsOf v file window
 fresh_is_of handle file window v h = record { inode = grind (arith, nat_tests); at_window = grind (arith, nat_tests); opened = grind (arith, nat_tests) }
 
 abbrev seen_in : Setup → List Act → ℕ → ℕ → Content

@@ -1,3 +1,4 @@
 -- Why blocks are missed.
 pub mod CompactionLookLaws
 pub mod LetGoLaws
+pub mod MissLaws

@@ -1,5 +1,5 @@
 -- What a compaction has looked at.
-use Rattle.std.proofs.Common.{◌≡◌, ℕ, suc, ◌+◌, ◌≤◌, ◌<◌, Bool, true, false, ◌||◌, ◌&&◌, not, ◌==◌, if◌then◌else◌, IsTrue, IsSomeAnd, IfSome, MatchBool, inl, inr, List, [], ◌∷◌, ◌++◌, length, is_some, Option, None, Some, Result, Ok, Err, refl, sym, ap, subst, ◌∙◌, arith, length-append}
+use Rattle.std.proofs.Common.{◌≡◌, ℕ, ◌+◌, ◌<◌, Bool, true, false, ◌||◌, ◌==◌, if◌then◌else◌, IsSomeAnd, IfSome, MatchBool, inl, inr, List, [], ◌∷◌, ◌++◌, length, is_some, Option, None, Some, Result, Ok, Err, refl, sym, ap, subst, ◌∙◌, arith, length-append}
 use Rattle.std.proofs.lemmas.Bool.Decides.{leb_tells, eqb_tells}
 use Rattle.jv_model.specs.declared.act.TheConstants.{NO_CLIENT}
 use Rattle.jv_model.specs.declared.act.Act.{Act}
@@ -21,9 +21,9 @@ use Rattle.jv_model.specs.promise.client.Origins.{Owed, Marks}
 use Rattle.jv_model.specs.promise.client.Profile.{handle_of}
 use Rattle.jv_model.specs.promise.client.ModelClient.{ModelClient, View, Doing, Stage, Cleaning, Compaction, Working, Reading, Missing, LookedAgain, Compacting, Cleans, Listed, Judged, Removing, Published, Replying, unmounted, with_stage, views_without}
 use Rattle.jv_model.specs.promise.client.Submission.{submission, submitted, is_flushed}
-use Rattle.jv_model.specs.promise.journal.State.{State, with_client, set_client, given, transacted, newly_sustained, next_entry, gift_of, after_transaction, has_session, removes_block, quieted, begun_quietly, flushing_on, cleaning_on, after_judging, looked, compaction_looked, missed, committed_stage, answer_then, replaced, after_told, answered_client, is_of_another, after_step, of_doing, changed, effect, view_now, is_compaction, sees_first, first_cleaning, state_at_start}
+use Rattle.jv_model.specs.promise.journal.State.{State, with_client, set_client, given, transacted, newly_sustained, next_entry, gift_of, after_transaction, has_session, removes_block, quieted, begun_quietly, flushing_on, cleaning_on, after_judging, looked, compaction_looked, missed, committed_stage, answer_then, replaced, after_told, answered_client, is_of_another, after_step, of_doing, changed, effect, view_now, is_compaction, sees_first, first_cleaning}
 use Rattle.jv_model.specs.promise.journal.Reading.{asked_parts}
-use Rattle.jv_model.specs.promise.journal.Steps.{Start, LooksAt, CompactionLooks, First, Again, MayStep, MayLook}
+use Rattle.jv_model.specs.promise.journal.Steps.{Start, LooksAt, CompactionLooks, First, Again, MayStep}
 use Rattle.jv_model.specs.promise.journal.Past.{Setup, Past, at_start, begun_to, reached}
 use Rattle.jv_model.specs.promise.journal.Legal.{Allowed, AllAllowed, Refuses as RefusesSubmission, LacksMemory as RefusalLacks}
 use Rattle.jv_model.specs.journal.Looks.{entry_at}

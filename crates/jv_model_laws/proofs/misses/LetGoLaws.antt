@@ -7,7 +7,7 @@ use Rattle.std.specs.Ordering.{is_eq}
 use Rattle.std.specs.FinMap.Entries.{find}
 use Rattle.jv_model.specs.declared.act.Act.{Act}
 use Rattle.jv_model.specs.declared.act.ActKind.{ActKind}
-use Rattle.jv_model.specs.declared.act.ActKind.TheVariants.{Mounted, Meta, Opened, Look, Commit, Truncated, Copied, Compacted, Settled, Expired, Purged, Cleaned, Quiet, Miss, Crashed, Ticked, Answered}
+use Rattle.jv_model.specs.declared.act.ActKind.TheVariants.{Mounted, Meta, Opened, Commit, Truncated, Copied, Compacted, Settled, Expired, Purged, Quiet, Crashed, Answered}
 use Rattle.jv_model.specs.declared.op.Op.{Op}
 use Rattle.jv_model.specs.declared.profile.Does.{Does}
 use Rattle.jv_model.specs.declared.profile.Does.TheVariants.{Cleans as DoesClean}
@@ -15,8 +15,8 @@ use Rattle.jv_model.specs.promise.FiniteMap.{KeyOrder, number_key, get}
 use Rattle.jv_model.specs.promise.tree.Tree.{Tree, Node, node_at}
 use Rattle.jv_model.specs.promise.client.ModelClient.{Doing}
 use Rattle.jv_model.specs.promise.client.Submission.{submission, submitted}
-use Rattle.jv_model.specs.promise.journal.State.{State, FileChange, FileChangeKind, Written, Replaced, Ended, changed_at, gone_between, next_entry, state_at_start, set_client, is_cleaning, after_step, after_other, of_doing, changed, effect}
-use Rattle.jv_model.specs.promise.journal.Past.{Setup, Past, at_start, begun_to, reached}
+use Rattle.jv_model.specs.promise.journal.State.{State, FileChange, FileChangeKind, Written, Replaced, Ended, changed_at, gone_between, next_entry, set_client, is_cleaning, after_step, after_other, of_doing, changed, effect}
+use Rattle.jv_model.specs.promise.journal.Past.{Setup, at_start, begun_to, reached}
 use Rattle.jv_model.specs.promise.journal.Legal.{Allowed, AllAllowed}
 use Rattle.jv_model.specs.journal.Looks.{entry_at}
 use Rattle.jv_model_laws.specs.Laws.{replaces_slices, LetsGo, ReplacesSlices, EndsFile, IsCleaningRequest}
@@ -158,7 +158,7 @@ pub data IsSwept (run : Setup) (pre : List Act) (entry : ℕ) : Type 0 where
   Never : entry ≡ 0 → IsSwept run pre entry
   By : (before : ℕ) → IsSweptBy run pre entry before → IsSwept run pre entry
 
-pub record Told (run : Setup) (pre : List Act) (s : State) : Type 0 where
+pub record Recorded (run : Setup) (pre : List Act) (s : State) : Type 0 where
   pub count : s.count ≡ length pre
   pub tree : s.tree ≡ (reached run pre).state.tree
   pub changes : AreChanges run pre s.changes
@@ -208,12 +208,12 @@ module _ (run : Setup) (pre : List Act) (e : Act) where
 
   -- the entry itself
 
-  module _ (s : State) (here : (begun_to e.line (reached run pre)).state ≡ s) (told : Told run pre s) where
+  module _ (s : State) (here : (begun_to e.line (reached run pre)).state ≡ s) (recorded : Recorded run pre s) where
     at_last : next_entry s ≡ suc (length pre)
-    at_last = let count = told.count in omega (arith, count)
+    at_last = let count = recorded.count in omega (arith, count)
 
     within_last : next_entry s ≤ length longer
-    within_last = let count = told.count in let l = length-append pre (e ∷ []) in omega (arith, count, l)
+    within_last = let count = recorded.count in let l = length-append pre (e ∷ []) in omega (arith, count, l)
 
     entry_now : entry_at longer (suc (length pre)) ≡ Some e
     entry_now = let last : suc (length pre) ≡ length pre + 1 = omega arith in ap (entry_at longer) last ∙ entry_last pre e
@@ -222,7 +222,7 @@ module _ (run : Setup) (pre : List Act) (e : Act) where
     whole = take-append-le (length pre) pre (e ∷ []) (omega arith) ∙ take_all (length pre) pre (omega arith)
 
     tree_before : (state_after run longer (length pre)).tree ≡ s.tree
-    tree_before = ap (λ acts. (reached run acts).state.tree) whole ∙ sym told.tree
+    tree_before = ap (λ acts. (reached run acts).state.tree) whole ∙ sym recorded.tree
 
     tree_now : (reached run longer).state.tree ≡ (effect s e).tree
     tree_now = ap (λ (t : State). t.tree) (state-more run pre e ∙ ap (λ t. effect t e) here)
@@ -249,15 +249,15 @@ module _ (run : Setup) (pre : List Act) (e : Act) where
     }
 
     changes_now : ChangesAfter s e.kind (effect s e) → AreChanges run longer (effect s e).changes
-    changes_now (Kept same) = subst (AreChanges run longer) (sym same) (changes_later s.changes told.changes)
-    changes_now (Writes inode same) = subst (AreChanges run longer) (sym same) (tt, changes_later s.changes told.changes)
-    changes_now (Replaces inode h same) = subst (AreChanges run longer) (sym same) (replaces_now inode h, changes_later s.changes told.changes)
+    changes_now (Kept same) = subst (AreChanges run longer) (sym same) (changes_later s.changes recorded.changes)
+    changes_now (Writes inode same) = subst (AreChanges run longer) (sym same) (tt, changes_later s.changes recorded.changes)
+    changes_now (Replaces inode h same) = subst (AreChanges run longer) (sym same) (replaces_now inode h, changes_later s.changes recorded.changes)
     changes_now (Ends same) = subst (AreChanges run longer) (sym same)
-        (ended_all s.tree (effect s e).tree (λ (change : FileChange). IsChange run longer change.entry change.inode change.kind) (next_entry s) s.changes (changes_later s.changes told.changes)
+        (ended_all s.tree (effect s e).tree (λ (change : FileChange). IsChange run longer change.entry change.inode change.kind) (next_entry s) s.changes (changes_later s.changes recorded.changes)
         ends_now s.tree.nodes.list (nodes_there s.tree))
 
     swept_now : SweptAfter s e e.kind (effect s e) → IsSwept run longer (effect s e).swept
-    swept_now (Unswept same) = subst (IsSwept run longer) (sym same) (swept_later s.swept told.swept)
+    swept_now (Unswept same) = subst (IsSwept run longer) (sym same) (swept_later s.swept recorded.swept)
     swept_now (Swept d busy quiet does same) = subst (IsSwept run longer) (sym same) (By (length pre) (record {
       at = at_last;
       within = within_last;
@@ -271,9 +271,9 @@ module _ (run : Setup) (pre : List Act) (e : Act) where
       };
     }))
 
-told_enters : (run : Setup) (pre : List Act) (act : Act) → Allowed (begun_to act.line (reached run pre)) act → Told run pre (begun_to act.line (reached run pre)).state
-    → Told run (pre ++ act ∷ []) (effect (begun_to act.line (reached run pre)).state act)
-told_enters run pre act may h =
+recorded_enters : (run : Setup) (pre : List Act) (act : Act) → Allowed (begun_to act.line (reached run pre)) act → Recorded run pre (begun_to act.line (reached run pre)).state
+    → Recorded run (pre ++ act ∷ []) (effect (begun_to act.line (reached run pre)).state act)
+recorded_enters run pre act may h =
     let s = (begun_to act.line (reached run pre)).state in
     record {
       count = ap (λ n. n + 1) h.count ∙ sym (length-append pre (act ∷ []));
@@ -282,10 +282,10 @@ told_enters run pre act may h =
       swept = swept_now run pre act s refl h (swept_changed s act act.kind);
     }
 
-told_submits : (run : Setup) (pre : List Act) (s : State) (client : ℕ) (o : Op) → submission (s.clients client) o ≡ None → Told run pre s
-    → Told run pre (set_client s client (submitted run.limits o (s.clients client)))
-told_submits run pre s client o none h = record { count = h.count; tree = h.tree; changes = h.changes; swept = h.swept }
+recorded_submits : (run : Setup) (pre : List Act) (s : State) (client : ℕ) (o : Op) → submission (s.clients client) o ≡ None → Recorded run pre s
+    → Recorded run pre (set_client s client (submitted run.limits o (s.clients client)))
+recorded_submits run pre s client o none h = record { count = h.count; tree = h.tree; changes = h.changes; swept = h.swept }
 
-pub all_told : (run : Setup) (journal : List Act) → AllAllowed (at_start run) journal → (line : ℕ) → Told run journal (begun_to line (reached run journal)).state
-all_told run journal may line =
-    holds_on run (Told run) (told_submits run) (told_enters run) (record { count = refl; tree = refl; changes = tt; swept = Never refl }) journal may line
+pub all_recorded : (run : Setup) (journal : List Act) → AllAllowed (at_start run) journal → (line : ℕ) → Recorded run journal (begun_to line (reached run journal)).state
+all_recorded run journal may line =
+    holds_on run (Recorded run) (recorded_submits run) (recorded_enters run) (record { count = refl; tree = refl; changes = tt; swept = Never refl }) journal may line
