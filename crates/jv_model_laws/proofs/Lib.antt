@@ -17,5 +17,5 @@ pub mod JournalStageLaws
 pub mod JournalStateLaws
 pub mod JournalUploadLaws
 pub mod NotedLineLaws
-pub mod misses
 pub mod LineStepLaws
+pub mod misses

@@ -2,3 +2,4 @@
 pub mod CompactionLookLaws
 pub mod LetGoLaws
 pub mod MissLaws
+pub mod OperationLaws

@@ -16,7 +16,6 @@ use Rattle.jv_model.specs.declared.fault.Fault.TheVariants.{Stale, NoMemory, InP
 use Rattle.jv_model.specs.declared.fault.Gone.TheVariants.{Session, Node}
 use Rattle.jv_model.specs.declared.op.Op.{Op}
 use Rattle.jv_model.specs.declared.op.Op.TheVariants as op
-use Rattle.jv_model.specs.declared.profile.Does.TheVariants.{Cleans as DoesClean}
 use Rattle.jv_model.specs.promise.client.Pending.{pending_of}
 use Rattle.jv_model.specs.promise.client.Origins.{Origin, Start, Committed}
 use Rattle.jv_model.specs.promise.client.ModelClient.{ModelClient, OpenFile, View, Doing, Stage, Cleaning, Cleans, file_of, inode_at, session_of}
@@ -594,7 +593,7 @@ pub record IsCleaningRequest (run : Setup) (journal : List Act) (before : ℕ) :
   pub doing : Doing
   pub in_progress : ((begun_to act.line
       (reached run (take before journal))).state.clients act.client).doing ≡ Some doing
-  pub cleans : doing.does ≡ DoesClean
+  pub cleans : doing.op ≡ op.Clean
 
 -- Why a block that an operation's look showed may be missing: another client owes a byte that is
 -- asked for, as it was just after the look; or since the look slices of the file were let go, and a

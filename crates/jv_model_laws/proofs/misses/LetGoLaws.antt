@@ -9,12 +9,12 @@ use Rattle.jv_model.specs.declared.act.Act.{Act}
 use Rattle.jv_model.specs.declared.act.ActKind.{ActKind}
 use Rattle.jv_model.specs.declared.act.ActKind.TheVariants.{Mounted, Meta, Opened, Commit, Truncated, Copied, Compacted, Settled, Expired, Purged, Quiet, Crashed, Answered}
 use Rattle.jv_model.specs.declared.op.Op.{Op}
-use Rattle.jv_model.specs.declared.profile.Does.{Does}
-use Rattle.jv_model.specs.declared.profile.Does.TheVariants.{Cleans as DoesClean}
+use Rattle.jv_model.specs.declared.op.Op.TheVariants as op
 use Rattle.jv_model.specs.promise.FiniteMap.{KeyOrder, number_key, get}
 use Rattle.jv_model.specs.promise.tree.Tree.{Tree, Node, node_at}
 use Rattle.jv_model.specs.promise.client.ModelClient.{Doing}
-use Rattle.jv_model.specs.promise.client.Submission.{submission, submitted}
+use Rattle.jv_model.specs.promise.client.Profile.{profile}
+use Rattle.jv_model.specs.promise.client.Submission.{submission, submitted, by_limits}
 use Rattle.jv_model.specs.promise.journal.State.{State, FileChange, FileChangeKind, Written, Replaced, Ended, changed_at, gone_between, next_entry, set_client, is_cleaning, after_step, after_other, of_doing, changed, effect}
 use Rattle.jv_model.specs.promise.journal.Past.{Setup, at_start, begun_to, reached}
 use Rattle.jv_model.specs.promise.journal.Legal.{Allowed, AllAllowed}
@@ -22,6 +22,8 @@ use Rattle.jv_model.specs.journal.Looks.{entry_at}
 use Rattle.jv_model_laws.specs.Laws.{replaces_slices, LetsGo, ReplacesSlices, EndsFile, IsCleaningRequest}
 use Rattle.jv_model.proofs.FiniteMapLaws.{found_here}
 use Rattle.jv_model_laws.proofs.JournalStateLaws.{entry_before, entry_last, holds_on, state-more, of_kind}
+use Rattle.jv_model_laws.proofs.JournalStageLaws.{clean_op}
+use Rattle.jv_model_laws.proofs.misses.OperationLaws.{DoesItsOwn, AllDoTheirOwn, own_after, own_submitted}
 use Rattle.jv_model_laws.proofs.JournalLooksLaws.{state_after, states_same, state_last}
 
 -- what an entry does to the list of changes
@@ -67,18 +69,14 @@ changes_changed s act kind = changes_doing s (of_kind act kind) (s.clients act.c
 
 data SweptTo (s : State) (client : ℕ) (kind : ActKind) (swept : ℕ) : Type 0 where
   Unswept : swept ≡ s.swept → SweptTo s client kind swept
-  Swept : (d : Doing) → (s.clients client).doing ≡ Some d → kind ≡ Quiet → d.does ≡ DoesClean → swept ≡ next_entry s → SweptTo s client kind swept
+  Swept : (d : Doing) → (s.clients client).doing ≡ Some d → kind ≡ Quiet → IsTrue (is_cleaning d.does) → swept ≡ next_entry s → SweptTo s client kind swept
 
 abbrev SweptAfter : State → Act → ActKind → State → Type 0
 SweptAfter s act kind t = SweptTo s act.client kind t.swept
 
-cleaning_does : (does : Does) → is_cleaning does ≡ true → does ≡ DoesClean
-cleaning_does DoesClean e = refl
-cleaning_does _ e = absurd (cc)
-
 quiet_if : (s : State) (act : Act) (t : State) (d : Doing) → (s.clients act.client).doing ≡ Some d → (cleaning : Bool) → is_cleaning d.does ≡ cleaning
     → t.swept ≡ (if cleaning then next_entry s else s.swept) → SweptAfter s act Quiet t
-quiet_if s act t d busy true e h = Swept d busy refl (cleaning_does d.does e) h
+quiet_if s act t d busy true e h = Swept d busy refl e h
 quiet_if s act t d busy false e h = Unswept h
 
 swept_step : (s : State) (act : Act) (d : Doing) → (s.clients act.client).doing ≡ Some d → (kind : ActKind) → SweptAfter s act kind (after_step s act d kind)
@@ -163,6 +161,7 @@ pub record Recorded (run : Setup) (pre : List Act) (s : State) : Type 0 where
   pub tree : s.tree ≡ (reached run pre).state.tree
   pub changes : AreChanges run pre s.changes
   pub swept : IsSwept run pre s.swept
+  pub does : AllDoTheirOwn run.limits s.clients
 
 -- one more entry
 
@@ -256,6 +255,11 @@ module _ (run : Setup) (pre : List Act) (e : Act) where
         (ended_all s.tree (effect s e).tree (λ (change : FileChange). IsChange run longer change.entry change.inode change.kind) (next_entry s) s.changes (changes_later s.changes recorded.changes)
         ends_now s.tree.nodes.list (nodes_there s.tree))
 
+    cleaning_op : (d : Doing) → (s.clients e.client).doing ≡ Some d → IsTrue (is_cleaning d.does) → d.op ≡ op.Clean
+    cleaning_op d busy cleaning =
+        let own : d.does ≡ by_limits run.limits (profile d.op).does = subst (DoesItsOwn run.limits) busy (recorded.does e.client) in
+        clean_op run.limits d.op (subst (λ does. IsTrue (is_cleaning does)) own cleaning)
+
     swept_now : SweptAfter s e e.kind (effect s e) → IsSwept run longer (effect s e).swept
     swept_now (Unswept same) = subst (IsSwept run longer) (sym same) (swept_later s.swept recorded.swept)
     swept_now (Swept d busy quiet does same) = subst (IsSwept run longer) (sym same) (By (length pre) (record {
@@ -267,7 +271,7 @@ module _ (run : Setup) (pre : List Act) (e : Act) where
         quiet = quiet;
         doing = d;
         in_progress = subst (λ acts. ((begun_to e.line (reached run acts)).state.clients e.client).doing ≡ Some d) (sym whole) (subst (λ (t : State). (t.clients e.client).doing ≡ Some d) (sym here) busy);
-        cleans = does;
+        cleans = cleaning_op d busy does;
       };
     }))
 
@@ -280,12 +284,13 @@ recorded_enters run pre act may h =
       tree = sym (tree_now run pre act s refl h);
       changes = changes_now run pre act s refl h (changes_changed s act act.kind);
       swept = swept_now run pre act s refl h (swept_changed s act act.kind);
+      does = own_after run.limits s act h.does;
     }
 
 recorded_submits : (run : Setup) (pre : List Act) (s : State) (client : ℕ) (o : Op) → submission (s.clients client) o ≡ None → Recorded run pre s
     → Recorded run pre (set_client s client (submitted run.limits o (s.clients client)))
-recorded_submits run pre s client o none h = record { count = h.count; tree = h.tree; changes = h.changes; swept = h.swept }
+recorded_submits run pre s client o none h = record { count = h.count; tree = h.tree; changes = h.changes; swept = h.swept; does = own_submitted run.limits s client o h.does }
 
 pub all_recorded : (run : Setup) (journal : List Act) → AllAllowed (at_start run) journal → (line : ℕ) → Recorded run journal (begun_to line (reached run journal)).state
 all_recorded run journal may line =
-    holds_on run (Recorded run) (recorded_submits run) (recorded_enters run) (record { count = refl; tree = refl; changes = tt; swept = Never refl }) journal may line
+    holds_on run (Recorded run) (recorded_submits run) (recorded_enters run) (record { count = refl; tree = refl; changes = tt; swept = Never refl; does = λ client. tt }) journal may line
