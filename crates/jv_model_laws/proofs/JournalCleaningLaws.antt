@@ -64,7 +64,7 @@ expires_gone run journal act may sid k =
 abbrev Drops : ℕ → Act → Type 0
 Drops inode act = act.kind ≡ Cleaned TABLE_OF_DROPPED inode
 
--- every inode that was dropped is kept in mind
+-- each inode whose row an entry dropped is among those that the state has as dropped
 record Dropped (pre : List Act) (s : State) : Type 0 where
   keeps : (inode number : ℕ) → IsSomeAnd (entry_at pre number) (Drops inode) → IsTrue (is_among inode s.dropped)
 

@@ -17,6 +17,7 @@ use Rattle.jv_model.specs.declared.op.Op.{Op}
 use Rattle.jv_model.specs.declared.op.Op.TheVariants as op
 use Rattle.jv_model.specs.declared.profile.Does.{Does}
 use Rattle.jv_model.specs.promise.tree.Tree.{Tree, Content, content_at}
+use Rattle.jv_model.specs.promise.client.Origins.{Origin, Marks}
 use Rattle.jv_model.specs.promise.client.ModelClient.{ModelClient, OpenFile, View, Doing, Stage, Replying, unmounted, with_stage, views_without}
 use Rattle.jv_model.specs.promise.client.Submission.{submission, submitted}
 use Rattle.jv_model.specs.promise.journal.State.{State, transacted, newly_sustained, next_entry, gift_of, after_transaction, Gift, NewSession, NewHandle, Nothing, state_at_start, with_client, set_client, given, replied, finished, refused_as, after_told, answered_client, is_of_another, after_step, after_other, of_doing, changed, effect, view_now, or_empty, is_compaction}
@@ -166,8 +167,15 @@ views_entry p act h = views_changed p.state act act.kind (has_operation p act (e
 
 -- what a view is
 
+abbrev pub state_after : Setup → List Act → ℕ → State
+state_after run journal n = (reached run (take n journal)).state
+
 abbrev pub tree_after : Setup → List Act → ℕ → Tree
-tree_after run journal n = (reached run (take n journal)).state.tree
+tree_after run journal n = (state_after run journal n).tree
+
+-- where a file's bytes come from
+abbrev pub origins_in : State → ℕ → ℕ → Origin
+origins_in s inode = λ position. (s.marks inode position).origin
 
 abbrev pub IsLook : ℕ → ℕ → ℕ → Act → Type 0
 IsLook client inode window act = (act.client ≡ client) × (act.kind ≡ Look inode window)
@@ -179,12 +187,13 @@ pub record IsShown (run : Setup) (pre : List Act) (client : ℕ) (view : View) :
   pub looked : IsSomeAnd (entry_at pre view.entry) (IsLook client view.inode view.window)
   pub unchanged : (later : ℕ) → view.entry < later → IfSome (entry_at pre later) (LeavesFile client view.inode)
   pub content : view.content ≡ or_empty (content_at (tree_after run pre view.entry) view.inode)
+  pub origin : view.origin ≡ origins_in (state_after run pre view.entry) view.inode
 
-trees_same : (run : Setup) (pre : List Act) (e : Act) (n : ℕ) → n ≤ length pre → tree_after run (pre ++ e ∷ []) n ≡ tree_after run pre n
-trees_same run pre e n h = ap (λ acts. (reached run acts).state.tree) (take-append-le n pre (e ∷ []) h)
+pub states_same : (run : Setup) (pre : List Act) (e : Act) (n : ℕ) → n ≤ length pre → state_after run (pre ++ e ∷ []) n ≡ state_after run pre n
+states_same run pre e n h = ap (λ acts. (reached run acts).state) (take-append-le n pre (e ∷ []) h)
 
-tree_last : (run : Setup) (pre : List Act) (e : Act) → tree_after run (pre ++ e ∷ []) (length pre + 1) ≡ (reached run (pre ++ e ∷ [])).state.tree
-tree_last run pre e = ap (λ acts. (reached run acts).state.tree) (take_all (length pre + 1) (pre ++ e ∷ []) (let k = length-append pre (e ∷ []) in omega (arith, k)))
+pub state_last : (run : Setup) (pre : List Act) (e : Act) → state_after run (pre ++ e ∷ []) (length pre + 1) ≡ (reached run (pre ++ e ∷ [])).state
+state_last run pre e = ap (λ acts. (reached run acts).state) (take_all (length pre + 1) (pre ++ e ∷ []) (let k = length-append pre (e ∷ []) in omega (arith, k)))
 
 -- a view stays what it is after one more entry, where that is no change of its file by its client
 shown_later : (run : Setup) (pre : List Act) (e : Act) (client : ℕ) (view : View) → IsShown run pre client view → LeavesFile client view.inode e → IsShown run (pre ++ e ∷ []) client view
@@ -199,7 +208,8 @@ shown_later run pre e client view r g =
           | inr past ↦ subst (λ o. IfSome o (LeavesFile client view.inode)) (sym (entry_past (pre ++ e ∷ []) k (let l = length-append pre (e ∷ []) in omega (arith, l, past.1)))) tt
         ]
       ];
-      content = r.content ∙ sym (ap (λ t. or_empty (content_at t view.inode)) (trees_same run pre e view.entry low));
+      content = r.content ∙ sym (ap (λ (s : State). or_empty (content_at s.tree view.inode)) (states_same run pre e view.entry low));
+      origin = r.origin ∙ sym (ap (λ s. origins_in s view.inode) (states_same run pre e view.entry low));
     }
 
 abbrev pub AllShown : Setup → List Act → ℕ → List View → Type 0
@@ -228,7 +238,11 @@ pub record Shown (run : Setup) (pre : List Act) (s : State) : Type 0 where
   pub count : s.count ≡ length pre
   pub clients : (c : ℕ) → AllShown run pre c (s.clients c).views
 
-module _ (run : Setup) (pre : List Act) (s : State) (act : Act) (count : s.count ≡ length pre) (tree : (inode window : ℕ) → act.kind ≡ Look inode window → s.tree ≡ (reached run (pre ++ act ∷ [])).state.tree) where
+module _ (run : Setup) (pre : List Act) (s : State) (act : Act) (count : s.count ≡ length pre) (tree : (inode window : ℕ) → act.kind ≡ Look inode window → s.tree ≡ (reached run (pre ++ act ∷ [])).state.tree)
+    (origins : (inode window : ℕ) → act.kind ≡ Look inode window → s.marks ≡ (reached run (pre ++ act ∷ [])).state.marks) where
+  last_state : state_after run (pre ++ act ∷ []) (next_entry s) ≡ (reached run (pre ++ act ∷ [])).state
+  last_state = ap (λ n. state_after run (pre ++ act ∷ []) (n + 1)) count ∙ state_last run pre act
+
   own_shown : (views : List View) → ViewsAfter s act.client act.kind views → AllShown run pre act.client (s.clients act.client).views → AllShown run (pre ++ act ∷ []) act.client views
   own_shown views (Spared n e) all = subst (AllShown run (pre ++ act ∷ []) act.client) (sym e) (all_later run pre act act.client (s.clients act.client).views all (λ same. n))
   own_shown views (Dropped e) all = subst (AllShown run (pre ++ act ∷ []) act.client) (sym e) tt
@@ -237,7 +251,8 @@ module _ (run : Setup) (pre : List Act) (s : State) (act : Act) (count : s.count
     record {
       looked = subst (λ o. IsSomeAnd o (IsLook act.client inode window)) (sym (ap (λ n. entry_at (pre ++ act ∷ []) (n + 1)) count ∙ entry_last pre act)) (refl, k);
       unchanged = λ later h. subst (λ o. IfSome o (LeavesFile act.client inode)) (sym (entry_past (pre ++ act ∷ []) later (let l = length-append pre (act ∷ []) in omega (arith, l, h, count)))) tt;
-      content = ap (λ t. or_empty (content_at t inode)) (tree inode window k ∙ sym (tree_last run pre act) ∙ ap (λ n. tree_after run (pre ++ act ∷ []) (n + 1)) (sym count));
+      content = ap (λ t. or_empty (content_at t inode)) (tree inode window k ∙ sym (ap (λ (t : State). t.tree) last_state));
+      origin = ap (λ (marks : Marks). λ position. (marks inode position).origin) (origins inode window k ∙ sym (ap (λ (t : State). t.marks) last_state));
     },
     all_later run pre act act.client (s.clients act.client).views all (λ same file. ap (changes_file file) k),
   )
@@ -249,16 +264,24 @@ look_other s act inode window (Some d) = refl
 look_tree : (s : State) (act : Act) (inode window : ℕ) (kind : ActKind) → kind ≡ Look inode window → (effect s (of_kind act kind)).tree ≡ s.tree
 look_tree s act inode window kind e = subst (λ k. (effect s (of_kind act k)).tree ≡ s.tree) (sym e) (look_other s act inode window (s.clients act.client).doing)
 
+marks_other : (s : State) (act : Act) (inode window : ℕ) (o : Option Doing) → (of_doing s (of_kind act (Look inode window)) o).marks ≡ s.marks
+marks_other s act inode window None = refl
+marks_other s act inode window (Some d) = refl
+
+pub look_marks : (s : State) (act : Act) (inode window : ℕ) (kind : ActKind) → kind ≡ Look inode window → (effect s (of_kind act kind)).marks ≡ s.marks
+look_marks s act inode window kind e = subst (λ k. (effect s (of_kind act k)).marks ≡ s.marks) (sym e) (marks_other s act inode window (s.clients act.client).doing)
+
 shown_enters : (run : Setup) (pre : List Act) (act : Act) → Allowed (begun_to act.line (reached run pre)) act → Shown run pre (begun_to act.line (reached run pre)).state → Shown run (pre ++ act ∷ []) (effect (begun_to act.line (reached run pre)).state act)
 shown_enters run pre act may h =
     let p = begun_to act.line (reached run pre) in
     let views = views_entry p act may in
     let tree : (inode window : ℕ) → act.kind ≡ Look inode window → p.state.tree ≡ (reached run (pre ++ act ∷ [])).state.tree = λ inode window k. sym (ap (λ (s : State). s.tree) (state-more run pre act) ∙ look_tree p.state act inode window act.kind k) in
+    let origins : (inode window : ℕ) → act.kind ≡ Look inode window → p.state.marks ≡ (reached run (pre ++ act ∷ [])).state.marks = λ inode window k. sym (ap (λ (s : State). s.marks) (state-more run pre act) ∙ look_marks p.state act inode window act.kind k) in
     record {
       count = ap (λ n. n + 1) h.count ∙ sym (length-append pre (act ∷ []));
       clients = λ c. elim (eqb_tells c act.client) [
         | inl own ↦ subst (λ q. AllShown run (pre ++ act ∷ []) q ((effect p.state act).clients q).views) (sym own.1)
-            (own_shown run pre p.state act h.count tree ((effect p.state act).clients act.client).views views (h.clients act.client))
+            (own_shown run pre p.state act h.count tree origins ((effect p.state act).clients act.client).views views (h.clients act.client))
         | inr other ↦ subst (λ (d : ModelClient). AllShown run (pre ++ act ∷ []) c d.views) (sym (others_kept p.state act c other.1))
             (all_later run pre act c (p.state.clients c).views (h.clients c) (λ same. absurd (other.1 (sym same))))
       ];
@@ -289,12 +312,12 @@ pub first_found : (test : View → Bool) (views : List View) (v : View) (P : Vie
 first_found test [] v P all e = absurd (cc)
 first_found test (x ∷ xs) v P all e = first_branch test x v (find test xs) (test x) refl P all.0 (first_found test xs v P all.1) e
 
-record IsOf (v : View) (file : OpenFile) (window : ℕ) : Type 0 where
-  inode : v.inode ≡ file.inode
-  at_window : v.window ≡ window
-  opened : file.opened < v.entry
+pub record IsOf (v : View) (file : OpenFile) (window : ℕ) : Type 0 where
+  pub inode : v.inode ≡ file.inode
+  pub at_window : v.window ≡ window
+  pub opened : file.opened < v.entry
 
-fresh_is_of : (handle : ℕ) (file : OpenFile) (window : ℕ) (v : View) → IsTrue (is_fresh handle file window v) → IsOf v file window
+pub fresh_is_of : (handle : ℕ) (file : OpenFile) (window : ℕ) (v : View) → IsTrue (is_fresh handle file window v) → IsOf v file window
 fresh_is_of handle file window v h = record { inode = grind (arith, nat_tests); at_window = grind (arith, nat_tests); opened = grind (arith, nat_tests) }
 
 abbrev seen_in : Setup → List Act → ℕ → ℕ → Content

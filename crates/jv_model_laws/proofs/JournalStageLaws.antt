@@ -330,7 +330,7 @@ read_no_clean : (limits : Limits) (b : Bool) (offset len : ℕ) → IsTrue (is_c
 read_no_clean limits true offset len h = cc
 read_no_clean limits false offset len h = cc
 
-clean_op : (limits : Limits) (o : Op) → IsTrue (is_cleaning (by_limits limits (profile o).does)) → o ≡ op.Clean
+pub clean_op : (limits : Limits) (o : Op) → IsTrue (is_cleaning (by_limits limits (profile o).does)) → o ≡ op.Clean
 clean_op limits op.Clean h = refl
 clean_op limits (op.Read handle offset len) h = absurd (read_no_clean limits _ offset len h)
 clean_op limits _ h = absurd (cc)

@@ -18,3 +18,4 @@ pub mod JournalStateLaws
 pub mod JournalUploadLaws
 pub mod NotedLineLaws
 pub mod LineStepLaws
+pub mod misses

@@ -1,11 +1,11 @@
 -- What holds of every journal that is legal so far, in terms of its entries' numbers and lines.
-use Rattle.std.specs.Prelude.{◌≡◌, ℕ, suc, ◌+◌, ◌-◌, ◌≤◌, ◌<◌, Bool, true, false, ◌&&◌, not, ◌==◌, nat_lt, nat_le, if◌then◌else◌, IsTrue, IsSomeAnd, IfSome, ◌↔◌, ◌⊎◌, List, [], ◌∷◌, ◌++◌, length, take, Option, None, Some}
+use Rattle.std.specs.Prelude.{◌≡◌, ℕ, suc, ◌+◌, ◌-◌, ◌≤◌, ◌<◌, Bool, true, false, ◌&&◌, not, ◌==◌, nat_lt, nat_le, if◌then◌else◌, IsTrue, IsSomeAnd, IfSome, ◌↔◌, ◌⊎◌, List, [], ◌∷◌, ◌++◌, length, take, is_some, Option, None, Some, find}
 use Rattle.std.specs.List.{AllByRecursion}
 use Rattle.jv_model.specs.declared.tables.TheConstants.{TABLE_OF_DROPPED}
 use Rattle.jv_model.specs.declared.limits.TheConstants.{LAST_MOMENT, MAX_ITEMS}
 use Rattle.jv_model.specs.declared.act.Act.{Act}
 use Rattle.jv_model.specs.declared.act.ActKind.{ActKind}
-use Rattle.jv_model.specs.declared.act.ActKind.TheVariants.{Mounted, Meta, Opened, Commit, Settled, Expired, Purged, Cleaned, Quiet, Crashed, Ticked, Answered}
+use Rattle.jv_model.specs.declared.act.ActKind.TheVariants.{Mounted, Meta, Opened, Look, Commit, Truncated, Compacted, Settled, Expired, Purged, Cleaned, Quiet, Miss, Crashed, Ticked, Answered}
 use Rattle.jv_model.specs.promise.tree.Tree.{Tree, content_at, node_at}
 use Rattle.jv_model.specs.promise.FiniteMap.{get}
 use Rattle.jv_model.specs.promise.tree.Trash.{due_purge}
@@ -17,11 +17,12 @@ use Rattle.jv_model.specs.declared.fault.Gone.TheVariants.{Session, Node}
 use Rattle.jv_model.specs.declared.op.Op.{Op}
 use Rattle.jv_model.specs.declared.op.Op.TheVariants as op
 use Rattle.jv_model.specs.promise.client.Pending.{pending_of}
+use Rattle.jv_model.specs.promise.client.Origins.{Origin, Start, Committed}
 use Rattle.jv_model.specs.promise.client.ModelClient.{ModelClient, OpenFile, View, Doing, Stage, Cleaning, Cleans, file_of, inode_at, session_of}
 use Rattle.jv_model.specs.promise.journal.State.{State, effect, or_empty, transacted}
 use Rattle.jv_model.specs.promise.journal.Steps.{told_of, items, is_owed_by}
 use Rattle.jv_model.specs.declared.op.Reply.{Reply}
-use Rattle.jv_model.specs.promise.journal.Reading.{Asked, asked_parts, bytes_between, fresh_view, is_full}
+use Rattle.jv_model.specs.promise.journal.Reading.{Asked, window_start, asked_parts, bytes_between, fresh_view, is_full}
 use Rattle.jv_model.specs.declared.op.Reply.TheVariants.{Data}
 use Rattle.jv_model.specs.promise.journal.Past.{Setup, Past, Refusal, at_start, begun_to, reached, line_reply, reply_of, DrainEntries, asks_clock}
 use Rattle.jv_model.specs.promise.journal.Legal.{AllAllowed, Legal, may_be_cut, clock_moment, tick_of}
@@ -31,6 +32,7 @@ use Rattle.jv_model.specs.declared.op.Line.{Line}
 use Rattle.jv_model.specs.declared.op.Line.TheVariants.{Empty, Do, Begin, Step, Run, Crash, Drain, Tick}
 use Rattle.jv_model.specs.journal.Looks.{entry_at, IsFreshLook}
 use Rattle.jv_model.specs.journal.Stepping.{is_answer}
+use Rattle.jv_model.specs.promise.Lists.{is_among}
 use Rattle.jv_model.specs.Lists.{numbered}
 
 -- growth
@@ -516,3 +518,113 @@ CleansWhatIsDue = (run : Setup) (journal : List Act) (act : Act)
     → d.op ≡ op.Clean
     → (sessions trash files slices : ℕ) → act.kind ≡ Answered (Fine sessions trash files slices)
     → MayEndCleaning run journal act.client d.stage
+
+-- misses
+
+-- the part of a range that lies in a window
+abbrev pub part_at : ℕ → List Asked → Option Asked
+part_at window parts = find (λ (asked : Asked). asked.window == window) parts
+
+-- A read asks for a file's positions in a window from one up to another, and has a fresh look there.
+pub record IsReadBy (journal : List Act) (client : ℕ) (c : ModelClient) (o : Op)
+    (inode window look from to : ℕ) : Type 0 where
+  pub handle : ℕ
+  pub offset : ℕ
+  pub len : ℕ
+  pub reads : o ≡ op.Read handle offset len
+  pub part : part_at window (asked_parts offset len) ≡ Some
+      (record { window = window; from = from; to = to })
+  pub file : OpenFile
+  pub opened : file_of c.handles handle ≡ Some file
+  pub own : inode ≡ file.inode
+  pub fresh : IsFreshLook journal client file window look
+
+-- A compaction, which asks for a whole window of a file, has looked at it.
+pub record IsCompactedBy (journal : List Act) (client : ℕ) (o : Op)
+    (inode window look from to : ℕ) : Type 0 where
+  pub path : List ℕ
+  pub compacts : o ≡ op.Compact path window
+  pub begins : from ≡ window_start window
+  pub ends : to ≡ window_start (window + 1)
+  pub looked : IsSomeAnd (entry_at journal look)
+      (λ act. (act.client ≡ client) × (act.kind ≡ Look inode window))
+  pub goes_on : (later : ℕ) → look < later → IfSome (entry_at journal later) (λ act.
+      act.client ≡ client → ends_operation act.kind ≡ false)
+
+-- an operation asks for positions of a window, by its look there
+pub data AsksFor (journal : List Act) (client : ℕ) (c : ModelClient) (o : Op)
+    (inode window look from to : ℕ) : Type 0 where
+  ByRead : IsReadBy journal client c o inode window look from to
+      → AsksFor journal client c o inode window look from to
+  ByCompaction : IsCompactedBy journal client o inode window look from to
+      → AsksFor journal client c o inode window look from to
+
+-- A byte comes from a commit that another client owes, or it was there when the run began, and then
+-- another client's shelf had its block and the depot hadn't.
+pub data IsOwedByAnother (run : Setup) (journal : List Act) (client : ℕ)
+    (origin : Origin) : Type 0 where
+  OfCommit : (other commit : ℕ) → (other ≡ client → ⊥) → origin ≡ Committed commit
+      → IsOwed journal other commit → IsOwedByAnother run journal client origin
+  OfStart : (other inode position : ℕ) → (other ≡ client → ⊥) → origin ≡ Start inode position
+      → IsTrue (is_among other (run.start.shelved inode position))
+      → IsOwedByAnother run journal client origin
+
+-- whether an entry replaces slices of a file: it cuts or lengthens it, or compacts it
+abbrev pub replaces_slices : ℕ → ActKind → Bool
+replaces_slices inode (Truncated file len) = file == inode
+replaces_slices inode (Compacted file window from to) = file == inode
+replaces_slices inode _ = false
+
+-- The entry behind the first `before` ones lets slices of a file go: it replaces some, or the file
+-- is gone after it.
+pub data LetsGo (run : Setup) (journal : List Act) (before inode : ℕ) : Type 0 where
+  ReplacesSlices : IsSomeAnd (entry_at journal (suc before))
+      (λ act. IsTrue (replaces_slices inode act.kind)) → LetsGo run journal before inode
+  EndsFile : IsTrue (is_some (node_at (reached run (take before journal)).state.tree inode))
+      → node_at (reached run (take (suc before) journal)).state.tree inode ≡ None
+      → LetsGo run journal before inode
+
+-- the entry behind the first `before` ones is a request of a cleaning that changed nothing of the
+-- tree, as those by which blocks are removed
+pub record IsCleaningRequest (run : Setup) (journal : List Act) (before : ℕ) : Type 0 where
+  pub act : Act
+  pub there : entry_at journal (suc before) ≡ Some act
+  pub quiet : act.kind ≡ Quiet
+  pub doing : Doing
+  pub in_progress : ((begun_to act.line
+      (reached run (take before journal))).state.clients act.client).doing ≡ Some doing
+  pub cleans : doing.op ≡ op.Clean
+
+-- Why a block that an operation's look showed may be missing: another client owes a byte that is
+-- asked for, as it was just after the look; or since the look slices of the file were let go, and a
+-- cleaning went on after that.
+pub data MayMissBlock (run : Setup) (journal : List Act) (client : ℕ)
+    (inode look from to : ℕ) : Type 0 where
+  OwedByAnother : (position : ℕ) → from ≤ position → position < to
+      → IsOwedByAnother run journal client ((reached run
+      (take look journal)).state.marks inode position).origin
+      → MayMissBlock run journal client inode look from to
+  CleanedAway : (let_go cleaned : ℕ) → look ≤ let_go → let_go < cleaned
+      → LetsGo run journal let_go inode → IsCleaningRequest run journal cleaned
+      → MayMissBlock run journal client inode look from to
+
+-- A miss is of an operation in progress, of what it asks for by a look, and has its cause in the
+-- entries before it.
+pub record HasCause (run : Setup) (journal : List Act) (act : Act)
+    (inode window : ℕ) : Type 0 where
+  pub doing : Doing
+  pub in_progress : ((begun_to act.line
+      (reached run journal)).state.clients act.client).doing ≡ Some doing
+  pub look : ℕ
+  pub from : ℕ
+  pub to : ℕ
+  pub asked : AsksFor journal act.client ((begun_to act.line
+      (reached run journal)).state.clients act.client) doing.op inode window look from to
+  pub cause : MayMissBlock run journal act.client inode look from to
+
+-- a block is missed only where another client owes a byte that is asked for, or it may have been
+-- cleaned away since the look that showed it
+abbrev pub MissesHaveCauses : Type 0
+MissesHaveCauses = (run : Setup) (journal : List Act) (act : Act)
+    → AllAllowed (at_start run) (journal ++ act ∷ []) → (act.client ≡ NO_CLIENT → ⊥)
+    → (inode window : ℕ) → act.kind ≡ Miss inode window → HasCause run journal act inode window

@@ -1,5 +1,5 @@
 //! What holds of every journal that is legal so far. Each law is a function that does nothing.
-ghost use Rattle.jv_model_laws.specs.Laws.{ReadsCiteLooks, CleansOnlyInClean, RefusedLinesHaveOneEntry, DropsOnlyGone, ExpiresOnlyGone, DrainsSettleAll, EndedLinesHaveEntries, LinesHaveEntries, ReadsAreOfFreshLooks, AnswersModel, ClosesCommitWrites, NothingPending, FreshViewsAreFreshLooks, SettlesOwed, OwedCommits, JournalsGrow, EarlierTextStays, FollowsClock, MomentsAreTheClocks, UploadsFindAll, OthersStay, EntriesAreCounted, CleansWhatIsDue};
+ghost use Rattle.jv_model_laws.specs.Laws.{ReadsCiteLooks, CleansOnlyInClean, RefusedLinesHaveOneEntry, DropsOnlyGone, ExpiresOnlyGone, DrainsSettleAll, EndedLinesHaveEntries, LinesHaveEntries, ReadsAreOfFreshLooks, AnswersModel, ClosesCommitWrites, NothingPending, FreshViewsAreFreshLooks, SettlesOwed, OwedCommits, JournalsGrow, EarlierTextStays, FollowsClock, MomentsAreTheClocks, UploadsFindAll, OthersStay, EntriesAreCounted, CleansWhatIsDue, MissesHaveCauses};
 
 /// A journal is legal so far if and only if each part of it is, from where the entries before it lead.
 pub fn journals_grow()
@@ -122,4 +122,10 @@ pub fn cleans_only_in_clean()
 /// A read that is done is answered with the looks that it cites.
 pub fn reads_cite_looks()
     ensures { ReadsCiteLooks }
+{}
+
+/// A block is missed by an operation in progress only where another client owes a byte that the operation asks for by a
+/// look, or where since that look slices of the file were let go and a cleaning went on after that.
+pub fn misses_have_causes()
+    ensures { MissesHaveCauses }
 {}
